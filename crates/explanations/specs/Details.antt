@@ -10,6 +10,8 @@ use Rattle.frame_session.specs.Sessions.{Now, current_list, frame_count, packet_
 use Rattle.frame_session.specs.Told.{packet_len, packets_in, stated_size}
 use Rattle.request_lines.specs.declared.edit.Edit.{Edit}
 use Rattle.request_lines.specs.declared.edit.Edit.TheVariants as edits
+use Rattle.request_lines.specs.declared.question.Question.{Question}
+use Rattle.request_lines.specs.declared.question.Question.TheVariants as questions
 use Rattle.request_lines.specs.declared.lines.Line.{Line}
 use Rattle.request_lines.specs.declared.lines.Line.TheVariants as lines
 use Rattle.explanations.specs.declared.details.Detail.{Detail}
@@ -36,10 +38,17 @@ edit_detail now (edits.Move from to) = no_packet_of now (if nat_lt from (packet_
 edit_detail now (edits.Copy source from at) = copy_detail now source from at
 edit_detail now (edits.Blank at width height) = past_end_of now at
 edit_detail now (edits.Hold at) = past_end_of now at
+edit_detail now (edits.ShowBit at shown) = no_packet_of now at
+
+-- which packet of a question does not exist
+abbrev pub question_detail : Now → Question → Detail
+question_detail now (questions.Packet at) = no_packet_of now at
+question_detail now questions.Script = Nothing
 
 -- which index of a request has no packet
 abbrev pub place_detail : Now → Line → Detail
 place_detail now (lines.Edit edit) = edit_detail now edit
+place_detail now (lines.Ask question) = question_detail now question
 place_detail now line = Nothing
 
 -- the frame of a request that does not exist, and how many there are
@@ -61,6 +70,11 @@ sizes_detail now line = Nothing
 abbrev pub bytes_detail : Option ℕ → Detail
 bytes_detail None = Nothing
 bytes_detail (Some count) = Bytes count
+
+-- the number of bytes of a packet that has no show bit
+abbrev pub bit_detail : Now → Line → Detail
+bit_detail now (lines.Edit (edits.ShowBit at shown)) = bytes_detail (packet_len now now.current at)
+bit_detail now line = Nothing
 
 -- whether a frame can have this width or height
 abbrev pub is_side : ℕ → Bool
@@ -85,6 +99,7 @@ IsSizeDetail now line detail = detail ≡ Nothing
 -- the numbers that explain the refusal of a request
 abbrev pub IsDetail : Now → Line → Refusal → Detail → Type 0
 IsDetail now line refusals.Place detail = detail ≡ place_detail now line
+IsDetail now line refusals.NoBit detail = detail ≡ bit_detail now line
 IsDetail now line refusals.Size detail = IsSizeDetail now line detail
 IsDetail now line refusals.NoSuchFrame detail = detail ≡ frame_detail now line
 IsDetail now line refusals.SizeDiffers detail = detail ≡ sizes_detail now line

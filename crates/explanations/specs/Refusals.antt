@@ -1,5 +1,5 @@
 -- The line that explains why a request was refused.
-use Rattle.std.specs.Prelude.{ℕ, nat_lt, if◌then◌else◌, List, [], ◌∷◌, ◌++◌, Option, Some, None, codes, unwrap_or}
+use Rattle.std.specs.Prelude.{ℕ, ◌==◌, nat_lt, if◌then◌else◌, List, [], ◌∷◌, ◌++◌, Option, Some, None, codes, unwrap_or}
 use Rattle.std.specs.Fmt.{decimal}
 use Rattle.std.specs.Option.{option_or}
 use Rattle.frame_header.specs.declared.cause.Cause.{Cause}
@@ -51,7 +51,14 @@ detail_or text (NoSize key at) = codes "packet " ++ decimal key ++ codes ", the 
 detail_or text (NoFrame n count) = codes "frame " ++ decimal n ++ codes " does not exist: the script serves " ++ decimal count ++ codes " frames"
 detail_or text (Sizes asked first) = sides_text asked.0 asked.1 ++ codes " is not " ++ sides_text first.width first.height ++ codes ", the size of the first frame served"
 
--- the number of bytes of the packet that is broken, if it is known
+-- why a packet of this many bytes has no show bit, if their number is known: the bit is in the tag, which has 3 bytes (RFC 6386, section 9.1)
+abbrev pub bitless_text : Option ℕ → List ℕ
+bitless_text None = codes "the packet has no show bit"
+bitless_text (Some count) =
+    if count == 0 then codes "the packet has no bytes: delete it instead, which changes no other frame"
+    else codes "the packet has " ++ decimal count ++ codes " bytes, a show bit needs 3"
+
+-- the number of bytes of the packet that is broken or has no show bit, if it is known
 abbrev pub bytes_of_detail : Detail → Option ℕ
 bytes_of_detail (Bytes count) = Some count
 bytes_of_detail detail = None
@@ -63,6 +70,7 @@ refusal_reason detail refusals.Source = codes "there is no such source"
 refusal_reason detail refusals.Place = detail_or (codes "there is no such packet") detail
 refusal_reason detail refusals.Full = codes "there are 1048576 packets already"
 refusal_reason detail refusals.Spent = codes "no packet id is left"
+refusal_reason detail refusals.NoBit = bitless_text (bytes_of_detail detail)
 refusal_reason detail refusals.Size = detail_or (codes "there is no such size") detail
 refusal_reason detail refusals.TooLarge = codes "the first partition would have over 524287 bytes"
 refusal_reason detail refusals.NoSuchFrame = detail_or (codes "there is no such frame") detail

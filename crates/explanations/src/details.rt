@@ -2,16 +2,16 @@
 ghost use Rattle.std.specs.Prelude.{◌≡◌, ◌≤◌};
 ghost use Rattle.frame_session.specs.Sessions.{packet_count};
 ghost use Rattle.request_lines.specs.Requests.{asked_by};
-ghost use Rattle.explanations.specs.Details.{IsDetail, IsSizeDetail, IsUnsized, bytes_detail, copy_detail, edit_detail, frame_detail, is_side, no_packet_of, past_end_of, place_detail, side_detail, sizes_detail, sizes_of};
+ghost use Rattle.explanations.specs.Details.{IsDetail, IsSizeDetail, IsUnsized, bit_detail, bytes_detail, copy_detail, edit_detail, frame_detail, is_side, no_packet_of, past_end_of, place_detail, question_detail, side_detail, sizes_detail, sizes_of};
 
 use frame_session::{Refusal, Session, Size};
-use request_lines::{Edit, Hex, Line, read_line};
+use request_lines::{Edit, Hex, Line, Question, read_line};
 
 /// The numbers that explain a refusal, if it has such numbers.
 #[derive(Clone, Copy, Debug, PartialEq, Eq)]
 pub enum Detail {
     Nothing,
-    /// The number of bytes of the packet that is broken.
+    /// The number of bytes of the packet that is broken, or that has no show bit.
     Bytes(usize),
     /// There is no packet `at` in a source of `count` packets.
     NoPacket { at: u64, source: u64, count: u64 },
@@ -77,7 +77,9 @@ fn edit_detail(session: &Session, edit: &Edit<Hex<'_>>) -> Detail
         Edit::Insert { at, .. } | Edit::Blank { at, .. } | Edit::Hold { at } => {
             past_end_of(session, *at)
         }
-        Edit::Replace { at, .. } | Edit::Delete { at } => no_packet_of(session, *at),
+        Edit::Replace { at, .. } | Edit::Delete { at } | Edit::ShowBit { at, .. } => {
+            no_packet_of(session, *at)
+        }
         Edit::Move { from, to } => {
             let missing = if *from < session.count().0 {
                 *to
@@ -90,12 +92,23 @@ fn edit_detail(session: &Session, edit: &Edit<Hex<'_>>) -> Detail
     }
 }
 
+/// Which packet of a question does not exist.
+fn question_detail(session: &Session, question: Question) -> Detail
+    ensures { result ≡ question_detail session.now.now question }
+{
+    match question {
+        Question::Packet { at } => no_packet_of(session, at),
+        Question::Script => Detail::Nothing,
+    }
+}
+
 /// Which index of a request has no packet.
 fn place_detail(session: &Session, line: &Line<'_>) -> Detail
     ensures { result ≡ place_detail session.now.now line.now }
 {
     match line {
         Line::Edit(edit) => edit_detail(session, edit),
+        Line::Ask(question) => question_detail(session, *question),
         _ => Detail::Nothing,
     }
 }
@@ -171,6 +184,18 @@ fn size_detail(session: &Session, line: &Line<'_>) -> Detail
     }
 }
 
+/// The number of bytes of a packet that has no show bit.
+fn bit_detail(session: &Session, line: &Line<'_>) -> Detail
+    ensures { result ≡ bit_detail session.now.now line.now }
+{
+    match line {
+        Line::Edit(Edit::ShowBit { at, .. }) => {
+            bytes_detail(session.packet_len(session.current(), *at as usize))
+        }
+        _ => Detail::Nothing,
+    }
+}
+
 /// The number of bytes of a packet that is broken.
 fn bytes_detail(count: Option<usize>) -> Detail
     ensures { result ≡ bytes_detail count }
@@ -188,6 +213,7 @@ pub fn detail_of(session: &Session, line: &[u8], refusal: Refusal) -> Detail
     let request = read_line(line).unwrap_or(Line::Unknown);
     match refusal {
         Refusal::Place => place_detail(session, &request),
+        Refusal::NoBit => bit_detail(session, &request),
         Refusal::Size => size_detail(session, &request),
         Refusal::NoSuchFrame => frame_detail(session, &request),
         Refusal::SizeDiffers => sizes_detail(session, &request),

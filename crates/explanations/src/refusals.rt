@@ -5,7 +5,7 @@ ghost use Rattle.std.specs.Io.KnownBytes.{Appends};
 ghost use Rattle.frame_session.specs.Replies.{source_text};
 ghost use Rattle.text_words.specs.Words.{words_of};
 ghost use Rattle.explanations.specs.Lines.{reason_of};
-ghost use Rattle.explanations.specs.Refusals.{cause_reason, command_text, bytes_of_detail, detail_or, explained, packets_text, refusal_reason, script_reason, short_text, sides_text, why_text};
+ghost use Rattle.explanations.specs.Refusals.{bitless_text, cause_reason, command_text, bytes_of_detail, detail_or, explained, packets_text, refusal_reason, script_reason, short_text, sides_text, why_text};
 
 use crate::details::Detail;
 use crate::lines::{hidden_reason, line_reason, write_reason};
@@ -110,7 +110,23 @@ fn write_detail_or<W: Write>(w: &mut W, text: &str, detail: Detail) -> io::Resul
     }
 }
 
-/// The number of bytes of the packet that is broken, if it is known.
+/// Writes why a packet of this many bytes has no show bit.
+fn write_bitless<W: Write>(w: &mut W, count: Option<usize>) -> io::Result<()>
+    ensures { OnOk result (Appends (W.contents w.old) (W.contents w.new) (bitless_text count)) }
+{
+    match count {
+        None => write_text(w, "the packet has no show bit"),
+        Some(0) => {
+            write_text(
+                w,
+                "the packet has no bytes: delete it instead, which changes no other frame",
+            )
+        }
+        Some(count) => write!(w, "the packet has {count} bytes, a show bit needs 3"),
+    }
+}
+
+/// The number of bytes of the packet that is broken or has no show bit, if it is known.
 fn bytes_of(detail: Detail) -> Option<usize>
     ensures { result ≡ bytes_of_detail detail }
 {
@@ -139,6 +155,7 @@ fn write_meaning<W: Write>(w: &mut W, detail: Detail, refusal: Refusal) -> io::R
         Refusal::Place => write_detail_or(w, "there is no such packet", detail),
         Refusal::Full => write_text(w, "there are 1048576 packets already"),
         Refusal::Spent => write_text(w, "no packet id is left"),
+        Refusal::NoBit => write_bitless(w, bytes_of(detail)),
         Refusal::Size => write_detail_or(w, "there is no such size", detail),
         Refusal::TooLarge => write_text(w, "the first partition would have over 524287 bytes"),
         Refusal::NoSuchFrame => write_detail_or(w, "there is no such frame", detail),

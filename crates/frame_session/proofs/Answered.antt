@@ -1,5 +1,6 @@
 -- Each request list has a meaning in which nothing is out of memory.
-use Rattle.std.proofs.Common.{◌≡◌, ◌≢◌, All, ℕ, zero, suc, List, [], ◌∷◌, Bool, true, false, cond, Option, Some, None, Result, Ok, Err, get_or, length, option_map, refl, ap, arith}
+use Rattle.std.proofs.Common.{◌≡◌, ◌≢◌, All, ℕ, zero, suc, List, [], ◌∷◌, Bool, true, false, cond, Option, Some, None, Result, Ok, Err, get_or, length, option_map, slice_get, refl, ap, arith}
+use Rattle.std.specs.Option.{option_map_or}
 use Rattle.std.proofs.lemmas.List.Elements.{All-head, All-tail}
 use Rattle.script_nodes.specs.declared.faults.ScriptFault.TheVariants as scripts
 use Rattle.script_nodes.specs.declared.nodes.Node.{Node}
@@ -9,6 +10,8 @@ use Rattle.script_nodes.specs.Nodes.{nodes_of, script_from}
 use Rattle.script_nodes.specs.Shown.{Shown, shown_in, steps_shown}
 use Rattle.request_lines.specs.declared.lines.Line.{Line}
 use Rattle.request_lines.specs.declared.lines.Line.TheVariants as requests
+use Rattle.request_lines.specs.declared.question.Question.{Question}
+use Rattle.request_lines.specs.declared.question.Question.TheVariants as questions
 use Rattle.request_lines.specs.declared.edit.Edit.{Edit}
 use Rattle.request_lines.specs.declared.edit.Edit.TheVariants as edits
 use Rattle.frame_session.specs.declared.refusal.Refusal.{Refusal}
@@ -16,16 +19,19 @@ use Rattle.frame_session.specs.declared.refusal.Refusal.TheVariants as refusals
 use Rattle.frame_session.specs.declared.size.Size.{Size}
 use Rattle.state_cache.specs.Decoding.{Outcome}
 use Rattle.frame_session.specs.IsOrNoMemory.{IsOrNoMemory}
+use Rattle.packet_edits.specs.declared.entry.Entry.{Entry}
 use Rattle.packet_edits.specs.declared.fault.EditFault.TheVariants as faults
 use Rattle.packet_edits.specs.Edits.{Listing}
 use Rattle.packet_edits.specs.Sizes.{size_at}
 use Rattle.packet_forge.specs.declared.faults.ForgeFault.{ForgeFault}
 use Rattle.packet_forge.specs.declared.faults.ForgeFault.TheVariants as forging
 use Rattle.packet_forge.specs.Packets.{blank_of}
+use Rattle.show_bits.specs.ShowBits.{has_show_bit}
 use Rattle.vp8_tables.specs.declared.tables.Tables.{Tables}
 use Rattle.frame_session.proofs.Forging.{blank_lacks_none, held_lacks_none}
 use Rattle.frame_session.specs.Edits.{WrittenAnswers, edit_of, hold_bytes_at, refusal_by, refused_forged, count_unless}
-use Rattle.frame_session.specs.Replies.{refused_line, served_line, ok_line, edit_line, count_line, stats_line}
+use Rattle.frame_session.specs.Questions.{answer_to}
+use Rattle.frame_session.specs.Replies.{refused_line, served_line, ok_line, edit_line, count_line, packet_line, script_line, stats_line}
 use Rattle.frame_session.specs.Scripts.{script_reported}
 use Rattle.frame_session.specs.Sessions.{Now, after_frame, choice_answer, current_list, edit_answer, now_after_choice, now_after_edit, now_after_script, fits, fitted, frame_count, frame_from, frame_made, frame_of, outcome_of, packet_count, picture_from, script_answer, shown_counts, size_of, size_served}
 use Rattle.frame_session.specs.Answers.{Answer, Answers, Run, answer_to_frame, reply_only}
@@ -57,6 +63,7 @@ refusal_told refusals.Source some e = let other : 83 ≡ 78 = ap (λ (l : List �
 refusal_told refusals.Place some e = let other : 80 ≡ 78 = ap (λ (l : List ℕ). get_or l 8 0) e in absurd (omega (arith, other))
 refusal_told refusals.Full some e = let other : 70 ≡ 78 = ap (λ (l : List ℕ). get_or l 8 0) e in absurd (omega (arith, other))
 refusal_told refusals.Spent some e = let other : 83 ≡ 78 = ap (λ (l : List ℕ). get_or l 8 0) e in absurd (omega (arith, other))
+refusal_told refusals.NoBit some e = let other : 66 ≡ 77 = ap (λ (l : List ℕ). get_or l 10 0) e in absurd (omega (arith, other))
 refusal_told refusals.Size some e = let other : 83 ≡ 78 = ap (λ (l : List ℕ). get_or l 8 0) e in absurd (omega (arith, other))
 refusal_told refusals.TooLarge some e = let other : 84 ≡ 78 = ap (λ (l : List ℕ). get_or l 8 0) e in absurd (omega (arith, other))
 refusal_told refusals.NoSuchFrame some e = let other : 83 ≡ 77 = ap (λ (l : List ℕ). get_or l 10 0) e in absurd (omega (arith, other))
@@ -114,6 +121,17 @@ full_told = record { returned = refl; enough = refusal_told refusals.Full (λ h.
 spent_told : IsTold (Err refusals.Spent)
 spent_told = record { returned = refl; enough = refusal_told refusals.Spent (λ h. cc) }
 
+no_bit_told : IsTold (Err refusals.NoBit)
+no_bit_told = record { returned = refl; enough = refusal_told refusals.NoBit (λ h. cc) }
+
+show_bit_told : (packet : Option Entry) (count : ℕ) → IsTold (count_unless (option_map refusal_by (option_map_or (λ entry. cond (has_show_bit entry.bytes) None (Some faults.NoBit)) packet (Some faults.Place))) count)
+show_bit_told None count = place_told
+show_bit_told (Some entry) count = by_bit (has_show_bit entry.bytes)
+  where
+    by_bit : (has : Bool) → IsTold (count_unless (option_map refusal_by (cond has None (Some faults.NoBit))) count)
+    by_bit true = ok_told count
+    by_bit false = no_bit_told
+
 id_told : (spent : Bool) (count : ℕ) → IsTold (count_unless (option_map refusal_by (cond spent (Some faults.Spent) None)) count)
 id_told true count = spent_told
 id_told false count = ok_told count
@@ -165,6 +183,7 @@ edit_told tables lists list (edits.Delete at) = place_or_told _ _
 edit_told tables lists list (edits.Move from to) = place_or_told _ _
 edit_told tables lists list (edits.Copy source from at) = copy_told _ _ _ _ _ _
 edit_told tables lists list (edits.Blank at width height) = forged_told _ _ _ (blank_of tables width height) _ (blank_lacks_none tables width height)
+edit_told tables lists list (edits.ShowBit at shown) = show_bit_told (slice_get list.entries at) _
 edit_told tables lists list (edits.Hold at) = forged_told _ _ _ (hold_bytes_at tables list at) _ (held_lacks_none tables (size_at at list))
 
 written_told : (tables : Tables) (lists : List Listing) (list : Listing) (edit : Edit (List ℕ)) → WrittenAnswers tables lists list edit (edit_of tables lists list edit)
@@ -174,6 +193,7 @@ written_told tables lists list (edits.Delete at) = refl
 written_told tables lists list (edits.Move from to) = refl
 written_told tables lists list (edits.Copy source from at) = (edit_told tables lists list (edits.Copy source from at)).returned
 written_told tables lists list (edits.Blank at width height) = (edit_told tables lists list (edits.Blank at width height)).returned
+written_told tables lists list (edits.ShowBit at shown) = (edit_told tables lists list (edits.ShowBit at shown)).returned
 written_told tables lists list (edits.Hold at) = (edit_told tables lists list (edits.Hold at)).returned
 
 -- and so a script
@@ -186,6 +206,15 @@ nodes_told count nodes false false false = ok_told count
 script_told : (count sources : ℕ) (nodes : Option (List Node)) → IsTold (script_reported count (script_from sources nodes))
 script_told count sources None = record { returned = refl; enough = refusal_told refusals.Syntax (λ h. cc) }
 script_told count sources (Some nodes) = nodes_told count nodes _ _ _
+
+-- and so a question
+packet_told : (packet : Option Entry) → option_map_or (λ entry. packet_line entry.stamp entry.bytes) packet (refused_line refusals.Place) ≡ refused_line refusals.NoMemory → ⊥
+packet_told None e = refusal_told refusals.Place (λ h. cc) e
+packet_told (Some entry) e = begins_otherwise (packet_line entry.stamp entry.bytes) refusals.NoMemory (λ h. omega (arith, h)) e
+
+question_told : (old : Now) (question : Question) → answer_to old question ≡ refused_line refusals.NoMemory → ⊥
+question_told old (questions.Packet at) e = packet_told (slice_get (current_list old).entries at) e
+question_told old questions.Script e = begins_otherwise (script_line old.script) refusals.NoMemory (λ h. omega (arith, h)) e
 
 -- an answer to one line, other than `refused NoMemory`, and the state after it
 pub record HasAnswer (old : Now) (line : Line) : Type 0 where
@@ -228,6 +257,7 @@ answered old requests.Count held =
 answered old requests.Stats held =
     let reply = stats_line old.decoded in
     record { answer = reply_only reply; new = old; means = (refl, refl); enough = begins_otherwise reply refusals.NoMemory (λ h. omega (arith, h)) }
+answered old (requests.Ask question) held = record { answer = reply_only (answer_to old question); new = old; means = (refl, refl); enough = question_told old question }
 answered old requests.Lost held = absurd (held refl)
 
 -- answers to lines, none of which is `refused NoMemory`

@@ -3,6 +3,8 @@ use Rattle.std.proofs.Common.{◌≡◌, ℕ, Bool, true, false, cond, List, [],
 use Rattle.script_nodes.specs.Shown.{Shown}
 use Rattle.request_lines.specs.declared.lines.Line.{Line}
 use Rattle.request_lines.specs.declared.lines.Line.TheVariants as requests
+use Rattle.request_lines.specs.declared.question.Question.{Question}
+use Rattle.request_lines.specs.declared.question.Question.TheVariants as questions
 use Rattle.request_lines.specs.declared.edit.Edit.{Edit}
 use Rattle.request_lines.specs.declared.edit.Edit.TheVariants as edits
 use Rattle.frame_session.specs.declared.refusal.Refusal.{Refusal}
@@ -10,6 +12,7 @@ use Rattle.frame_session.specs.declared.refusal.Refusal.TheVariants as refusals
 use Rattle.frame_session.specs.declared.size.Size.{Size}
 use Rattle.frame_session.specs.Edits.{WrittenAnswers}
 use Rattle.frame_session.specs.IsOrNoMemory.{IsOrNoMemory}
+use Rattle.frame_session.specs.Questions.{answer_to}
 use Rattle.frame_session.specs.Replies.{refused_line, edit_line}
 use Rattle.frame_session.specs.Sessions.{Now, after_frame, choice_answer, current_list, edit_answer, now_after_choice, now_after_edit, now_after_script, frame_of, script_answer, size_served}
 use Rattle.frame_session.specs.Answers.{Answer, Answers, AnswersEdit, Run, answer_to_frame, reply_only}
@@ -28,6 +31,7 @@ given want (Err refusals.Source) enough returned = returned
 given want (Err refusals.Place) enough returned = returned
 given want (Err refusals.Full) enough returned = returned
 given want (Err refusals.Spent) enough returned = returned
+given want (Err refusals.NoBit) enough returned = returned
 given want (Err refusals.Size) enough returned = returned
 given want (Err refusals.TooLarge) enough returned = returned
 given want (Err refusals.NoSuchFrame) enough returned = returned
@@ -92,6 +96,7 @@ written_given old (edits.Move from to) answer enough returned = sym returned
 written_given old (edits.Copy source from at) answer enough returned = given _ answer enough returned
 written_given old (edits.Blank at width height) answer enough returned = given _ answer enough returned
 written_given old (edits.Hold at) answer enough returned = given _ answer enough returned
+written_given old (edits.ShowBit at shown) answer enough returned = given _ answer enough returned
 
 one_edit : (old : Now) (steps : ℕ) (edit : Edit (List ℕ)) (edited edited' : Result ℕ Refusal) (answer answer' : Answer) (new new' : Now) → WrittenAnswers old.tables old.lists (current_list old) edit edited → WrittenAnswers old.tables old.lists (current_list old) edit edited' → AnswersEdit old edit edited answer new → AnswersEdit (counted old steps) edit edited' answer' new' → (answer.reply ≡ refused_line refusals.NoMemory → ⊥) → (answer'.reply ≡ refused_line refusals.NoMemory → ⊥) → (answer' ≡ answer) × (new' ≡ counted new new'.decoded)
 one_edit old steps edit edited edited' answer answer' new new' returned gives' first second enough enough' =
@@ -115,6 +120,11 @@ one_script old steps text set set' answer answer' new new' returned gives' first
       again ∙ ap (λ (s : Now). counted s steps) (sym first.1) ∙ ap (λ (d : ℕ). counted new d) (sym steps_are),
     )
 
+-- the answer to a question does not depend on the number of steps
+asked_counted : (old : Now) (steps : ℕ) (question : Question) → answer_to (counted old steps) question ≡ answer_to old question
+asked_counted old steps (questions.Packet at) = refl
+asked_counted old steps questions.Script = refl
+
 -- two answers to one line, the second after another number of steps
 one_answer : (old : Now) (steps : ℕ) (line : Line) (answer answer' : Answer) (new new' : Now) → Answers old line answer new → Answers (counted old steps) line answer' new' → (answer.reply ≡ refused_line refusals.NoMemory → ⊥) → (answer'.reply ≡ refused_line refusals.NoMemory → ⊥) → AreAlike line answer answer' × (new' ≡ counted new new'.decoded)
 one_answer old steps requests.Stats answer answer' new new' first second enough enough' =
@@ -135,6 +145,8 @@ one_answer old steps (requests.Edit edit) answer answer' new new' first second e
     one_edit old steps edit first.0 second.0 answer answer' new new' first.1 second.1 first.2 second.2 enough enough'
 one_answer old steps (requests.Script text) answer answer' new new' first second enough enough' =
     one_script old steps text first.0 second.0 answer answer' new new' first.1 second.1 first.2 second.2 enough enough'
+one_answer old steps (requests.Ask question) answer answer' new new' first second enough enough' =
+    same_answer old steps answer answer' (reply_only (answer_to old question)) new new' first (second.0 ∙ ap reply_only (asked_counted old steps question), second.1)
 one_answer old steps line answer answer' new new' first second enough enough' = same_answer old steps answer answer' _ new new' first second
 
 one_run : (old : Now) (steps : ℕ) (lines : List Line) (answers answers' : List Answer) (new new' : Now) → Run old lines answers new → Run (counted old steps) lines answers' new' → HaveMemory answers → HaveMemory answers' → AllAlike lines answers answers' × (new' ≡ counted new new'.decoded)

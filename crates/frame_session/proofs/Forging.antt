@@ -50,6 +50,7 @@ told_first : (fault : EditFault) (forged : Result (List ℕ) ForgeFault) (count 
 told_first faults.Place forged count some = refl
 told_first faults.Full forged count some = refl
 told_first faults.Spent forged count some = refl
+told_first faults.NoBit forged count some = refl
 told_first faults.NoMemory forged count some = absurd (some refl)
 
 -- an error of the insertion is reported first

@@ -9,6 +9,7 @@ use Rattle.frame_session.specs.declared.refusal.Refusal.TheVariants as refusals
 use Rattle.frame_session.specs.Replies.{refused_line, edit_line, ok_line, served_line}
 use Rattle.frame_session.specs.Sessions.{IsAfterFrame, Now, now_after_edit, now_after_script, size_served}
 use Rattle.frame_session.specs.Answers.{Answer, Answers, Run, answer_to_frame}
+use Rattle.frame_session.specs.Laws.{QuestionsChangeNothing}
 use Rattle.frame_session.proofs.Answered.{begins_otherwise}
 
 -- the state after a script has the same number of steps
@@ -76,3 +77,10 @@ refused_kept old new (requests.Use source) answer refusal means e = choice_kept 
 refused_kept old new (requests.Edit edit) answer refusal means e = edit_cached old new edit means.0 refusal means.2.1 (reply_of answer _ _ means.2.0 e)
 refused_kept old new (requests.Script text) answer refusal means e = script_kept old new text means.0 refusal means.2.1 (reply_of answer _ _ means.2.0 e)
 refused_kept old new line answer refusal means e = same old new means.1
+
+-- a question leaves all of the state unchanged
+pub questions_kept : QuestionsChangeNothing
+questions_kept old new (requests.Ask question) answer is means = means.1
+questions_kept old new requests.Count answer is means = means.1
+questions_kept old new requests.Stats answer is means = means.1
+questions_kept old new line answer is means = cc

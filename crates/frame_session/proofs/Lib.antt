@@ -4,6 +4,7 @@ pub mod Served
 pub mod Forging
 pub mod Determined
 pub mod Answered
+pub mod Asked
 pub mod Kept
 pub mod Stores
 pub mod Sound

@@ -21,11 +21,11 @@ use Rattle.state_cache.specs.declared.outcomes.ReachFault.TheVariants.{Refused, 
 use Rattle.state_cache.specs.Costs.{Costs, IsIdOf}
 use Rattle.state_cache.specs.Decoding.{Outcome}
 use Rattle.state_cache.specs.declared.outcomes.PacketKey.{PacketKey}
-use Rattle.state_cache.specs.EditLaws.{DropsKeepCoherence, EditsKeepCoherence, EditsKeepIds, IsViewWithout, IsMarked, NextIdIsNotCached, AreOfPackets, after_insertion, after_move, id_at}
+use Rattle.state_cache.specs.EditLaws.{DropsKeepCoherence, EditsKeepCoherence, EditsKeepIds, IsViewWithout, IsMarked, NextIdIsNotCached, AreOfPackets, after_insertion, after_move, after_show_bit, id_at}
 use Rattle.state_cache.specs.Reaching.{CacheValue, OthersDrop, ReachAnswers, view_of}
 use Rattle.state_cache.specs.Views.{Before, CoherentFrom, Drops, IsCoherent, MarkedPacket, View, entering, cached_in, known, leaving as leaving_packet, marked_packets}
 use Rattle.request_lines.specs.declared.edit.Edit.{Edit}
-use Rattle.request_lines.specs.declared.edit.Edit.TheVariants.{Insert, Replace, Delete, Move, Copy, Blank, Hold}
+use Rattle.request_lines.specs.declared.edit.Edit.TheVariants.{Insert, Replace, Delete, Move, Copy, Blank, Hold, ShowBit}
 use Rattle.frame_session.specs.declared.refusal.Refusal.{Refusal}
 use Rattle.frame_session.specs.declared.refusal.Refusal.TheVariants as refusals
 use Rattle.frame_session.specs.IsOrNoMemory.{IsOrNoMemory, MayRunOutOfMemory}
@@ -53,6 +53,7 @@ edit_accepted tables lists list (Move from to) count answers = accepted _ _ coun
 edit_accepted tables lists list (Copy source from at) count answers = accepted _ _ count answers
 edit_accepted tables lists list (Blank at width height) count answers = accepted _ _ count answers
 edit_accepted tables lists list (Hold at) count answers = accepted _ _ count answers
+edit_accepted tables lists list (ShowBit at shown) count answers = accepted _ _ count answers
 
 -- a packet that may be copied exists
 packet_exists : (es : List Entry) (n : ℕ) → nat_lt n (length es) ≡ true → (e : Entry) × (slice_get es n ≡ Some e)
@@ -205,6 +206,10 @@ module _ (tables : Tables) where
         (same_view (after_insertion at packet.0.stamp packet.0.bytes store) old new without (inserted_sound at packet.0.stamp packet.0.bytes store old marked own s))
     edited_source lists (Blank at width height) store old new marked own allowed s without = same_view _ old new without (inserted_sound at (stamp_before at store.list) (result_unwrap_or (blank_of tables width height) []) store old marked own s)
     edited_source lists (Hold at) store old new marked own allowed s without = same_view _ old new without (inserted_sound at (stamp_before at store.list) (result_unwrap_or (hold_bytes_at tables store.list at) []) store old marked own s)
+    edited_source lists (ShowBit at shown) store old new marked own allowed s without = same_view (after_show_bit at shown store) old new without (record {
+      coherent = coherence.show_bits store old at shown s.coherent;
+      of_packets = ids.show_bits store.list old at shown s.of_packets;
+    })
 
     others_drop : (current : ℕ) (left : Option ℕ) (old new : CacheValue) → CacheWithout current left old new → OthersDrop current old new
     others_drop current None old new without = λ other id differs. drops_none (view_of other new id) (view_of other old id) (ap (λ (c : CacheValue). view_of other c id) without)

@@ -13,7 +13,7 @@ use Rattle.state_cache.specs.Reaching.{CacheValue, OthersDrop, OthersStay, view_
 use Rattle.state_cache.specs.Views.{IsCoherent, marked_packets}
 use Rattle.state_cache.specs.Walks.{IsWalk}
 use Rattle.request_lines.specs.declared.edit.Edit.{Edit}
-use Rattle.request_lines.specs.declared.edit.Edit.TheVariants.{Insert, Replace, Delete, Move, Copy, Blank, Hold}
+use Rattle.request_lines.specs.declared.edit.Edit.TheVariants.{Insert, Replace, Delete, Move, Copy, Blank, Hold, ShowBit}
 use Rattle.frame_session.specs.declared.refusal.Refusal.{Refusal}
 use Rattle.frame_session.specs.declared.refusal.Refusal.TheVariants as refusals
 use Rattle.frame_session.specs.Edits.{edited, list_at}
@@ -104,6 +104,7 @@ marks_edited (Move from to) marks = marks_moved from to marks
 marks_edited (Copy source from at) marks = marks_inserted at marks
 marks_edited (Blank at width height) marks = marks_inserted at marks
 marks_edited (Hold at) marks = marks_inserted at marks
+marks_edited (ShowBit at shown) marks = marks
 
 -- the value after an edit with this result: the new value, or the old one if it is refused
 abbrev pub after_answer : {A : Type 0} → A → A → Result ℕ Refusal → A

@@ -5,13 +5,13 @@ use Rattle.std.specs.Result.{result_unwrap_or}
 use Rattle.vp8_tables.specs.declared.tables.Tables.{Tables}
 use Rattle.packet_edits.specs.declared.fault.EditFault.{EditFault}
 use Rattle.packet_edits.specs.declared.fault.EditFault.TheVariants as faults
-use Rattle.packet_edits.specs.Edits.{Listing, copied, deleted, inserted, refused_copy, refused_deletion, refused_insertion, refused_move, refused_replacement, replaced, starting, with_move}
+use Rattle.packet_edits.specs.Edits.{Listing, copied, deleted, inserted, refused_copy, refused_deletion, refused_insertion, refused_move, refused_replacement, refused_show_bit, replaced, starting, with_move, with_show_bit_at}
 use Rattle.packet_edits.specs.Sizes.{size_at}
 use Rattle.packet_forge.specs.declared.faults.ForgeFault.{ForgeFault}
 use Rattle.packet_forge.specs.declared.faults.ForgeFault.TheVariants as forging
 use Rattle.packet_forge.specs.Packets.{blank_of, hold_of}
 use Rattle.request_lines.specs.declared.edit.Edit.{Edit}
-use Rattle.request_lines.specs.declared.edit.Edit.TheVariants.{Insert, Replace, Delete, Move, Copy, Blank, Hold}
+use Rattle.request_lines.specs.declared.edit.Edit.TheVariants.{Insert, Replace, Delete, Move, Copy, Blank, Hold, ShowBit}
 use Rattle.frame_session.specs.declared.refusal.Refusal.{Refusal}
 use Rattle.frame_session.specs.declared.refusal.Refusal.TheVariants as refusals
 use Rattle.frame_session.specs.IsOrNoMemory.{IsOrNoMemory}
@@ -25,6 +25,7 @@ abbrev pub refusal_by : EditFault → Refusal
 refusal_by faults.Place = refusals.Place
 refusal_by faults.Full = refusals.Full
 refusal_by faults.Spent = refusals.Spent
+refusal_by faults.NoBit = refusals.NoBit
 refusal_by faults.NoMemory = refusals.NoMemory
 
 -- the refusal of a request whose packet cannot be forged
@@ -59,6 +60,7 @@ edited tables lists (Move from to) list = with_move from to list
 edited tables lists (Copy source from at) list = copied at (list_at lists source) from list
 edited tables lists (Blank at width height) list = inserted_forged at (blank_of tables width height) list
 edited tables lists (Hold at) list = inserted_forged at (hold_bytes_at tables list at) list
+edited tables lists (ShowBit at shown) list = with_show_bit_at at shown list
 
 -- the first refusal of a forged packet: its insertion's, or otherwise its forging's
 abbrev pub refused_forged : Option EditFault → Result (List ℕ) ForgeFault → Option Refusal
@@ -80,6 +82,7 @@ refused_edit tables lists list (Move from to) = option_map refusal_by (refused_m
 refused_edit tables lists list (Copy source from at) = refused_copy_of lists list source from at
 refused_edit tables lists list (Blank at width height) = refused_forged (refused_insertion list at) (blank_of tables width height)
 refused_edit tables lists list (Hold at) = refused_forged (refused_insertion list at) (hold_bytes_at tables list at)
+refused_edit tables lists list (ShowBit at shown) = option_map refusal_by (refused_show_bit list at)
 
 -- the result if nothing is refused
 abbrev pub count_unless : Option Refusal → ℕ → Result ℕ Refusal
@@ -90,12 +93,13 @@ count_unless (Some refusal) count = Err refusal
 abbrev pub edit_of : Tables → List Listing → Listing → Edit (List ℕ) → Result ℕ Refusal
 edit_of tables lists list edit = count_unless (refused_edit tables lists list edit) (length (edited tables lists edit list).entries)
 
--- the results that an edit may have: an insertion or a copy may also be out of memory
+-- the results that an edit may have: an insertion, a copy or a change of a show bit may also be out of memory
 abbrev pub EditAnswers : Tables → List Listing → Listing → Edit (List ℕ) → Result ℕ Refusal → Type 0
 EditAnswers tables lists list (Insert at stamp bytes) answer = IsOrNoMemory (edit_of tables lists list (Insert at stamp bytes)) answer
 EditAnswers tables lists list (Copy source from at) answer = IsOrNoMemory (edit_of tables lists list (Copy source from at)) answer
 EditAnswers tables lists list (Blank at width height) answer = IsOrNoMemory (edit_of tables lists list (Blank at width height)) answer
 EditAnswers tables lists list (Hold at) answer = IsOrNoMemory (edit_of tables lists list (Hold at)) answer
+EditAnswers tables lists list (ShowBit at shown) answer = IsOrNoMemory (edit_of tables lists list (ShowBit at shown)) answer
 EditAnswers tables lists list edit answer = answer ≡ edit_of tables lists list edit
 
 -- the results that an edit of a request line may have: decoding the bytes of a replacement may also be out of memory

@@ -1,9 +1,10 @@
 -- Laws that follow from the definition of a request list's meaning.
-use Rattle.std.specs.Prelude.{◌≡◌, ◌≢◌, All, ℕ, ◌≤◌, List, [], ◌∷◌}
+use Rattle.std.specs.Prelude.{◌≡◌, ◌≢◌, All, ℕ, ◌≤◌, true, List, [], ◌∷◌}
 use Rattle.request_lines.specs.declared.lines.Line.{Line}
 use Rattle.request_lines.specs.declared.lines.Line.TheVariants.{Lost, Stats}
 use Rattle.frame_session.specs.declared.refusal.Refusal.{Refusal}
 use Rattle.frame_session.specs.declared.refusal.Refusal.TheVariants as refusals
+use Rattle.frame_session.specs.Questions.{is_question}
 use Rattle.frame_session.specs.Replies.{refused_line, stats_line}
 use Rattle.frame_session.specs.Sessions.{Now}
 use Rattle.frame_session.specs.Answers.{Answer, Answers, Run, reply_only}
@@ -41,3 +42,7 @@ RefusedLinesChangeNothing = (old new : Now) (line : Line) (answer : Answer) (ref
 -- in every session, each list of requests of which no line was lost has answers of which none is `refused NoMemory`
 abbrev pub AnswersExist : Type 0
 AnswersExist = (old : Now) (lines : List Line) → All (λ line. line ≢ Lost) lines → (answers : List Answer) × (new : Now) × Run old lines answers new × HaveMemory answers
+
+-- a question changes nothing, whatever its reply
+abbrev pub QuestionsChangeNothing : Type 0
+QuestionsChangeNothing = (old new : Now) (line : Line) (answer : Answer) → is_question line ≡ true → Answers old line answer new → new ≡ old

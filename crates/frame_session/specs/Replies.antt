@@ -4,6 +4,9 @@ use Rattle.std.specs.Fmt.{decimal}
 use Rattle.frame_header.specs.declared.cause.Cause.{Cause}
 use Rattle.frame_header.specs.declared.cause.Cause.TheVariants as causes
 use Rattle.frame_header.specs.Cause.{cause_word}
+use Rattle.script_nodes.specs.declared.nodes.Node.{Node}
+use Rattle.script_nodes.specs.Written.{script_text}
+use Rattle.request_lines.specs.HexWords.{hex_word}
 use Rattle.frame_session.specs.declared.refusal.Refusal.{Refusal}
 use Rattle.frame_session.specs.declared.refusal.Refusal.TheVariants as refusals
 use Rattle.frame_session.specs.declared.live.LiveFault.{LiveFault}
@@ -18,6 +21,7 @@ refusal_word refusals.Source = codes "Source"
 refusal_word refusals.Place = codes "Place"
 refusal_word refusals.Full = codes "Full"
 refusal_word refusals.Spent = codes "Spent"
+refusal_word refusals.NoBit = codes "NoBit"
 refusal_word refusals.Size = codes "Size"
 refusal_word refusals.TooLarge = codes "TooLarge"
 refusal_word refusals.NoSuchFrame = codes "NoSuchFrame"
@@ -69,6 +73,14 @@ count_line packets frames = codes "packets " ++ decimal packets ++ codes " frame
 -- the number of decoding steps made
 abbrev pub stats_line : ℕ → List ℕ
 stats_line steps = codes "decoded " ++ decimal steps ++ 10 ∷ []
+
+-- a packet: its time stamp and its bytes
+abbrev pub packet_line : ℕ → List ℕ → List ℕ
+packet_line stamp bytes = codes "packet " ++ decimal stamp ++ codes " " ++ hex_word bytes ++ 10 ∷ []
+
+-- a script
+abbrev pub script_line : List Node → List ℕ
+script_line nodes = codes "script " ++ script_text nodes ++ 10 ∷ []
 
 -- the name of a run's error
 abbrev pub run_fault_word : RunFault → List ℕ

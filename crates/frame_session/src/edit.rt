@@ -18,8 +18,8 @@ use vp8_tables::Tables;
 ///
 /// Refusals come in this order. An insertion: `Place`, `Full`, `Spent`, `NoMemory`. A copy: `Source`, and
 /// then those of an insertion. A forged packet: `Place`, `Full`, `Spent`, `Size`, `TooLarge`, `NoMemory`;
-/// `NoMemory` may also come instead of `TooLarge`. A replacement: `Place`, `Spent`. The others: `Place`. A
-/// refused edit changes nothing, and no edit changes another source.
+/// `NoMemory` may also come instead of `TooLarge`. A replacement: `Place`, `Spent`. A change of a show bit: `Place`,
+/// `NoBit`, `NoMemory`. The others: `Place`. A refused edit changes nothing, and no edit changes another source.
 pub fn make_edit(
     alloc: Global,
     tables: &Tables,
@@ -41,6 +41,7 @@ pub fn make_edit(
             insert_blank(alloc, tables, &mut stores[current], at, width, height)
         }
         Edit::Hold { at } => insert_hold(alloc, tables, &mut stores[current], at),
+        Edit::ShowBit { at, shown } => set_show_bit(&mut stores[current], at, shown),
     }
 }
 
@@ -128,6 +129,17 @@ fn move_to(list: &mut Store, from: u64, to: u64) -> Result<u64, Refusal>
     ensures marks { list.new.marks ≡ marks_after (Edit.Move from to) list.old.marks result }
 {
     match list.move_to(from, to) {
+        Ok(()) => Ok(list.len() as u64),
+        Err(fault) => Err(Refusal::by(fault)),
+    }
+}
+
+fn set_show_bit(list: &mut Store, at: u64, shown: bool) -> Result<u64, Refusal>
+    ensures returned { (tables : Tables) (lists : List Listing) → IsOrNoMemory (edit_of tables lists list.old.list (Edit.ShowBit at shown)) result }
+    ensures after { (tables : Tables) (lists : List Listing) → list.new.list ≡ after_edit tables lists (Edit.ShowBit at shown) list.old.list result }
+    ensures marks { list.new.marks ≡ marks_after (Edit.ShowBit at shown) list.old.marks result }
+{
+    match list.set_show_bit(at, shown) {
         Ok(()) => Ok(list.len() as u64),
         Err(fault) => Err(Refusal::by(fault)),
     }

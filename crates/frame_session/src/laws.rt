@@ -1,11 +1,11 @@
 //! Laws over the definitions of this crate: each is the contract of a function that does nothing.
 
-ghost use Rattle.std.specs.Prelude.{◌≡◌, [], ◌∷◌, codes, Ok, Err};
+ghost use Rattle.std.specs.Prelude.{◌≡◌, [], ◌∷◌, codes, false, Ok, Err};
 ghost use Rattle.packet_edits.specs.Laws.{packet, three};
 ghost use Rattle.request_lines.specs.declared.edit.Edit.TheVariants as edits;
 ghost use Rattle.frame_session.specs.declared.refusal.Refusal.TheVariants as refusals;
 ghost use Rattle.frame_session.specs.Edits.{edited, edit_of, stamp_before};
-ghost use Rattle.frame_session.specs.Laws.{AnswersAreOne, AnswersExist, RefusedLinesChangeNothing, StepsNeverFall};
+ghost use Rattle.frame_session.specs.Laws.{AnswersAreOne, AnswersExist, QuestionsChangeNothing, RefusedLinesChangeNothing, StepsNeverFall};
 
 use vp8_tables::Tables;
 
@@ -31,6 +31,11 @@ pub fn refused_lines_change_nothing()
     ensures { RefusedLinesChangeNothing }
 {}
 
+/// A question changes nothing, whatever its reply.
+pub fn questions_change_nothing()
+    ensures { QuestionsChangeNothing }
+{}
+
 /// Each edit of three packets, none of which has a key tag, and refusals in their order.
 pub fn worked_edits(tables: &Tables)
     ensures insert { (edited tables.now [] (edits.Insert 1 5 (68 ∷ [])) three).entries ≡ packet 0 10 65 ∷ packet 3 5 68 ∷ packet 1 20 66 ∷ packet 2 30 67 ∷ [] }
@@ -51,5 +56,7 @@ pub fn worked_edits(tables: &Tables)
     ensures spent_before_size { edit_of tables.now [] (record three { next_id = 0xFFFF_FFFF_FFFF_FFFF }) (edits.Blank 3 0 16) ≡ Err refusals.Spent }
     ensures no_side { edit_of tables.now [] three (edits.Blank 3 0 16) ≡ Err refusals.Size }
     ensures wide_side { edit_of tables.now [] three (edits.Blank 0 16 16384) ≡ Err refusals.Size }
+    ensures no_bit { edit_of tables.now [] three (edits.ShowBit 2 false) ≡ Err refusals.NoBit }
+    ensures nothing_to_hide { edit_of tables.now [] three (edits.ShowBit 3 false) ≡ Err refusals.Place }
     ensures no_key { edit_of tables.now [] three (edits.Hold 3) ≡ Err refusals.Size }
 {}

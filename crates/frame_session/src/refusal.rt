@@ -24,6 +24,9 @@ pub enum Refusal {
     /// No id is left for another packet.
     #[error("no packet id is left")]
     Spent,
+    /// The packet has fewer than 3 bytes, so it has no show bit.
+    #[error("the packet has no show bit")]
+    NoBit,
     /// No frame has the size that was asked of a forged packet.
     #[error("no frame has this size")]
     Size,
@@ -76,6 +79,7 @@ impl Refusal {
             EditFault::Place => Refusal::Place,
             EditFault::Full => Refusal::Full,
             EditFault::Spent => Refusal::Spent,
+            EditFault::NoBit => Refusal::NoBit,
             EditFault::NoMemory => Refusal::NoMemory,
         }
     }
@@ -124,6 +128,7 @@ impl Refusal {
             Refusal::Place => "Place",
             Refusal::Full => "Full",
             Refusal::Spent => "Spent",
+            Refusal::NoBit => "NoBit",
             Refusal::Size => "Size",
             Refusal::TooLarge => "TooLarge",
             Refusal::NoSuchFrame => "NoSuchFrame",

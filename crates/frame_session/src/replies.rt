@@ -2,11 +2,13 @@
 ghost use Rattle.std.specs.Prelude.{◌≡◌, ◌++◌, IfOk, OnOk, codes};
 ghost use Rattle.std.specs.Fmt.{decimal};
 ghost use Rattle.std.specs.Io.KnownBytes.{Appends};
-ghost use Rattle.frame_session.specs.Replies.{cause_text, count_line, edit_line, ok_line, refusal_text, refused_line, served_line, source_text, stats_line};
+ghost use Rattle.frame_session.specs.Replies.{cause_text, count_line, edit_line, ok_line, packet_line, refusal_text, refused_line, script_line, served_line, source_text, stats_line};
 ghost use Rattle.frame_session.specs.Told.{Tells};
 
 use crate::refusal::Refusal;
 use frame_header::Cause;
+use request_lines::write_hex_word;
+use script_nodes::Script;
 use std::io::Write;
 use stream_files::WriteFault;
 
@@ -60,6 +62,32 @@ pub fn write_stats<W: Write>(w: &mut W, steps: u64) -> Result<Option<Refusal>, W
     ensures told { IfOk result (Tells (W.contents w.old) (W.contents w.new)) }
 {
     writeln!(w, "decoded {steps}").map_err(|_| WriteFault::Write)?;
+    Ok(None)
+}
+
+/// Writes the time stamp of a packet, and its bytes as hexadecimal digits.
+pub fn write_packet<W: Write>(
+    w: &mut W,
+    stamp: u64,
+    bytes: &[u8],
+) -> Result<Option<Refusal>, WriteFault>
+    ensures wrote { OnOk result (Appends (W.contents w.old) (W.contents w.new) (packet_line stamp bytes.now)) }
+    ensures told { IfOk result (Tells (W.contents w.old) (W.contents w.new)) }
+{
+    write!(w, "packet {stamp} ").map_err(|_| WriteFault::Write)?;
+    write_hex_word(w, bytes).map_err(|_| WriteFault::Write)?;
+    write_text(w, "\n")?;
+    Ok(None)
+}
+
+/// Writes a script.
+pub fn write_script<W: Write>(w: &mut W, script: &Script) -> Result<Option<Refusal>, WriteFault>
+    ensures wrote { OnOk result (Appends (W.contents w.old) (W.contents w.new) (script_line script.now)) }
+    ensures told { IfOk result (Tells (W.contents w.old) (W.contents w.new)) }
+{
+    write_text(w, "script ")?;
+    script.write_text(w).map_err(|_| WriteFault::Write)?;
+    write_text(w, "\n")?;
     Ok(None)
 }
 

@@ -1,7 +1,8 @@
-ghost use Rattle.std.specs.Prelude.{◌≡◌, ◌⊎◌, ℕ, ◌≤◌, ◌++◌, IfOk, OnOk, IfErr, OnErr, Result, length, map};
+ghost use Rattle.std.specs.Prelude.{◌≡◌, ◌⊎◌, ℕ, ◌≤◌, ◌++◌, true, IfOk, OnOk, IfErr, OnErr, Result, length, map};
 ghost use Rattle.std.specs.Io.KnownBytes.{Appends, Keeps};
 ghost use Rattle.stream_files.specs.Y4m.{frame_text};
 ghost use Rattle.frame_session.specs.declared.refusal.Refusal.{Refusal};
+ghost use Rattle.frame_session.specs.Questions.{is_question};
 ghost use Rattle.frame_session.specs.Replies.{count_line, served_line};
 ghost use Rattle.frame_session.specs.Sessions.{frame_count, packet_count};
 ghost use Rattle.request_lines.specs.Requests.{asked_by};
@@ -168,6 +169,7 @@ fn serve<F: Write, P: Write>(
     ensures serves { OnOk result (Serves session.old.now line.entry (F.contents frames.old) (F.contents frames.new) (P.contents replies.old) (P.contents replies.new) session.new.now) }
     ensures frame_first { WritesFrameFirst session.old.now line.entry (F.contents frames.old) (F.contents frames.new) (P.contents replies.old) (P.contents replies.new) session.new.now }
     ensures capacity { session.new.cache.capacity ≡ session.old.cache.capacity }
+    ensures question { is_question line.entry ≡ true → session.new ≡ session.old }
     ensures told { IfOk result (Tells (P.contents replies.old) (P.contents replies.new)) }
 {
     match line {
@@ -188,6 +190,7 @@ fn serve<F: Write, P: Write>(
         }
         Line::Count => report_count(session, replies),
         Line::Stats => write_stats(replies, session.decoded()),
+        Line::Ask(question) => session.answer(replies, question),
         Line::Lost => write_refused(replies, Refusal::NoMemory),
     }
 }
@@ -204,6 +207,7 @@ pub(crate) fn serve_line<F: Write, P: Write>(
     ensures serves { OnOk result (Serves session.old.now line.entry (F.contents frames.old) (F.contents frames.new) (P.contents replies.old) (P.contents replies.new) session.new.now) }
     ensures frame_first { WritesFrameFirst session.old.now line.entry (F.contents frames.old) (F.contents frames.new) (P.contents replies.old) (P.contents replies.new) session.new.now }
     ensures capacity { session.new.cache.capacity ≡ session.old.cache.capacity }
+    ensures question { is_question line.entry ≡ true → session.new ≡ session.old }
     ensures told { IfOk result (Tells (P.contents replies.old) (P.contents replies.new)) }
 {
     let told = serve(session, line, frames, replies, flushing)?;

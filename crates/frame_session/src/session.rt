@@ -15,6 +15,7 @@ ghost use Rattle.frame_session.specs.Edits.{EditAnswers, WrittenAnswers};
 
 mod exports;
 mod known;
+mod questions;
 
 use crate::keeping::{edit_cached, picture_at};
 use crate::refusal::Refusal;
@@ -225,8 +226,9 @@ impl Session {
     /// such source, `Place` if it has no packet `from`, and then those of an insertion. A forged packet, after
     /// `Spent`: `Size` if no frame has the size, `TooLarge` if its first partition has more than 524,287
     /// bytes, and `NoMemory`, which may also come instead of `TooLarge`. A replacement: `Place` if there
-    /// is no packet at `at`, and `Spent`. A deletion or a move: `Place` if there is no packet at one of its
-    /// indices. A refused edit changes nothing.
+    /// is no packet at `at`, and `Spent`. A change of a show bit: `Place` if there is no packet at `at`, `NoBit` if it has fewer than
+    /// 3 bytes, and `NoMemory`. A deletion or a move: `Place` if there is no packet at one of its indices. A refused edit changes
+    /// nothing.
     pub fn edit(&mut self, edit: Edit) -> Result<u64, Refusal>
         ensures returned { EditAnswers self.old.now.tables self.old.now.lists (current_list self.old.now) edit result }
         ensures after { self.new.now ≡ now_after_edit edit self.old.now result }
@@ -276,6 +278,7 @@ impl Session {
             Edit::Copy { source, from, at } => self.edit(Edit::Copy { source, from, at }),
             Edit::Blank { at, width, height } => self.edit(Edit::Blank { at, width, height }),
             Edit::Hold { at } => self.edit(Edit::Hold { at }),
+            Edit::ShowBit { at, shown } => self.edit(Edit::ShowBit { at, shown }),
         }
     }
 

@@ -1,10 +1,10 @@
 -- The ids of a packet list.
-use Rattle.std.proofs.Common.{◌≡◌, ℕ, zero, suc, ◌+◌, ◌<◌, ◌≤◌, List, [], ◌∷◌, ◌++◌, length, slice_get, slice_set, Option, Some, None, refl, sym, ap, ◌∙◌, subst, arith}
+use Rattle.std.proofs.Common.{◌≡◌, ℕ, zero, suc, ◌+◌, ◌<◌, ◌≤◌, List, [], ◌∷◌, ◌++◌, Bool, length, slice_get, slice_set, Option, Some, None, refl, sym, ap, ◌∙◌, subst, arith}
 use Rattle.std.specs.List.{insert, remove}
 use Rattle.std.specs.Option.{option_map_or}
 use Rattle.stream_files.specs.declared.packets.Packet.{Packet}
 use Rattle.packet_edits.specs.declared.entry.Entry.{Entry}
-use Rattle.packet_edits.specs.Edits.{Listing, copied, deleted, inserted, numbered, pushed, replaced, with_move}
+use Rattle.packet_edits.specs.Edits.{Listing, copied, deleted, inserted, numbered, pushed, replaced, showing, with_move, with_show_bit_at}
 use Rattle.packet_edits.specs.Laws.{HasOwnIds, HaveOwnIds, IdsStayOwn, IsNotAmong, KeepsIdsOwn}
 
 -- ids below a number are below a greater one
@@ -79,6 +79,24 @@ own_set next i e [] below new own = tt
 own_set next zero e (x ∷ es) below new own = (below, new.1, own.2)
 own_set next (suc i) e (x ∷ es) below new own = (own.0, not_among_set x.id i e es (λ same. new.0 (sym same)) own.1, own_set next i e es below new.1 own.2)
 
+-- a packet with the same id
+not_among_same : (id i : ℕ) (e x : Entry) (es : List Entry) → slice_get es i ≡ Some x → e.id ≡ x.id → IsNotAmong id es → IsNotAmong id (slice_set es i e)
+not_among_same id i e x [] found same rest = tt
+not_among_same id zero e x (y ∷ es) found same rest = let is : y ≡ x = cc in (λ own. rest.0 (ap (λ (z : Entry). z.id) is ∙ sym same ∙ own), rest.1)
+not_among_same id (suc i) e x (y ∷ es) found same rest = (rest.0, not_among_same id i e x es found same rest.1)
+
+pub own_same : (next i : ℕ) (e x : Entry) (es : List Entry) → slice_get es i ≡ Some x → e.id ≡ x.id → HaveOwnIds next es → HaveOwnIds next (slice_set es i e)
+own_same next i e x [] found same own = tt
+own_same next zero e x (y ∷ es) found same own =
+    let is : y ≡ x = cc in
+    let id : y.id ≡ e.id = ap (λ (z : Entry). z.id) is ∙ sym same in
+    (subst (λ (n : ℕ). n < next) id own.0, subst (λ (n : ℕ). IsNotAmong n es) id own.1, own.2)
+own_same next (suc i) e x (y ∷ es) found same own = (own.0, not_among_same y.id i e x es found same own.1, own_same next i e x es found same own.2)
+
+showing_own : (list : Listing) (at : ℕ) (shown : Bool) (o : Option Entry) → slice_get list.entries at ≡ o → HasOwnIds list → HaveOwnIds list.next_id (option_map_or (λ entry. slice_set list.entries at (showing shown entry)) o list.entries)
+showing_own list at shown None found own = own
+showing_own list at shown (Some entry) found own = own_same list.next_id at (showing shown entry) entry list.entries found refl own
+
 -- other bytes with a new id, and a move
 replaced_own : (list : Listing) (at : ℕ) (bytes : List ℕ) (o : Option Entry) → HaveOwnIds list.next_id list.entries → HaveOwnIds (list.next_id + 1) (option_map_or (λ entry. slice_set list.entries at (record entry { id = list.next_id; bytes = bytes })) o list.entries)
 replaced_own list at bytes None own = above_all list.next_id (list.next_id + 1) list.entries (omega arith) own
@@ -146,6 +164,9 @@ deletion_keeps at = record { own = λ list own. own_removed list.next_id at list
 move_keeps : (from to : ℕ) → KeepsIdsOwn (with_move from to)
 move_keeps from to = record { own = λ list own. moved_own list.next_id from to list.entries (slice_get list.entries from) refl own; rises = λ list. omega arith }
 
+show_bit_keeps : (at : ℕ) (shown : Bool) → KeepsIdsOwn (with_show_bit_at at shown)
+show_bit_keeps at shown = record { own = λ list own. showing_own list at shown (slice_get list.entries at) refl own; rises = λ list. omega arith }
+
 pub ids_own : IdsStayOwn
 ids_own = record {
   at_first = λ first_id. tt;
@@ -155,4 +176,5 @@ ids_own = record {
   replacements = replacement_keeps;
   deletions = deletion_keeps;
   moves = move_keeps;
+  show_bits = show_bit_keeps;
 }

@@ -1,5 +1,5 @@
 -- An index that is edited with its packets still says which of them are shown and which have a key tag.
-use Rattle.std.proofs.Common.{◌≡◌, ℕ, ◌+◌, ◌<◌, ◌≤◌, Bool, List, [], ◌∷◌, ◌++◌, length, map, slice_get, slice_set, Some, refl, sym, ap, ◌∙◌, arith}
+use Rattle.std.proofs.Common.{◌≡◌, ℕ, ◌+◌, ◌<◌, ◌≤◌, Bool, cond, List, [], ◌∷◌, ◌++◌, length, map, option_map, slice_get, slice_set, Option, None, Some, refl, sym, ap, ◌∙◌, arith}
 use Rattle.std.specs.List.{insert, remove}
 use Rattle.std.proofs.lemmas.List.{length-map, map-append}
 use Rattle.frame_header.specs.Tags.{has_key_tag, is_shown}
@@ -7,7 +7,9 @@ use Rattle.stream_files.specs.declared.packets.Packet.{Packet}
 use Rattle.chunked_list.specs.Moves.{moved, with_place}
 use Rattle.packet_edits.specs.declared.entry.Entry.{Entry}
 use Rattle.packet_edits.specs.declared.packet_index.PacketIndex.{PacketIndex}
-use Rattle.packet_edits.specs.Edits.{numbered}
+use Rattle.show_bits.specs.ShowBits.{has_show_bit}
+use Rattle.packet_edits.specs.declared.fault.EditFault.TheVariants.{NoBit}
+use Rattle.packet_edits.specs.Edits.{Listing, numbered, refused_show_bit, showing}
 use Rattle.packet_edits.specs.Indexes.{appended_to, inserted_to, moved_in, removed_from, set_in}
 use Rattle.packet_edits.specs.Stores.{index_of}
 use Rattle.packet_edits.proofs.Mapped.{map_insert, map_moved, map_remove, map_set, remove_inserted}
@@ -53,6 +55,28 @@ index_pushed es index id packets is = ap (appended_to packets) is ∙ sym (both_
 -- the packet that is replaced
 pub replaced_is : (es : List Entry) (at id stamp : ℕ) (bytes : List ℕ) (e : Entry) → slice_get es at ≡ Some e → stamp ≡ e.stamp → slice_set es at (record { id = id; stamp = stamp; bytes = bytes }) ≡ with_place at (λ entry. slice_set es at (record entry { id = id; bytes = bytes })) es
 replaced_is es at id stamp bytes e here same = rw here (ap (λ (n : ℕ). slice_set es at (record { id = id; stamp = n; bytes = bytes })) same)
+
+-- the packet whose show bit is set or cleared
+pub record IsShowing (es : List Entry) (at : ℕ) (shown : Bool) (e : Entry) : Type 0 where
+  pub old : Entry
+  pub here : slice_get es at ≡ Some old
+  pub is : e ≡ showing shown old
+
+pub is_showing : (es : List Entry) (at : ℕ) (shown : Bool) (e : Entry) → option_map (showing shown) (slice_get es at) ≡ Some e → IsShowing es at shown e
+is_showing es at shown e made = by_packet (slice_get es at) refl made
+  where
+    by_packet : (o : Option Entry) → slice_get es at ≡ o → option_map (showing shown) o ≡ Some e → IsShowing es at shown e
+    by_packet None here found = cc
+    by_packet (Some old) here found = let is : showing shown old ≡ e = cc in record { old = old; here = here; is = sym is }
+
+-- and whether it has one
+pub bit_told : (list : Listing) (at : ℕ) (e : Entry) (bytes : List ℕ) (has : Bool) → slice_get list.entries at ≡ Some e → bytes ≡ e.bytes → has_show_bit bytes ≡ has → refused_show_bit list at ≡ cond has None (Some NoBit)
+bit_told list at e bytes has here same is = rw here (ap (λ (b : Bool). cond b None (Some NoBit)) (ap has_show_bit (sym same) ∙ is))
+
+pub showing_set : (es : List Entry) (at : ℕ) (shown : Bool) (e : Entry) → option_map (showing shown) (slice_get es at) ≡ Some e → slice_set es at e ≡ with_place at (λ entry. slice_set es at (showing shown entry)) es
+showing_set es at shown e made =
+    let s = is_showing es at shown e made in
+    rw s.here (ap (λ (x : Entry). slice_set es at x) s.is)
 
 -- an insertion that is taken back
 pub index_back : (es : List Entry) (index : PacketIndex) (at : ℕ) (bytes : List ℕ) → index ≡ index_of es → at ≤ length es → removed_from at (inserted_to at bytes index) ≡ index

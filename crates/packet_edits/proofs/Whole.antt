@@ -1,18 +1,18 @@
 -- The invariant of a store holds after each edit.
-use Rattle.std.proofs.Common.{◌≡◌, ℕ, suc, ◌+◌, ◌<◌, ◌≤◌, Bool, true, false, List, [], ◌∷◌, ◌++◌, length, map, slice_get, slice_set, refl, sym, ap, subst, ◌∙◌, arith, length-append}
+use Rattle.std.proofs.Common.{◌≡◌, ℕ, suc, ◌+◌, ◌<◌, ◌≤◌, Bool, true, false, List, [], ◌∷◌, ◌++◌, length, map, option_map, slice_get, slice_set, Some, refl, sym, ap, subst, ◌∙◌, arith, length-append}
 use Rattle.std.specs.List.{insert, remove}
 use Rattle.std.proofs.lemmas.List.Edits.{length-insert}
 use Rattle.stream_files.specs.declared.packets.Packet.{Packet}
 use Rattle.packet_edits.specs.declared.entry.Entry.{Entry}
 use Rattle.chunked_list.specs.Moves.{moved}
 use Rattle.packet_edits.specs.declared.packet_index.PacketIndex.{PacketIndex}
-use Rattle.packet_edits.specs.Edits.{numbered}
+use Rattle.packet_edits.specs.Edits.{numbered, showing}
 use Rattle.packet_edits.specs.Indexes.{appended_to, inserted_to, moved_in, removed_from, set_in}
 use Rattle.packet_edits.specs.Laws.{HaveOwnIds}
 use Rattle.packet_edits.specs.Marks.{marked_at, marks_deleted, marks_inserted, marks_moved, marks_pushed, marks_replaced, unmarked_at}
 use Rattle.packet_edits.specs.Stores.{IsWhole, index_of}
-use Rattle.packet_edits.proofs.Ids.{above_all, moved_own, next_not_among, own_inserted, own_removed, own_set, pushed_own}
-use Rattle.packet_edits.proofs.Indexed.{index_inserted, index_moved, index_pushed, index_removed, index_set}
+use Rattle.packet_edits.proofs.Ids.{above_all, moved_own, next_not_among, own_inserted, own_removed, own_same, own_set, pushed_own}
+use Rattle.packet_edits.proofs.Indexed.{index_inserted, index_moved, index_pushed, index_removed, index_set, is_showing}
 use Rattle.packet_edits.proofs.Mapped.{length_moved, length_removed, length_set}
 
 module _ (es new : List Entry) (id : ℕ) (marks marks' : List Bool) (index index' : PacketIndex) (is : IsWhole es id marks index) where
@@ -42,6 +42,15 @@ module _ (es new : List Entry) (id : ℕ) (marks marks' : List Bool) (index inde
         few = let few : length es ≤ 1048576 = is.few in let same : length new ≡ length es = ap length put ∙ length_set es at e in omega (arith, few, same);
         marked = ap length m ∙ length_set (unmarked_at at marks) (at + 1) true ∙ length_set marks at false ∙ is.marked ∙ sym (length_set es at e) ∙ ap length (sym put);
         own = subst (HaveOwnIds (id + 1)) (sym put) (own_set (id + 1) at e es (omega arith) (next_not_among id es is.own) (above_all id (id + 1) es (omega arith) is.own));
+      }
+
+  pub whole_showing : (at : ℕ) (shown : Bool) (e : Entry) → option_map (showing shown) (slice_get es at) ≡ Some e → new ≡ slice_set es at e → marks' ≡ marks → index' ≡ set_in at e.bytes index → IsWhole new id marks' index'
+  whole_showing at shown e made put m reported =
+      let s = is_showing es at shown e made in record {
+        indexed = reported ∙ index_set es index at e is.indexed ∙ ap index_of (sym put);
+        few = let few : length es ≤ 1048576 = is.few in let same : length new ≡ length es = ap length put ∙ length_set es at e in omega (arith, few, same);
+        marked = ap length m ∙ is.marked ∙ sym (length_set es at e) ∙ ap length (sym put);
+        own = subst (HaveOwnIds id) (sym put) (own_same id at e s.old es s.here (ap (λ (x : Entry). x.id) s.is) is.own);
       }
 
   pub whole_remove : (at : ℕ) → at < length es → new ≡ remove es at → marks' ≡ marks_deleted at marks → index' ≡ removed_from at index → IsWhole new id marks' index'

@@ -1,12 +1,13 @@
 -- Edits of the packet list.
-use Rattle.std.specs.Prelude.{ℕ, ◌+◌, ◌-◌, ◌^◌, ◌==◌, ◌&&◌, nat_lt, nat_le, if◌then◌else◌, List, [], ◌∷◌, ◌++◌, length, slice_get, slice_set, Option, Some, None}
+use Rattle.std.specs.Prelude.{ℕ, ◌+◌, ◌-◌, ◌^◌, ◌==◌, ◌&&◌, Bool, nat_lt, nat_le, if◌then◌else◌, List, [], ◌∷◌, ◌++◌, length, slice_get, slice_set, Option, Some, None}
 use Rattle.std.specs.List.{insert, remove}
 use Rattle.std.specs.Option.{option_map_or}
 pub use Rattle.chunked_list.specs.Moves.{moved, with_place}
 use Rattle.stream_files.specs.declared.packets.Packet.{Packet}
+use Rattle.show_bits.specs.ShowBits.{has_show_bit, with_show_bit}
 use Rattle.packet_edits.specs.declared.entry.Entry.{Entry}
 use Rattle.packet_edits.specs.declared.fault.EditFault.{EditFault}
-use Rattle.packet_edits.specs.declared.fault.EditFault.TheVariants.{Place, Full, Spent}
+use Rattle.packet_edits.specs.declared.fault.EditFault.TheVariants.{Place, Full, Spent, NoBit}
 
 -- a packet list: its packets in their order, and the id of the next inserted packet
 pub record Listing : Type 0 where
@@ -64,6 +65,14 @@ deleted at list = record list { entries = remove list.entries at }
 abbrev pub with_move : ℕ → ℕ → Listing → Listing
 with_move from to list = record list { entries = moved from to list.entries }
 
+-- a packet with its show bit set or cleared; its id and its stamp stay
+abbrev pub showing : Bool → Entry → Entry
+showing shown entry = record entry { bytes = with_show_bit shown entry.bytes }
+
+-- the show bit of the packet at an index set or cleared
+abbrev pub with_show_bit_at : ℕ → Bool → Listing → Listing
+with_show_bit_at at shown list = record list { entries = with_place at (λ entry. slice_set list.entries at (showing shown entry)) list.entries }
+
 -- the error if no id is left for another packet
 abbrev pub refused_id : Listing → Option EditFault
 refused_id list = if list.next_id == spent_id then Some Spent else None
@@ -93,6 +102,10 @@ refused_replacement list at = if nat_lt at (length list.entries) then refused_id
 -- the error of a deletion
 abbrev pub refused_deletion : Listing → ℕ → Option EditFault
 refused_deletion list at = if nat_lt at (length list.entries) then None else Some Place
+
+-- the first error of a change of the show bit: the packet has none
+abbrev pub refused_show_bit : Listing → ℕ → Option EditFault
+refused_show_bit list at = option_map_or (λ entry. if has_show_bit entry.bytes then None else Some NoBit) (slice_get list.entries at) (Some Place)
 
 -- the error of a move
 abbrev pub refused_move : Listing → ℕ → ℕ → Option EditFault

@@ -3,7 +3,7 @@ use Rattle.std.specs.Prelude.{◌≡◌, ℕ, ◌<◌, ◌≤◌, Bool, true, fa
 use Rattle.frame_header.specs.Tags.{has_key_tag, is_shown, key_size_of}
 use Rattle.stream_files.specs.declared.packets.Packet.{Packet}
 use Rattle.packet_edits.specs.declared.entry.Entry.{Entry}
-use Rattle.packet_edits.specs.Edits.{Listing, copied, deleted, inserted, pushed, replaced, starting, with_move}
+use Rattle.packet_edits.specs.Edits.{Listing, copied, deleted, inserted, pushed, replaced, starting, with_move, with_show_bit_at}
 use Rattle.packet_edits.specs.Shown.{shown_indexes, stream_of}
 use Rattle.packet_edits.specs.Sizes.{size_at}
 
@@ -35,6 +35,7 @@ pub record IdsStayOwn : Type 0 where
   pub replacements : (at : ℕ) (bytes : List ℕ) → KeepsIdsOwn (replaced at bytes)
   pub deletions : (at : ℕ) → KeepsIdsOwn (deleted at)
   pub moves : (from to : ℕ) → KeepsIdsOwn (with_move from to)
+  pub show_bits : (at : ℕ) (shown : Bool) → KeepsIdsOwn (with_show_bit_at at shown)
 
 -- appending packets is inserting them at the end in sequence
 abbrev pub PushesAreInsertions : Type 0

@@ -15,6 +15,9 @@ pub enum EditFault {
     /// No id is left for another packet.
     #[error("no id is left")]
     Spent,
+    /// The packet has fewer than 3 bytes, so it has no show bit.
+    #[error("the packet has no show bit")]
+    NoBit,
     /// Memory was refused.
     #[error("memory was refused")]
     NoMemory,
@@ -29,6 +32,7 @@ impl EditFault {
             EditFault::Place => "Place",
             EditFault::Full => "Full",
             EditFault::Spent => "Spent",
+            EditFault::NoBit => "NoBit",
             EditFault::NoMemory => "NoMemory",
         }
     }

@@ -3,7 +3,7 @@
 
 ghost use Rattle.std.specs.Prelude.{◌≡◌, [], ◌∷◌, None, Some, true, false};
 ghost use Rattle.packet_edits.specs.declared.fault.EditFault.TheVariants as faults;
-ghost use Rattle.packet_edits.specs.Edits.{copied, deleted, inserted, pushed, refused_copy, refused_insertion, refused_push, refused_replacement, replaced, starting, with_move};
+ghost use Rattle.packet_edits.specs.Edits.{copied, deleted, inserted, pushed, refused_copy, refused_insertion, refused_push, refused_replacement, refused_show_bit, replaced, starting, with_move, with_show_bit_at};
 ghost use Rattle.packet_edits.specs.Laws.{IdsStayOwn, IsShownList, PushesAreInsertions, SizeIsOfLastKey, packet, three, unmarked};
 ghost use Rattle.packet_edits.specs.Marks.{marks_deleted, marks_inserted, marks_moved, marks_replaced};
 ghost use Rattle.packet_edits.specs.Shown.{shown_indexes};
@@ -38,11 +38,14 @@ pub fn worked_edits()
     ensures move_up { (with_move 0 2 three).entries ≡ packet 1 20 66 ∷ packet 2 30 67 ∷ packet 0 10 65 ∷ [] }
     ensures move_down { (with_move 2 1 three).entries ≡ packet 0 10 65 ∷ packet 2 30 67 ∷ packet 1 20 66 ∷ [] }
     ensures stays { (with_move 1 1 three).entries ≡ three.entries }
+    ensures hide { (with_show_bit_at 1 false (record three { entries = packet 0 10 65 ∷ record { id = 1; stamp = 20; bytes = 0x31 ∷ 2 ∷ 3 ∷ [] } ∷ [] })).entries ≡ packet 0 10 65 ∷ record { id = 1; stamp = 20; bytes = 0x21 ∷ 2 ∷ 3 ∷ [] } ∷ [] }
     ensures next { (inserted 3 5 [] three).next_id ≡ 4 }
     ensures accepted { refused_insertion three 3 ≡ None }
     ensures place { refused_insertion (record three { next_id = 0xFFFF_FFFF_FFFF_FFFF }) 4 ≡ Some faults.Place }
     ensures no_source { refused_copy three 3 three 3 ≡ Some faults.Place }
     ensures copy_spent { refused_copy (record three { next_id = 0xFFFF_FFFF_FFFF_FFFF }) 3 three 2 ≡ Some faults.Spent }
+    ensures no_bit { refused_show_bit three 2 ≡ Some faults.NoBit }
+    ensures no_packet { refused_show_bit three 3 ≡ Some faults.Place }
     ensures spent { refused_replacement (record three { next_id = 0xFFFF_FFFF_FFFF_FFFF }) 2 ≡ Some faults.Spent }
     ensures last_id { refused_push (record three { next_id = 0xFFFF_FFFF_FFFF_FFFE }) (record { stamp = 0; bytes = [] } ∷ []) ≡ None }
     ensures one_too_many { refused_push (record three { next_id = 0xFFFF_FFFF_FFFF_FFFE }) (record { stamp = 0; bytes = [] } ∷ record { stamp = 0; bytes = [] } ∷ []) ≡ Some faults.Spent }

@@ -1,4 +1,4 @@
-ghost use Rattle.std.specs.Prelude.{◌≡◌, ◌+◌, ◌^◌, ◌++◌, ◌<◌, ◌≤◌, [], IfOk, IfSome, OnOk, Some, is_ok, if◌then◌else◌, length, option_map, slice_get};
+ghost use Rattle.std.specs.Prelude.{◌≡◌, ◌+◌, ◌^◌, ◌++◌, ◌<◌, ◌≤◌, [], Err, IfErr, IfOk, IfSome, None, OnOk, Some, is_ok, if◌then◌else◌, length, option_map, slice_get};
 ghost use Rattle.std.specs.Io.KnownBytes.{Appends};
 ghost use Rattle.packet_edits.specs.Edits.{numbered};
 ghost use Rattle.packet_edits.specs.Faults.{IsFirstOrNoMemory, unless_refused};
@@ -14,6 +14,7 @@ use crate::saving::{write_padded_records, write_records};
 use chunked_list::ChunkedList;
 use frame_header::key_size;
 use pixel_planes::NoMemory;
+use show_bits::{ShowFault, with_show_bit};
 use std::alloc::Global;
 use std::io::Write;
 use std::marker::Model;
@@ -25,7 +26,7 @@ const SPENT_ID: u64 = u64::MAX;
 /// The packets of a stream, at most 1,048,576, and the id of the next inserted packet.
 ///
 /// A refused edit changes nothing. Indexes are counted from 0. Only `push_all`, `insert`,
-/// `copy_from` and `copy_within` allocate.
+/// `copy_from`, `copy_within` and `set_show_bit` allocate.
 #[derive(Drop)]
 pub struct Store {
     alloc: Global,
@@ -47,7 +48,7 @@ impl Model for Store {
 }
 
 impl Store {
-    ghost use Rattle.packet_edits.specs.Edits.{copied, deleted, inserted, pushed, refused_copy, refused_deletion, refused_id, refused_insertion, refused_move, refused_push, refused_replacement, replaced, starting, with_move};
+    ghost use Rattle.packet_edits.specs.Edits.{copied, deleted, inserted, pushed, refused_copy, refused_deletion, refused_id, refused_insertion, refused_move, refused_push, refused_replacement, refused_show_bit, replaced, showing, starting, with_move, with_show_bit_at};
     ghost use Rattle.packet_edits.specs.Laws.{HasOwnIds};
     ghost use Rattle.packet_edits.specs.Marks.{marked_at, marks_deleted, marks_inserted, marks_moved, marks_replaced, unmarked_at};
     ghost use Rattle.packet_edits.specs.Saved.{packet_of, packets_of, padded_packets_of};
@@ -224,6 +225,44 @@ impl Store {
         self.entries.move_to(from as usize, to as usize);
         move_marked(&mut self.marks, from as usize, to as usize);
         Ok(())
+    }
+
+    /// Sets the show bit of the packet at index `at`, or clears it, in a copy of its bytes. The packet keeps its id, its time
+    /// stamp and its mark, and no other packet is marked.
+    ///
+    /// Errors, in this order: `Place` if there is no packet at the index, `NoBit` if it has fewer than 3 bytes, and `NoMemory`.
+    pub fn set_show_bit(&mut self, at: u64, shown: bool) -> Result<(), EditFault>
+        ensures answers { IsFirstOrNoMemory (refused_show_bit self.old.list at) result }
+        ensures after { self.new.list ≡ (if is_ok result then with_show_bit_at at shown self.old.list else self.old.list) }
+        ensures marks { self.new.marks ≡ self.old.marks }
+    {
+        if at >= self.entries.len() as u64 {
+            return Err(EditFault::Place);
+        }
+        let place = at as usize;
+        let entry = self.showing(place, shown)?;
+        self.index.set(place, entry.bytes.as_slice());
+        self.entries.set(place, entry);
+        Ok(())
+    }
+
+    /// The packet at index `i`, which exists, with its show bit set or cleared.
+    fn showing(&self, i: usize, shown: bool) -> Result<Entry, EditFault>
+        requires { i < length self.now.list.entries }
+        ensures copy { IfOk result (λ entry. option_map (showing shown) (slice_get self.now.list.entries i) ≡ Some entry) }
+        ensures allowed { OnOk result (refused_show_bit self.now.list i ≡ None) }
+        ensures refused { IfErr result (λ fault. IsFirstOrNoMemory (refused_show_bit self.now.list i) (Err fault)) }
+    {
+        let entry = self.entries.get(i);
+        match with_show_bit(self.alloc, entry.bytes.as_slice(), shown) {
+            Ok(bytes) => Ok(Entry {
+                id: entry.id,
+                stamp: entry.stamp,
+                bytes: Bytes::new(bytes),
+            }),
+            Err(ShowFault::NoBit) => Err(EditFault::NoBit),
+            Err(ShowFault::NoMemory) => Err(EditFault::NoMemory),
+        }
     }
 
     /// Whether these packets may be appended: `Full` or `Spent` if not, in this order.

@@ -22,7 +22,7 @@ Asks (Bytes ∷ kinds) request = (bytes : List ℕ) → Asks kinds (request byte
 
 abbrev FormAsks : Form → Type 0
 FormAsks (Words kinds request) = Asks kinds request
-FormAsks (Text request) = (text : List ℕ) → is_unknown (request text) ≡ false
+FormAsks (Text alone request) = (is_unknown alone ≡ false) × ((text : List ℕ) → is_unknown (request text) ≡ false)
 
 abbrev AllAsk : List Command → Type 0
 AllAsk [] = Unit {0}
@@ -44,13 +44,13 @@ words_exact (Number ∷ kinds) request words asks =
 words_exact (Bytes ∷ kinds) request words asks =
     value_exact (first_bytes words) (λ bytes. read_words kinds (request bytes) (drop 1 words)) (λ bytes. words_exact kinds (request bytes) (drop 1 words) (asks bytes))
 
-text_exact : (request : List ℕ → Line) (text : List ℕ) (words : List (List ℕ)) → is_unknown (request text) ≡ false → IsExact (read_text request text words)
-text_exact request text [] asks = refl
-text_exact request text (word ∷ words) asks = sym asks
+text_exact : (alone : Line) (request : List ℕ → Line) (text : List ℕ) (words : List (List ℕ)) → is_unknown alone ≡ false → is_unknown (request text) ≡ false → IsExact (read_text alone request text words)
+text_exact alone request text [] asks_alone asks = sym asks_alone
+text_exact alone request text (word ∷ words) asks_alone asks = sym asks
 
 form_exact : (form : Form) (text : List ℕ) (words : List (List ℕ)) → FormAsks form → IsExact (read_form (Some form) text words)
 form_exact (Words kinds request) text words asks = words_exact kinds request words asks
-form_exact (Text request) text words asks = text_exact request text words (asks text)
+form_exact (Text alone request) text words asks = text_exact alone request text words asks.0 (asks.1 text)
 
 named_exact : (all : List Command) (name text : List ℕ) (words : List (List ℕ)) → AllAsk all → IsExact (read_form (form_in all name) text words)
 named_exact [] name text words asks = refl

@@ -7,9 +7,10 @@ use Rattle.std.specs.Result.{result_err, result_unwrap_or}
 use Rattle.std.specs.Str.{bytes_eq}
 use Rattle.text_words.specs.Words.{words_of, number_of, after_word}
 use Rattle.request_lines.specs.HexWords.{bytes_of}
-use Rattle.request_lines.specs.declared.edit.Edit.TheVariants.{Insert, Replace, Delete, Move, Copy, Blank, Hold}
+use Rattle.request_lines.specs.declared.edit.Edit.TheVariants.{Insert, Replace, Delete, Move, Copy, Blank, Hold, ShowBit}
 use Rattle.request_lines.specs.declared.lines.Line.{Line}
-use Rattle.request_lines.specs.declared.lines.Line.TheVariants.{Silent, Unknown, Frame, Use, Edit, Script, Count, Stats}
+use Rattle.request_lines.specs.declared.lines.Line.TheVariants.{Silent, Unknown, Frame, Use, Edit, Script, Count, Stats, Ask}
+use Rattle.request_lines.specs.declared.question.Question.TheVariants as questions
 use Rattle.request_lines.specs.declared.misfit.Misfit.{Misfit}
 use Rattle.request_lines.specs.declared.misfit.Misfit.TheVariants.{NoRequest, Missing, TooMany, NoNumber, OddDigits, NoBytes}
 
@@ -24,10 +25,10 @@ Taking [] = Line
 Taking (Number ∷ kinds) = ℕ → Taking kinds
 Taking (Bytes ∷ kinds) = List ℕ → Taking kinds
 
--- what follows a command: words of these kinds and no others, or a text of one word or more
+-- what follows a command: words of these kinds and no others, or a text; without a word it makes the first request
 pub data Form : Type 0 where
   Words : (kinds : List Kind) → Taking kinds → Form
-  Text : (List ℕ → Line) → Form
+  Text : Line → (List ℕ → Line) → Form
 
 -- a command, what follows it, and the request that they make
 pub record Command : Type 0 where
@@ -37,21 +38,29 @@ pub record Command : Type 0 where
 abbrev pub command : List ℕ → Form → Command
 command name form = record { name = name; form = form }
 
-abbrev pub commands : List Command
-commands =
-    command (codes "frame") (Words (Number ∷ []) Frame)
-    ∷ command (codes "use") (Words (Number ∷ []) Use)
-    ∷ command (codes "insert") (Words (Number ∷ Number ∷ Bytes ∷ []) (λ at stamp bytes. Edit (Insert at stamp bytes)))
+-- the edits
+abbrev pub edit_commands : List Command
+edit_commands =
+    command (codes "insert") (Words (Number ∷ Number ∷ Bytes ∷ []) (λ at stamp bytes. Edit (Insert at stamp bytes)))
     ∷ command (codes "replace") (Words (Number ∷ Bytes ∷ []) (λ at bytes. Edit (Replace at bytes)))
     ∷ command (codes "delete") (Words (Number ∷ []) (λ at. Edit (Delete at)))
     ∷ command (codes "move") (Words (Number ∷ Number ∷ []) (λ from to. Edit (Move from to)))
     ∷ command (codes "copy") (Words (Number ∷ Number ∷ Number ∷ []) (λ source from at. Edit (Copy source from at)))
     ∷ command (codes "blank") (Words (Number ∷ Number ∷ Number ∷ []) (λ at width height. Edit (Blank at width height)))
     ∷ command (codes "hold") (Words (Number ∷ []) (λ at. Edit (Hold at)))
-    ∷ command (codes "script") (Text Script)
+    ∷ command (codes "hide") (Words (Number ∷ []) (λ at. Edit (ShowBit at false)))
+    ∷ command (codes "show") (Words (Number ∷ []) (λ at. Edit (ShowBit at true)))
+    ∷ []
+
+abbrev pub commands : List Command
+commands =
+    command (codes "frame") (Words (Number ∷ []) Frame)
+    ∷ command (codes "use") (Words (Number ∷ []) Use)
+    ∷ command (codes "script") (Text (Ask questions.Script) Script)
     ∷ command (codes "count") (Words [] Count)
     ∷ command (codes "stats") (Words [] Stats)
-    ∷ []
+    ∷ command (codes "packet") (Words (Number ∷ []) (λ at. Ask (questions.Packet at)))
+    ∷ edit_commands
 
 -- the form of the first command with this name, if there is one
 abbrev pub form_in : List Command → List ℕ → Option Form
@@ -84,16 +93,16 @@ read_words [] request (word ∷ words) = Err (TooMany word)
 read_words (Number ∷ kinds) request words = with_value (first_number words) (λ n. read_words kinds (request n) (drop 1 words))
 read_words (Bytes ∷ kinds) request words = with_value (first_bytes words) (λ bytes. read_words kinds (request bytes) (drop 1 words))
 
--- the request of a text, which has these words, if it has one
-abbrev pub read_text : (List ℕ → Line) → List ℕ → List (List ℕ) → Result Line Misfit
-read_text request text [] = Err Missing
-read_text request text (word ∷ words) = Ok (request text)
+-- the request of a text, which has these words
+abbrev pub read_text : Line → (List ℕ → Line) → List ℕ → List (List ℕ) → Result Line Misfit
+read_text alone request text [] = Ok alone
+read_text alone request text (word ∷ words) = Ok (request text)
 
 -- the request of what follows a command, if it has its form
 abbrev pub read_form : Option Form → List ℕ → List (List ℕ) → Result Line Misfit
 read_form None text words = Err NoRequest
 read_form (Some (Words kinds request)) text words = read_words kinds request words
-read_form (Some (Text request)) text words = read_text request text words
+read_form (Some (Text alone request)) text words = read_text alone request text words
 
 -- the request of a text after the command with this name
 abbrev pub read_after : List ℕ → List ℕ → Result Line Misfit

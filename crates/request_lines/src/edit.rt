@@ -21,4 +21,6 @@ pub enum Edit<B = Bytes> {
     /// Inserts a packet that shows the last reference again at index `at`. Its size is the one of the last
     /// packet with a key tag before `at`. It has the time stamp of the packet before it, or 0.
     Hold { at: u64 },
+    /// Sets the show bit of the packet at index `at`, or clears it. The packet keeps its id and its time stamp.
+    ShowBit { at: u64, shown: bool },
 }

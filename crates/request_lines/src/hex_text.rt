@@ -1,14 +1,16 @@
 //! Bytes as hexadecimal digits in a request line.
 
-ghost use Rattle.std.specs.Prelude.{◌≡◌, IfOk, codes};
+ghost use Rattle.std.specs.Prelude.{◌≡◌, ◌∷◌, [], IfOk, OnOk, codes};
+ghost use Rattle.std.specs.Io.KnownBytes.{Appends};
 ghost use Rattle.std.specs.Str.{bytes_eq};
 ghost use Rattle.std.specs.List.{list_all};
-ghost use Rattle.hex.specs.Hex.{is_hex_digit};
-ghost use Rattle.request_lines.specs.HexWords.{bytes_of};
+ghost use Rattle.hex.specs.Hex.{encode_lower, is_hex_digit};
+ghost use Rattle.request_lines.specs.HexWords.{bytes_of, hex_word};
 
-use hex::decode;
+use hex::{decode, encode_to_slice};
 use pixel_planes::NoMemory;
 use std::alloc::Global;
+use std::io::{self, Write};
 use std::marker::Model;
 use stream_files::Bytes;
 
@@ -70,4 +72,34 @@ fn has_only_hex_digits(word: &[u8]) -> bool
     ensures { result ≡ list_all is_hex_digit word.now }
 {
     word.iter().all(|byte| byte.is_ascii_hexdigit())
+}
+
+/// The two digits of a byte.
+fn hex_digits(byte: u8) -> [u8; 2]
+    ensures { result ≡ encode_lower (byte ∷ []) }
+{
+    let mut digits = [0; 2];
+    let _ = encode_to_slice([byte], &mut digits);
+    digits
+}
+
+/// Writes two digits for each byte.
+fn write_digits<W: Write>(w: &mut W, bytes: &[u8]) -> io::Result<()>
+    ensures { OnOk result (Appends (W.contents w.old) (W.contents w.new) (encode_lower bytes.now)) }
+{
+    for byte in bytes {
+        let digits = hex_digits(*byte);
+        w.write_all(&digits)?;
+    }
+    Ok(())
+}
+
+/// Writes bytes as a word that `Hex::of_word` reads again: `-` for none, otherwise two hexadecimal digits for each byte.
+pub fn write_hex_word<W: Write>(w: &mut W, bytes: &[u8]) -> io::Result<()>
+    ensures { OnOk result (Appends (W.contents w.old) (W.contents w.new) (hex_word bytes.now)) }
+{
+    match bytes.split_first() {
+        None => w.write_all(b"-"),
+        Some(_) => write_digits(w, bytes),
+    }
 }

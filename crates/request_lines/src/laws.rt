@@ -1,10 +1,12 @@
 // Laws and worked lines, as functions without code.
-ghost use Rattle.std.specs.Prelude.{◌≡◌, ◌∷◌, [], None, Some, codes};
+ghost use Rattle.std.specs.Prelude.{◌≡◌, ◌∷◌, [], None, Some, codes, false, true};
 ghost use Rattle.request_lines.specs.declared.edit.Edit.TheVariants as edits;
 ghost use Rattle.request_lines.specs.declared.lines.Line.TheVariants as requests;
+ghost use Rattle.request_lines.specs.HexWords.{WordsAreReadBack, hex_word};
 ghost use Rattle.request_lines.specs.Lost.{lost_by};
 ghost use Rattle.request_lines.specs.Requests.{asked_by, misfit_of};
 ghost use Rattle.request_lines.specs.declared.misfit.Misfit.TheVariants as misfits;
+ghost use Rattle.request_lines.specs.declared.question.Question.TheVariants as questions;
 
 /// The requests of worked lines.
 #[tactic(auto, unfolding(hex::specs::Hex::decode_pairs))]
@@ -22,7 +24,10 @@ pub fn worked_lines()
     ensures count { asked_by (codes "count") ≡ requests.Count }
     ensures stats { asked_by (codes "stats") ≡ requests.Stats }
     ensures script { asked_by (codes "script trim 0 1 2; splice 1 0") ≡ requests.Script (codes " trim 0 1 2; splice 1 0") }
-    ensures no_script { asked_by (codes "script  ") ≡ requests.Unknown }
+    ensures script_alone { asked_by (codes "script  ") ≡ requests.Ask questions.Script }
+    ensures packet { asked_by (codes "packet 3") ≡ requests.Ask (questions.Packet 3) }
+    ensures hide { asked_by (codes "hide 4") ≡ requests.Edit (edits.ShowBit 4 false) }
+    ensures show { asked_by (codes "show 4") ≡ requests.Edit (edits.ShowBit 4 true) }
     ensures odd { asked_by (codes "insert 0 0 1") ≡ requests.Unknown }
     ensures wide { asked_by (codes "delete 18446744073709551616") ≡ requests.Unknown }
     ensures long { asked_by (codes "delete 000000000000000000001") ≡ requests.Unknown }
@@ -33,7 +38,6 @@ pub fn worked_lines()
 pub fn worked_misfits()
     ensures no_request { misfit_of (codes "play 1") ≡ Some misfits.NoRequest }
     ensures missing { misfit_of (codes "move 1") ≡ Some misfits.Missing }
-    ensures no_text { misfit_of (codes "script ") ≡ Some misfits.Missing }
     ensures too_many { misfit_of (codes "frame 1 2 x") ≡ Some (misfits.TooMany (codes "2")) }
     ensures no_number { misfit_of (codes "insert 1 b 0G") ≡ Some (misfits.NoNumber (codes "b")) }
     ensures odd_digits { misfit_of (codes "insert 1 2 0aF") ≡ Some (misfits.OddDigits (codes "0aF")) }
@@ -41,6 +45,18 @@ pub fn worked_misfits()
     ensures request { misfit_of (codes "copy 0 1 2") ≡ None }
     ensures comment { misfit_of (codes " # frame") ≡ None }
     ensures empty { misfit_of [] ≡ None }
+{}
+
+/// The word of bytes is read as these bytes.
+pub fn words_are_read_back()
+    ensures { WordsAreReadBack }
+{}
+
+/// The words of worked bytes.
+#[tactic(auto, unfolding(hex::specs::Hex::encode_with))]
+pub fn worked_words()
+    ensures none { hex_word [] ≡ codes "-" }
+    ensures two { hex_word (10 ∷ 249 ∷ []) ≡ codes "0af9" }
 {}
 
 /// The requests of worked lines for whose bytes there was no memory.

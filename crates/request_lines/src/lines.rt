@@ -1,12 +1,13 @@
 // Request lines, and how each is read by the form of its command.
 ghost use Rattle.std.specs.Prelude.{◌≡◌, [], Err, IfErr, IfOk, Ok, codes, drop, is_some};
 ghost use Rattle.text_words.specs.Words.{words_of};
-ghost use Rattle.request_lines.specs.Requests.{asked_by, first_bytes, first_number, is_unknown, misfit_of, no_bytes, read_after, read_of, read_words};
+ghost use Rattle.request_lines.specs.Requests.{asked_by, edit_commands, first_bytes, first_number, form_in, is_unknown, misfit_of, no_bytes, read_after, read_form, read_of, read_words};
 
 use crate::edit::Edit;
 use crate::hex_text::Hex;
 use crate::misfit::Misfit;
 use crate::part::Part;
+use crate::question::Question;
 use text_words::{next_word, number};
 
 /// A request line.
@@ -28,6 +29,8 @@ pub enum Line<'a> {
     Count,
     /// Reports the number of decoding steps made.
     Stats,
+    /// Answers a question. Nothing changes.
+    Ask(Question),
     /// A line for whose bytes there was no memory: refused as out of memory.
     Lost,
 }
@@ -86,9 +89,9 @@ fn ended<'a>(request: Line<'a>, rest: &'a [u8]) -> Result<Line<'a>, Misfit<'a>>
 /// The request of a line, or why it is not one: the first of its words that does not fit.
 ///
 /// A line without words, or whose first word begins with `#`, has no reply. The requests are
-/// `frame N`, `use K`, `insert AT STAMP HEX`, `replace AT HEX`, `delete AT`, `move FROM TO`,
-/// `copy S FROM AT`, `blank AT W H`, `hold AT`, `script TEXT`, `count` and `stats`. HEX is `-` or an even number of hexadecimal digits, TEXT is the rest of
-/// the line with at least one word, and the others are numbers.
+/// `frame N`, `use K`, `script TEXT`, `count`, `stats`, the questions `packet N` and `script`, and the edits `insert AT STAMP HEX`,
+/// `replace AT HEX`, `delete AT`, `move FROM TO`, `copy S FROM AT`, `blank AT W H`, `hold AT`, `hide N` and `show N`. HEX is `-`
+/// or an even number of hexadecimal digits, TEXT is the rest of the line with at least one word, and the others are numbers.
 pub fn read_line(line: &[u8]) -> Result<Line<'_>, Misfit<'_>>
     ensures { result ≡ read_of line.now }
 {
@@ -101,7 +104,24 @@ pub fn read_line(line: &[u8]) -> Result<Line<'_>, Misfit<'_>>
         frame_line(words)
     } else if command == b"use".as_slice() {
         use_line(words)
-    } else if command == b"insert".as_slice() {
+    } else if command == b"script".as_slice() {
+        script_line(words)
+    } else if command == b"count".as_slice() {
+        ended(Line::Count, words)
+    } else if command == b"stats".as_slice() {
+        ended(Line::Stats, words)
+    } else if command == b"packet".as_slice() {
+        packet_line(words)
+    } else {
+        read_edit(command, words)
+    }
+}
+
+/// The request of a command that edits, from the text after it.
+fn read_edit<'a>(command: &[u8], words: &'a [u8]) -> Result<Line<'a>, Misfit<'a>>
+    ensures { result ≡ read_form (form_in edit_commands command.now) words.now (words_of words.now) }
+{
+    if command == b"insert".as_slice() {
         insert_line(words)
     } else if command == b"replace".as_slice() {
         replace_line(words)
@@ -115,12 +135,10 @@ pub fn read_line(line: &[u8]) -> Result<Line<'_>, Misfit<'_>>
         blank_line(words)
     } else if command == b"hold".as_slice() {
         hold_line(words)
-    } else if command == b"script".as_slice() {
-        script_line(words)
-    } else if command == b"count".as_slice() {
-        ended(Line::Count, words)
-    } else if command == b"stats".as_slice() {
-        ended(Line::Stats, words)
+    } else if command == b"hide".as_slice() {
+        hide_line(words)
+    } else if command == b"show".as_slice() {
+        show_line(words)
     } else {
         Err(Misfit::NoRequest)
     }
@@ -147,6 +165,13 @@ fn use_line(words: &[u8]) -> Result<Line<'_>, Misfit<'_>>
 {
     let (source, rest) = next_number(words)?;
     ended(Line::Use(source), rest)
+}
+
+fn packet_line(words: &[u8]) -> Result<Line<'_>, Misfit<'_>>
+    ensures { result ≡ read_after (codes "packet") words.now }
+{
+    let (at, rest) = next_number(words)?;
+    ended(Line::Ask(Question::Packet { at }), rest)
 }
 
 fn insert_line(words: &[u8]) -> Result<Line<'_>, Misfit<'_>>
@@ -206,11 +231,25 @@ fn hold_line(words: &[u8]) -> Result<Line<'_>, Misfit<'_>>
     ended(Line::Edit(Edit::Hold { at }), rest)
 }
 
+fn hide_line(words: &[u8]) -> Result<Line<'_>, Misfit<'_>>
+    ensures { result ≡ read_after (codes "hide") words.now }
+{
+    let (at, rest) = next_number(words)?;
+    ended(Line::Edit(Edit::ShowBit { at, shown: false }), rest)
+}
+
+fn show_line(words: &[u8]) -> Result<Line<'_>, Misfit<'_>>
+    ensures { result ≡ read_after (codes "show") words.now }
+{
+    let (at, rest) = next_number(words)?;
+    ended(Line::Edit(Edit::ShowBit { at, shown: true }), rest)
+}
+
 fn script_line(text: &[u8]) -> Result<Line<'_>, Misfit<'_>>
     ensures { result ≡ read_after (codes "script") text.now }
 {
     match next_word(text) {
-        None => Err(Misfit::Missing),
+        None => Ok(Line::Ask(Question::Script)),
         Some(_) => Ok(Line::Script(Part::new(text))),
     }
 }

@@ -12,3 +12,4 @@ pub mod PlaneRows
 pub mod Applied
 pub mod Followed
 pub mod SameShown
+pub mod ReadBack

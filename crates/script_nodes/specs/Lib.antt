@@ -9,3 +9,4 @@ pub mod Scripts
 pub mod Rows
 pub mod Planes
 pub mod Laws
+pub mod Written

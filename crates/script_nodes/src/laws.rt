@@ -1,6 +1,9 @@
 //! Laws over the definitions of this crate: each is the contract of a function that does nothing.
 
+ghost use Rattle.std.specs.Prelude.{◌≡◌, [], ◌∷◌, codes};
+ghost use Rattle.script_nodes.specs.declared.nodes.Node.TheVariants as nodes;
 ghost use Rattle.script_nodes.specs.Laws.{TracesAreFollowed, WorkedSplice, WorkedFaults, WorkedWeights, RampsMeetTheirEnds, ShownSamplesAreSame};
+ghost use Rattle.script_nodes.specs.Written.{TextsAreReadBack, script_text};
 
 /// A frame of a script is the frame that its trace names, with the steps of the trace applied.
 pub fn traces_are_followed()
@@ -16,6 +19,17 @@ pub fn worked_splice()
 /// Texts that are not scripts.
 pub fn worked_faults()
     ensures { WorkedFaults }
+{}
+
+/// The text of a script is read as the same script.
+pub fn texts_are_read_back()
+    ensures { TextsAreReadBack }
+{}
+
+/// The texts of worked scripts.
+pub fn worked_texts()
+    ensures none { script_text [] ≡ codes "-" }
+    ensures two { script_text (nodes.Trim 0 3 7 ∷ nodes.Splice 1 0 ∷ []) ≡ codes "trim 0 3 7;splice 1 0" }
 {}
 
 /// Samples at weights.

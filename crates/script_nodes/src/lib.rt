@@ -12,6 +12,7 @@ mod reading;
 mod rows;
 mod scripts;
 mod traces;
+mod writing;
 
 pub use faults::{ApplyFault, CropOutside, ScriptFault};
 pub use nodes::{Area, Node, Ramp};

@@ -1,5 +1,6 @@
-ghost use Rattle.std.specs.Prelude.{◌≡◌, ℕ, ◌+◌, ◌<◌, ◌≤◌, [], List, Ok, IfOk, IfErr, IfSome, IfNone, None, Some, length, slice_index, slice_index_or};
+ghost use Rattle.std.specs.Prelude.{◌≡◌, ℕ, ◌+◌, ◌<◌, ◌≤◌, [], List, Ok, IfOk, IfErr, IfSome, IfNone, None, OnOk, Some, length, slice_index, slice_index_or};
 ghost use Rattle.std.specs.List.{All};
+ghost use Rattle.std.specs.Io.KnownBytes.{Appends};
 ghost use Rattle.script_nodes.specs.Nodes.{script_of};
 ghost use Rattle.script_nodes.specs.Faults.{RefusesText};
 ghost use Rattle.script_nodes.specs.Lengths.{lengths, script_length};
@@ -7,13 +8,16 @@ ghost use Rattle.script_nodes.specs.Frames.{frames, with_step, origin, traced};
 ghost use Rattle.script_nodes.specs.Shown.{IsFollowed};
 ghost use Rattle.script_nodes.specs.Traces.{IsStep};
 ghost use Rattle.script_nodes.specs.Scripts.{IsScript, Given, origin_of};
+ghost use Rattle.script_nodes.specs.Written.{script_text};
 
 use crate::faults::ScriptFault;
 use crate::nodes::{Node, count_of};
 use crate::reading::read_script;
 use crate::traces::{Step, Trace};
+use crate::writing::write_nodes;
 use arrayvec::ArrayVec;
 use std::alloc::Global;
+use std::io::{self, Write};
 use std::marker::Model;
 
 /// A script: at most 16 nodes, each of which uses sources and earlier nodes. The last one is served, or
@@ -135,6 +139,14 @@ impl Script {
             Ok(nodes) => Ok(Script { nodes }),
             Err(_) => Err(ScriptFault::NoMemory),
         }
+    }
+
+    /// Writes the text of the script, from which `parse` reads it again: `-` without nodes, otherwise one space between two words
+    /// and `;` between two nodes.
+    pub fn write_text<W: Write>(&self, w: &mut W) -> io::Result<()>
+        ensures { OnOk result (Appends (W.contents w.old) (W.contents w.new) (script_text self.now)) }
+    {
+        write_nodes(w, &self.nodes)
     }
 
     /// The number of frames that the script serves. `counts` has the number of frames of each source, at most

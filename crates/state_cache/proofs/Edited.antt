@@ -8,11 +8,14 @@ use Rattle.vp8_tables.specs.Tables.{TableEntries}
 use Rattle.frame_header.specs.Tags.{has_key_tag}
 use Rattle.stream_files.specs.declared.packets.Packet.{Packet}
 use Rattle.packet_edits.specs.declared.entry.Entry.{Entry}
-use Rattle.packet_edits.specs.Edits.{moved, numbered}
+use Rattle.packet_edits.specs.Edits.{moved, numbered, showing}
 use Rattle.packet_edits.specs.Marks.{StoreValue}
+use Rattle.show_bits.specs.Laws.{OnlyTheBitChanges}
+use Rattle.show_bits.specs.ShowBits.{with_show_bit}
+use Rattle.step_laws.specs.Hidden.{ShowBitKeepsSteps}
 use Rattle.state_cache.specs.declared.outcomes.Kept.{Kept}
-use Rattle.state_cache.specs.EditLaws.{EditsKeepCoherence, IsViewWithout, IsMarked, IsWithout, after_push, after_deletion, after_insertion, after_move, after_replacement, id_at}
-use Rattle.state_cache.specs.Views.{Before, CoherentFrom, Drops, Fits, IsCoherent, MarkedPacket, View, entering, failed, known, leaving, marked_packet, marked_packets, marked_packets_of, unknown}
+use Rattle.state_cache.specs.EditLaws.{EditsKeepCoherence, IsViewWithout, IsMarked, IsWithout, after_push, after_deletion, after_insertion, after_move, after_replacement, after_show_bit, id_at}
+use Rattle.state_cache.specs.Views.{Before, CoherentFrom, Drops, Fits, Follows, IsCoherent, MarkedPacket, View, entering, failed, known, leaving, left_known, marked_packet, marked_packets, marked_packets_of, stepped, unknown}
 use Rattle.state_cache.proofs.Known.{Below, drops_same, weaker}
 use Rattle.state_cache.proofs.Marked.{get_seen, mark_set, seens_set}
 use Rattle.state_cache.proofs.Steps.{marked_any}
@@ -107,6 +110,10 @@ below_same : (b : Before) → Below b b
 below_same unknown = tt
 below_same (known state) = refl
 below_same failed = refl
+
+-- a packet with its show bit set or cleared
+abbrev showing_packet : Bool → MarkedPacket → MarkedPacket
+showing_packet shown p = record { id = p.id; bytes = with_show_bit shown p.bytes; marked = p.marked }
 
 module _ (tables : TableEntries) where
   -- the outcome cached for a packet fits it, whatever is known before it
@@ -290,5 +297,55 @@ module _ (tables : TableEntries) where
   move_coherent store kept from to marked f =
       move_case store.list.entries store.marks (slice_set (slice_set store.marks from true) (from + 1) true) from to kept (slice_get store.list.entries from) marked refl refl f
 
-  pub coherence_kept : EditsKeepCoherence tables
-  coherence_kept = record { pushes = push_coherent; insertions = insertion_coherent; replacements = replacement_coherent; deletions = deletion_coherent; moves = move_coherent }
+  -- a packet whose show bit is set or cleared: its step is the same
+  module _ (bits : OnlyTheBitChanges) (steps : ShowBitKeepsSteps) where
+    stepped_same : (b : Before) (shown : Bool) (bytes : List ℕ) → stepped tables b (with_show_bit shown bytes) ≡ stepped tables b bytes
+    stepped_same unknown shown bytes = refl
+    stepped_same (known state) shown bytes = ap left_known (steps tables state shown bytes)
+    stepped_same failed shown bytes = refl
+
+    leaving_same : (b : Before) (shown : Bool) (bytes : List ℕ) (o : Option Kept) → leaving tables b (with_show_bit shown bytes) o ≡ leaving tables b bytes o
+    leaving_same b shown bytes None = stepped_same b shown bytes
+    leaving_same b shown bytes (Some outcome) = refl
+
+    follows_same : (b : Before) (shown : Bool) (bytes : List ℕ) (outcome : Kept) → Follows tables b bytes outcome → Follows tables b (with_show_bit shown bytes) outcome
+    follows_same unknown shown bytes outcome f = tt
+    follows_same (known state) shown bytes outcome f = steps tables state shown bytes ∙ f
+    follows_same failed shown bytes outcome f = f
+
+    fits_same : (b : Before) (shown : Bool) (bytes : List ℕ) (o : Option Kept) → Fits tables b bytes o → Fits tables b (with_show_bit shown bytes) o
+    fits_same b shown bytes None f = tt
+    fits_same b shown bytes (Some outcome) f = follows_same b shown bytes outcome f
+
+    first_showing : (b : Before) (p : MarkedPacket) (ps : List MarkedPacket) (shown : Bool) (kept : View) → CoherentFrom tables b (p ∷ ps) kept → CoherentFrom tables b (showing_packet shown p ∷ ps) kept
+    first_showing b p ps shown kept f =
+        let bytes : List ℕ = with_show_bit shown p.bytes in
+        let enters : entering b p ≡ entering b (showing_packet shown p) = ap (λ (k : Bool). cond k (known None) (cond p.marked unknown b)) (sym (bits shown p.bytes).key_tag) in
+        let leaves : leaving tables (entering b p) p.bytes (kept p.id) ≡ leaving tables (entering b p) bytes (kept p.id) = sym (leaving_same (entering b p) shown p.bytes (kept p.id)) in
+        let P : Before → Type 0 = λ w. Fits tables w bytes (kept p.id) × CoherentFrom tables (leaving tables w bytes (kept p.id)) ps kept in
+        let there : P (entering b p) = (fits_same (entering b p) shown p.bytes (kept p.id) f.0, subst (λ (w : Before). CoherentFrom tables w ps kept) leaves f.1) in
+        subst P enters there
+
+    showing_coherent : (b : Before) (es : List Entry) (ms : List Bool) (at : ℕ) (shown : Bool) (entry : Entry) (kept : View) → slice_get es at ≡ Some entry → CoherentFrom tables b (marked_packets_of es ms) kept
+        → CoherentFrom tables b (marked_packets_of (slice_set es at (showing shown entry)) ms) kept
+    showing_coherent b [] ms at shown entry kept here f = cc
+    showing_coherent b (e ∷ es) [] zero shown entry kept here f =
+        let is : e ≡ entry = cc in
+        subst (λ (x : Entry). CoherentFrom tables b (marked_packet (showing shown x) false ∷ marked_packets_of es []) kept) is (first_showing b (marked_packet e false) (marked_packets_of es []) shown kept f)
+    showing_coherent b (e ∷ es) (m ∷ ms) zero shown entry kept here f =
+        let is : e ≡ entry = cc in
+        subst (λ (x : Entry). CoherentFrom tables b (marked_packet (showing shown x) m ∷ marked_packets_of es ms) kept) is (first_showing b (marked_packet e m) (marked_packets_of es ms) shown kept f)
+    showing_coherent b (e ∷ es) [] (suc at) shown entry kept here f =
+        (f.0, showing_coherent (leaving tables (entering b (marked_packet e false)) e.bytes (kept e.id)) es [] at shown entry kept here f.1)
+    showing_coherent b (e ∷ es) (m ∷ ms) (suc at) shown entry kept here f =
+        (f.0, showing_coherent (leaving tables (entering b (marked_packet e m)) e.bytes (kept e.id)) es ms at shown entry kept here f.1)
+
+    show_bit_coherent : (store : StoreValue) (kept : View) (at : ℕ) (shown : Bool) → IsCoherent tables (marked_packets store) kept → IsCoherent tables (marked_packets (after_show_bit at shown store)) kept
+    show_bit_coherent store kept at shown f = by_packet (slice_get store.list.entries at) refl
+      where
+        by_packet : (o : Option Entry) → slice_get store.list.entries at ≡ o → CoherentFrom tables (known None) (marked_packets_of (option_map_or (λ entry. slice_set store.list.entries at (showing shown entry)) o store.list.entries) store.marks) kept
+        by_packet None here = f
+        by_packet (Some entry) here = showing_coherent (known None) store.list.entries store.marks at shown entry kept here f
+
+    pub coherence_kept : EditsKeepCoherence tables
+    coherence_kept = record { pushes = push_coherent; insertions = insertion_coherent; replacements = replacement_coherent; deletions = deletion_coherent; moves = move_coherent; show_bits = show_bit_coherent }

@@ -1,10 +1,10 @@
 -- Outcomes are cached only for packets of the list, after every edit.
-use Rattle.std.proofs.Common.{◌≡◌, ℕ, zero, suc, ◌<◌, ◌≤◌, ◌⊎◌, inl, inr, false, List, [], ◌∷◌, ◌++◌, Option, Some, None, is_some, slice_get, slice_set, option_map, IsSome, refl, sym, ap, subst, ◌∙◌, arith}
+use Rattle.std.proofs.Common.{◌≡◌, ℕ, Bool, zero, suc, ◌<◌, ◌≤◌, ◌⊎◌, inl, inr, false, List, [], ◌∷◌, ◌++◌, Option, Some, None, is_some, slice_get, slice_set, option_map, IsSome, refl, sym, ap, subst, ◌∙◌, arith}
 use Rattle.std.specs.List.{insert, remove}
 use Rattle.std.specs.Option.{option_map_or}
 use Rattle.stream_files.specs.declared.packets.Packet.{Packet}
 use Rattle.packet_edits.specs.declared.entry.Entry.{Entry}
-use Rattle.packet_edits.specs.Edits.{Listing, deleted, inserted, numbered, pushed, replaced, with_move}
+use Rattle.packet_edits.specs.Edits.{Listing, deleted, inserted, numbered, pushed, replaced, showing, with_move, with_show_bit_at}
 use Rattle.packet_edits.specs.Laws.{HasOwnIds, HaveOwnIds}
 use Rattle.state_cache.specs.declared.outcomes.Kept.{Kept}
 use Rattle.state_cache.specs.EditLaws.{EditsKeepIds, IsViewWithout, LaterIdsAreNotCached, NextIdIsNotCached, AreOfPackets, id_at}
@@ -44,6 +44,14 @@ among_changed (x ∷ es) zero e y id h other (inl is) = let same : x ≡ y = cc 
 among_changed (x ∷ es) zero e y id h other (inr a) = inr a
 among_changed (x ∷ es) (suc i) e y id h other (inl is) = inl is
 among_changed (x ∷ es) (suc i) e y id h other (inr a) = inr (among_changed es i e y id h other a)
+
+-- a packet with the same id
+among_same : (es : List Entry) (i : ℕ) (e y : Entry) (id : ℕ) → slice_get es i ≡ Some y → e.id ≡ y.id → IsAmong id es → IsAmong id (slice_set es i e)
+among_same [] i e y id h same a = absurd a
+among_same (x ∷ es) zero e y id h same (inl is) = let here : x ≡ y = cc in inl (same ∙ sym (ap (λ (z : Entry). z.id) here) ∙ is)
+among_same (x ∷ es) zero e y id h same (inr a) = inr a
+among_same (x ∷ es) (suc i) e y id h same (inl is) = inl is
+among_same (x ∷ es) (suc i) e y id h same (inr a) = inr (among_same es i e y id h same a)
 
 -- the removed packet has the id, or one of the remaining packets
 further : (id n : ℕ) (x : Entry) (es : List Entry) → (id ≡ n) ⊎ IsAmong id es → (id ≡ n) ⊎ IsAmong id (x ∷ es)
@@ -127,8 +135,18 @@ moved_ids list kept from to (Some y) h s id some =
 move_ids : (list : Listing) (kept : View) (from to : ℕ) → AreOfPackets list kept → AreOfPackets (with_move from to list) kept
 move_ids list kept from to s = moved_ids list kept from to (slice_get list.entries from) refl s
 
+showing_ids : (list : Listing) (kept : View) (at : ℕ) (shown : Bool) (o : Option Entry) → slice_get list.entries at ≡ o → AreOfPackets list kept
+    → (id : ℕ) → IsSome (kept id) → (place : ℕ) × (option_map (λ (e : Entry). e.id) (slice_get (option_map_or (λ entry. slice_set list.entries at (showing shown entry)) o list.entries) place) ≡ Some id)
+showing_ids list kept at shown None h s id some = s id some
+showing_ids list kept at shown (Some y) h s id some =
+    let there = s id some in
+    at_among (slice_set list.entries at (showing shown y)) id (among_same list.entries at (showing shown y) y id h refl (among_at list.entries there.0 id there.1))
+
+show_bit_ids : (list : Listing) (kept : View) (at : ℕ) (shown : Bool) → AreOfPackets list kept → AreOfPackets (with_show_bit_at at shown list) kept
+show_bit_ids list kept at shown s = showing_ids list kept at shown (slice_get list.entries at) refl s
+
 pub ids_kept : EditsKeepIds
-ids_kept = record { pushes = push_ids; insertions = insertion_ids; replacements = replacement_ids; deletions = deletion_ids; moves = move_ids }
+ids_kept = record { pushes = push_ids; insertions = insertion_ids; replacements = replacement_ids; deletions = deletion_ids; moves = move_ids; show_bits = show_bit_ids }
 
 -- an id among packets is below the next one
 among_below : (next : ℕ) (es : List Entry) (id : ℕ) → HaveOwnIds next es → IsAmong id es → id < next

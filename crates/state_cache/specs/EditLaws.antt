@@ -1,9 +1,9 @@
 -- The cache stays coherent with the packets when they are edited.
-use Rattle.std.specs.Prelude.{◌≡◌, ℕ, ◌≤◌, List, length, slice_get, Option, Some, None, option_map, IsSome}
+use Rattle.std.specs.Prelude.{◌≡◌, ℕ, ◌≤◌, Bool, List, length, slice_get, Option, Some, None, option_map, IsSome}
 use Rattle.vp8_tables.specs.Tables.{TableEntries}
 use Rattle.stream_files.specs.declared.packets.Packet.{Packet}
 use Rattle.packet_edits.specs.declared.entry.Entry.{Entry}
-use Rattle.packet_edits.specs.Edits.{Listing, deleted, inserted, pushed, replaced, with_move}
+use Rattle.packet_edits.specs.Edits.{Listing, deleted, inserted, pushed, replaced, with_move, with_show_bit_at}
 use Rattle.packet_edits.specs.Laws.{HasOwnIds}
 use Rattle.packet_edits.specs.Marks.{StoreValue, marks_deleted, marks_inserted, marks_moved, marks_pushed, marks_replaced}
 use Rattle.state_cache.specs.Costs.{IsIdOf}
@@ -24,6 +24,9 @@ after_deletion at store = record { list = deleted at store.list; marks = marks_d
 
 abbrev pub after_move : ℕ → ℕ → StoreValue → StoreValue
 after_move from to store = record { list = with_move from to store.list; marks = marks_moved from to store.marks }
+
+abbrev pub after_show_bit : ℕ → Bool → StoreValue → StoreValue
+after_show_bit at shown store = record store { list = with_show_bit_at at shown store.list }
 
 -- there are as many marks as packets
 abbrev pub IsMarked : StoreValue → Type 0
@@ -47,8 +50,8 @@ abbrev pub IsViewWithout : Option ℕ → View → View → Type 0
 IsViewWithout (Some id) old new = IsWithout id old new
 IsViewWithout None old new = (q : ℕ) → new q ≡ old q
 
--- after each edit the cache is coherent with the new packets and marks: the same view after packets are appended, an insertion
--- and a move, and the view without the removed packet after a replacement and a deletion. New packets get ids with no cached
+-- after each edit the cache is coherent with the new packets and marks: the same view after packets are appended, an insertion,
+-- a move and a change of a show bit, and the view without the removed packet after a replacement and a deletion. New packets get ids with no cached
 -- outcome
 pub record EditsKeepCoherence (tables : TableEntries) : Type 0 where
   pub pushes : (store : StoreValue) (kept : View) (packets : List Packet) → IsMarked store → ((id : ℕ) → store.list.next_id ≤ id → kept id ≡ None)
@@ -61,6 +64,8 @@ pub record EditsKeepCoherence (tables : TableEntries) : Type 0 where
       → IsCoherent tables (marked_packets store) old → IsCoherent tables (marked_packets (after_deletion at store)) new
   pub moves : (store : StoreValue) (kept : View) (from to : ℕ) → IsMarked store
       → IsCoherent tables (marked_packets store) kept → IsCoherent tables (marked_packets (after_move from to store)) kept
+  pub show_bits : (store : StoreValue) (kept : View) (at : ℕ) (shown : Bool)
+      → IsCoherent tables (marked_packets store) kept → IsCoherent tables (marked_packets (after_show_bit at shown store)) kept
 
 -- once any outcomes are dropped, the cache is still coherent
 abbrev pub DropsKeepCoherence : TableEntries → Type 0
@@ -73,6 +78,7 @@ pub record EditsKeepIds : Type 0 where
   pub replacements : (list : Listing) (old new : View) (at : ℕ) (bytes : List ℕ) → IsViewWithout (id_at list.entries at) old new → AreOfPackets list old → AreOfPackets (replaced at bytes list) new
   pub deletions : (list : Listing) (old new : View) (at : ℕ) → IsViewWithout (id_at list.entries at) old new → AreOfPackets list old → AreOfPackets (deleted at list) new
   pub moves : (list : Listing) (kept : View) (from to : ℕ) → AreOfPackets list kept → AreOfPackets (with_move from to list) kept
+  pub show_bits : (list : Listing) (kept : View) (at : ℕ) (shown : Bool) → AreOfPackets list kept → AreOfPackets (with_show_bit_at at shown list) kept
 
 -- if each packet has its own id and outcomes are cached only for packets of the list, none is cached for the next id
 abbrev pub NextIdIsNotCached : Type 0

@@ -26,10 +26,13 @@ pub fn keys_depend_on_nothing()
 {}
 
 /// After each edit the cache is coherent with the new packets and marks, once the outcomes of
-/// removed packets are dropped.
+/// removed packets are dropped. A packet keeps its outcome when its show bit is set or cleared.
 pub fn edits_keep_coherence(tables: &Tables)
     ensures { EditsKeepCoherence tables.now }
-{}
+{
+    show_bits::laws::only_the_show_bit_changes();
+    step_laws::laws::show_bits_keep_steps();
+}
 
 /// Once any outcomes are dropped, the cache is still coherent.
 pub fn drops_keep_coherence(tables: &Tables)

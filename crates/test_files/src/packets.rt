@@ -64,6 +64,8 @@ enum Edit {
     Copy(u64, u64),
     /// At an index, a packet of the same store.
     CopyWithin(u64, u64),
+    /// At an index, the show bit set or cleared.
+    ShowBit(u64, bool),
     /// Marks a packet.
     Mark(usize),
     /// Removes the mark of a packet.
@@ -128,6 +130,7 @@ fn make(alloc: Global, store: &mut Store, other: &Store, edit: Edit) -> Result<(
         Edit::Move(from, to) => store.move_to(from, to),
         Edit::Copy(at, from) => store.copy_from(at, other, from),
         Edit::CopyWithin(at, from) => store.copy_within(at, from),
+        Edit::ShowBit(at, shown) => store.set_show_bit(at, shown),
         Edit::Mark(place) => {
             mark_at(store, place);
             Ok(())
@@ -468,6 +471,91 @@ const REPLACEMENTS: &[Step] = &[
         rows: &[(5, 20, b""), NEW, OLD],
         shown: &[0, 2],
         marked: &[1, 2],
+    },
+];
+
+// A packet that is hidden or shown keeps its id, its time stamp and its mark, and no other packet is marked.
+#[test]
+fn packets_are_hidden_and_shown(rt: HostRuntime) -> Result<(), Fail> {
+    expect_case(&rt, rt.alloc(), &SHOW_BITS)
+}
+
+const SHOW_BITS: Case = Case {
+    first_id: 0,
+    other: &[],
+    packets: &[(30, SHOWN), (20, HIDDEN), (15, &[0xFF, 7, 8, 9]), (10, b"")],
+    checks: &[Check::Faults(WITHOUT_BITS), Check::Steps(HIDDEN_AND_SHOWN)],
+};
+
+const WITHOUT_BITS: &[(Edit, EditFault)] = &[
+    (Edit::ShowBit(3, false), EditFault::NoBit),
+    (Edit::ShowBit(3, true), EditFault::NoBit),
+    (Edit::ShowBit(4, false), EditFault::Place),
+    (Edit::ShowBit(LAST, true), EditFault::Place),
+];
+
+const NO_BYTES: Row = (3, 10, b"");
+
+const HIDDEN_AND_SHOWN: &[Step] = &[
+    Step {
+        edit: Edit::ShowBit(0, false),
+        answer: Ok(()),
+        rows: &[
+            (0, 30, HIDDEN),
+            (1, 20, HIDDEN),
+            (2, 15, &[0xFF, 7, 8, 9]),
+            NO_BYTES,
+        ],
+        shown: &[2, 3],
+        marked: &[],
+    },
+    Step {
+        edit: Edit::Mark(2),
+        answer: Ok(()),
+        rows: &[
+            (0, 30, HIDDEN),
+            (1, 20, HIDDEN),
+            (2, 15, &[0xFF, 7, 8, 9]),
+            NO_BYTES,
+        ],
+        shown: &[2, 3],
+        marked: &[2],
+    },
+    Step {
+        edit: Edit::ShowBit(2, false),
+        answer: Ok(()),
+        rows: &[
+            (0, 30, HIDDEN),
+            (1, 20, HIDDEN),
+            (2, 15, &[0xEF, 7, 8, 9]),
+            NO_BYTES,
+        ],
+        shown: &[3],
+        marked: &[2],
+    },
+    Step {
+        edit: Edit::ShowBit(1, true),
+        answer: Ok(()),
+        rows: &[
+            (0, 30, HIDDEN),
+            (1, 20, SHOWN),
+            (2, 15, &[0xEF, 7, 8, 9]),
+            NO_BYTES,
+        ],
+        shown: &[1, 3],
+        marked: &[2],
+    },
+    Step {
+        edit: Edit::ShowBit(1, true),
+        answer: Ok(()),
+        rows: &[
+            (0, 30, HIDDEN),
+            (1, 20, SHOWN),
+            (2, 15, &[0xEF, 7, 8, 9]),
+            NO_BYTES,
+        ],
+        shown: &[1, 3],
+        marked: &[2],
     },
 ];
 

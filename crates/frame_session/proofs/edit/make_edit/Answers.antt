@@ -1,6 +1,6 @@
 use Rattle.std.proofs.Common.{subst}
 use Rattle.packet_edits.specs.Marks.{StoreValue}
-use Rattle.request_lines.specs.declared.edit.Edit.TheVariants.{Insert, Replace, Delete, Move, Blank, Hold}
+use Rattle.request_lines.specs.declared.edit.Edit.TheVariants.{Insert, Replace, Delete, Move, Blank, Hold, ShowBit}
 use Rattle.frame_session.specs.Cached.{lists_of}
 use Rattle.frame_session.specs.Edits.{EditAnswers}
 use Rattle.frame_session.proofs.Stores.{edited_here, found}
@@ -53,6 +53,14 @@ returns-in-Hold-clause-returned c =
 pub returns-in-Hold-clause-after : goal.returns-in-Hold-clause-after
 returns-in-Hold-clause-after c =
     rw c.in-Hold.is (edited_here c.args.tables.now c.args.current (Hold c.in-Hold.at) c.args.stores.now c.index-stores-current-in-Hold.result c.insert_hold.new.list c.insert_hold.result c.requires (c.insert_hold.ensures.after (lists_of c.args.stores.now)) c.insert_hold.ensures.marks)
+
+pub returns-in-ShowBit-clause-returned : goal.returns-in-ShowBit-clause-returned
+returns-in-ShowBit-clause-returned c =
+    rw c.in-ShowBit.is (subst (λ (s : StoreValue). EditAnswers c.args.tables.now (lists_of c.args.stores.now) s.list (ShowBit c.in-ShowBit.at c.in-ShowBit.shown) c.set_show_bit.result) ((found c.args.stores.now c.args.current c.index-stores-current-in-ShowBit.result c.requires)) (c.set_show_bit.ensures.returned c.args.tables.now (lists_of c.args.stores.now)))
+
+pub returns-in-ShowBit-clause-after : goal.returns-in-ShowBit-clause-after
+returns-in-ShowBit-clause-after c =
+    rw c.in-ShowBit.is (edited_here c.args.tables.now c.args.current (ShowBit c.in-ShowBit.at c.in-ShowBit.shown) c.args.stores.now c.index-stores-current-in-ShowBit.result c.set_show_bit.new.list c.set_show_bit.result c.requires (c.set_show_bit.ensures.after c.args.tables.now (lists_of c.args.stores.now)) c.set_show_bit.ensures.marks)
 
 pub returns-in-Copy-clause-returned : goal.returns-in-Copy-clause-returned
 returns-in-Copy-clause-returned c = rw c.in-Copy.is (c.copy.ensures.returned c.args.tables.now)

@@ -1,4 +1,5 @@
 use Rattle.std.proofs.Common.{None, [], inr, ap, refl}
+use Rattle.frame_session.proofs.Asked.{no_question}
 use Rattle.std.proofs.KnownBytes.{Appends-nil}
 use Rattle.std.proofs.lemmas.Result.{on_ok_weaker}
 use Rattle.request_lines.specs.declared.lines.Line.TheVariants as requests
@@ -90,6 +91,18 @@ returns-in-Stats-clause-frame_first g c =
     let f = g.F.Write.contents c.args.frames.now in
     rw c.in-Stats.is (inr (serves_reply c.args.session.now.now f f None None requests.Stats _ (refl, refl) tt))
 
+pub returns-in-Ask-clause-serves : goal.returns-in-Ask-clause-serves
+returns-in-Ask-clause-serves g c =
+    let f = g.F.Write.contents c.args.frames.now in
+    let r = g.P.Write.contents c.args.replies.now in
+    let r' = g.P.Write.contents c.answer.new.w in
+    rw c.in-Ask.is (on_ok_weaker c.answer.result (λ said. serves_reply c.args.session.now.now f f r r' (requests.Ask c.in-Ask.question) _ (refl, refl) said) c.answer.ensures.wrote)
+
+pub returns-in-Ask-clause-frame_first : goal.returns-in-Ask-clause-frame_first
+returns-in-Ask-clause-frame_first g c =
+    let f = g.F.Write.contents c.args.frames.now in
+    rw c.in-Ask.is (inr (serves_reply c.args.session.now.now f f None None (requests.Ask c.in-Ask.question) _ (refl, refl) tt))
+
 pub returns-in-Lost-clause-serves : goal.returns-in-Lost-clause-serves
 returns-in-Lost-clause-serves g c =
     let f = g.F.Write.contents c.args.frames.now in
@@ -101,3 +114,15 @@ pub returns-in-Lost-clause-frame_first : goal.returns-in-Lost-clause-frame_first
 returns-in-Lost-clause-frame_first g c =
     let f = g.F.Write.contents c.args.frames.now in
     rw c.in-Lost.is (inr (serves_reply c.args.session.now.now f f None None requests.Lost _ (refl, refl) tt))
+
+pub returns-in-Frame-clause-question : goal.returns-in-Frame-clause-question
+returns-in-Frame-clause-question g c = λ asked. absurd (no_question _ _ c.in-Frame.is refl asked)
+
+pub returns-in-Use-clause-question : goal.returns-in-Use-clause-question
+returns-in-Use-clause-question g c = λ asked. absurd (no_question _ _ c.in-Use.is refl asked)
+
+pub returns-in-Edit-clause-question : goal.returns-in-Edit-clause-question
+returns-in-Edit-clause-question g c = λ asked. absurd (no_question _ _ c.in-Edit.is refl asked)
+
+pub returns-in-Script-clause-question : goal.returns-in-Script-clause-question
+returns-in-Script-clause-question g c = λ asked. absurd (no_question _ _ c.in-Script.is refl asked)

@@ -1,0 +1,8 @@
+/// A question about a session: its answer changes nothing. Indices are counted from 0.
+#[derive(Clone, Copy, Debug, PartialEq, Eq)]
+pub enum Question {
+    /// The time stamp and the bytes of the packet at index `at` of the current source.
+    Packet { at: u64 },
+    /// The current script.
+    Script,
+}
