@@ -154,6 +154,12 @@ class Input:
             place += len(data)
             yield data
 
+    def whole(self):
+        """The bytes of the whole file; those of an empty stream if there is none."""
+        if self.path == "-":
+            return ivf.EMPTY.text(0)
+        return os.pread(self.opened(), os.fstat(self.opened()).st_size, 0)
+
     def close(self):
         if self.descriptor is not None:
             os.close(self.descriptor)

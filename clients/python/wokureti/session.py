@@ -3,6 +3,7 @@
 from __future__ import annotations
 
 import os
+import pathlib
 import threading
 import time
 from typing import Any, Callable, Iterable, Iterator, NamedTuple, Optional, Union
@@ -12,6 +13,7 @@ from .edits import REPLIES, EditList, words_of
 from .errors import Ended, Refused
 from .frames import Frame, frame_of
 from .inputs import Inputs
+from .library import CACHE, Library
 from .pipes import Gone, Late, Pipes, Strange
 from .scripts import Script
 
@@ -44,6 +46,9 @@ class Session:
     `timeout` is the number of seconds that a call may take, if it gives none of its own. With `explain` the program says why it refuses
     a request, in `Refused.reason`.
 
+    With `engine="library"` there is no program: the same proved code answers in this process, from `libwokureti.so.0`, without a pipe. It
+    takes no `cache_bytes`, and a call that takes too long is left to its thread, and the session is over.
+
     Threads may share a session: a call waits until the one before it has its reply and its picture. What leaves a call in the middle, as
     an exception of a signal's handler, or a call that takes too long, ends the session, since the reply would be taken for the next
     one's. From then on each call raises `Ended`. A session that is not closed ends when it is collected, and when Python ends; nothing
@@ -66,6 +71,7 @@ class Session:
         cache_bytes: Optional[int] = None,
         anyway: bool = False,
         resume: Optional[EditList] = None,
+        engine: str = "program",
     ) -> None:
         # Called with the line of each edit that was accepted, also with those of `undo` and `redo`.
         self.on_edit: Optional[Callable[[str], None]] = None
@@ -83,7 +89,7 @@ class Session:
             if edits is not None:
                 checks.outputs(edits, [*self._inputs.paths, *(path for path in (save, tables) if path is not None)], "edits")
             self._edits = EditList(self, edits, anyway)
-            self._pipes = Pipes(words, self._inputs.shared)
+            self._pipes = Pipes(words, self._inputs.shared) if engine == "program" else self._library(engine, cache, cache_bytes, tables, save, pad)
         except BaseException:
             self._close_files()
             raise
@@ -112,6 +118,21 @@ class Session:
         if cache_bytes is not None or cache is None:
             words += ["--cache-bytes", str(checks.number(MOST_CACHED if cache_bytes is None else cache_bytes))]
         return words + ["--pad"] * bool(pad) + ["--explain"] * bool(self._explain)
+
+    def _library(self, engine, cache, cache_bytes, tables, save, pad):
+        """The session in this process, over the bytes of the files as they were opened."""
+        if engine != "library":
+            raise ValueError(f'the engine is {engine!r}, but must be "program" or "library"')
+        if cache_bytes is not None:
+            raise ValueError("the library does not take cache_bytes: use the program")
+        if save is not None:
+            checks.outputs(save, [*self._inputs.paths, *([] if tables is None else [tables])], "save")
+        files = [item.whole() for item in self._inputs.all]
+        states = CACHE if cache is None else checks.states(cache)
+        try:
+            return Library(files, states, b"" if tables is None else pathlib.Path(tables).read_bytes(), None if save is None else checks.path(save), pad, self._explain)
+        except Gone as error:
+            raise Ended(2, str(error)) from None
 
     def _close_files(self):
         if self._edits is not None:

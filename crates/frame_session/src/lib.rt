@@ -19,7 +19,7 @@ pub use live::{LiveFault, run_live, run_live_over};
 pub use observer::{Observer, Unobserved};
 pub use refusal::Refusal;
 pub use request_lines::Edit;
-pub use serving::{RunFault, run, run_over};
+pub use serving::{RunFault, answer_line, run, run_over};
 pub use session::{ExportFault, Session};
 pub use settings::Settings;
 pub use size::Size;

@@ -5,6 +5,7 @@ ghost use Rattle.frame_session.specs.declared.refusal.Refusal.{Refusal};
 ghost use Rattle.frame_session.specs.Questions.{is_question};
 ghost use Rattle.frame_session.specs.Replies.{count_line, served_line};
 ghost use Rattle.frame_session.specs.Sessions.{frame_count, packet_count};
+ghost use Rattle.request_lines.specs.Requests.{asked_by};
 ghost use Rattle.frame_session.specs.ProofsOnly.{IsSourceRefused};
 ghost use Rattle.frame_session.specs.Told.{Tells};
 ghost use Rattle.frame_session.specs.Answers.{AreIvfs, Means, RunStops, Runs, Serves, Stops, WritesFrameFirst, opening, requests_of, texts_of};
@@ -212,6 +213,25 @@ pub(crate) fn serve_line<F: Write, P: Write>(
     let told = serve(session, line, frames, replies, flushing)?;
     flushing.flush(replies)?;
     Ok(told)
+}
+
+/// Answers one request line, without its newline, and flushes nothing. Returns the refusal that the reply reports, if it
+/// reports one.
+///
+/// An error if a writer returns one. No byte of the reply was written then, or all bytes of the frame were.
+pub fn answer_line<F: Write, P: Write>(
+    session: &mut Session,
+    line: &[u8],
+    frames: &mut F,
+    replies: &mut P,
+) -> Result<Option<Refusal>, WriteFault>
+    ensures serves { OnOk result (Serves session.old.now (asked_by line.now) (F.contents frames.old) (F.contents frames.new) (P.contents replies.old) (P.contents replies.new) session.new.now) }
+    ensures frame_first { WritesFrameFirst session.old.now (asked_by line.now) (F.contents frames.old) (F.contents frames.new) (P.contents replies.old) (P.contents replies.new) session.new.now }
+    ensures capacity { session.new.cache.capacity ≡ session.old.cache.capacity }
+    ensures told { IfOk result (Tells (P.contents replies.old) (P.contents replies.new)) }
+{
+    let request = read_line(line).unwrap_or(Line::Unknown);
+    serve_line(session, request, frames, replies, Flushing::AtEnd)
 }
 
 /// Answers all lines of a text.
