@@ -12,7 +12,7 @@ const REQUESTS: &str = "\
 play\r\nframe\nframe x\nframe 1 2\ninsert 0 0 zz\ninsert 0 0 abc\n\n# none\ndelete 18446744073709551616\nframe 0\ninsert 0 0 1100\nframe 0\nreplace 0 1000009D01\nframe 0\nuse 1\ndelete 7\nblank 0 0 16\nscript x\nscript\ncount 1";
 
 const REPLIES: &str = "\
-refused Line\nrefused Line\nrefused Line\nrefused Line\nrefused Line\nrefused Line\nrefused Line\nrefused NoSuchFrame\nok 1\nrefused packet 0 ShortPacket\nok 1\nrefused packet 0 ShortPacket\nrefused Source\nrefused Place\nrefused Size\nrefused Syntax\nrefused Line\nrefused Line\n";
+refused Line\nrefused Line\nrefused Line\nrefused Line\nrefused Line\nrefused Line\nrefused Line\nrefused NoSuchFrame\nok 1\nrefused packet 0 ShortPacket\nok 1\nrefused packet 0 ShortPacket\nrefused Source\nrefused Place\nrefused Size\nrefused Syntax\nscript -\nrefused Line\n";
 
 const EXPLANATIONS: &str = "\
 line 1: play: there is no such request
@@ -29,7 +29,6 @@ line 15: use: there is no such source
 line 16: delete: packet 7 does not exist: source 0 has 1 packets
 line 17: blank: width 0 is not 1 to 16383
 line 18: script: node 1: x is not source, trim, splice, crop or fade
-line 19: script: a word is missing
 line 20: count: 1 is one word too many
 ";
 
@@ -105,6 +104,27 @@ fn names_numbers(rt: HostRuntime) {
         OUTSIDE_TOLD,
         0,
     );
+}
+
+/// Packets that are asked for or hidden, and do not exist or have no show bit.
+#[test]
+fn explains_questions_and_show_bits(rt: HostRuntime) {
+    let requests =
+        "insert 0 0 -\ninsert 1 0 1100\nhide 0\nshow 1\nhide 2\npacket 2\nuse 1\npacket 0\nscript\npacket\n";
+    let replies =
+        "ok 1\nok 2\nrefused NoBit\nrefused NoBit\nrefused Place\nrefused Place\nok 0\nrefused Place\nscript -\nrefused Line\n";
+    let told = "\
+line 3: hide: the packet has no bytes: delete it instead, which changes no other frame
+line 4: show: the packet has 2 bytes, a show bit needs 3
+line 5: hide: packet 2 does not exist: source 0 has 2 packets
+line 6: packet: packet 2 does not exist: source 0 has 2 packets
+line 8: packet: packet 0 does not exist: source 1 has 0 packets
+line 10: packet: a word is missing
+";
+    let line = "vp8serve --explain --sources -";
+    expect(&rt, line, requests, replies, told, 0);
+    let line = "vp8serve --explain --live --sources -";
+    expect(&rt, line, requests, replies, told, 0);
 }
 
 /// The first node that is wrong, its number and its form.

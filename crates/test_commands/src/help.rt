@@ -64,7 +64,11 @@ Requests, a line each; the reply goes to standard output:
   copy S FROM AT        insert packet FROM of S at AT ok K
   blank AT W H          insert a grey W x H key frame ok K
   hold AT               insert a repeat of the frame  ok K
+  hide N                clear packet N's show bit     ok K
+  show N                set packet N's show bit       ok K
   script TEXT           edit the frames, see below    ok K
+  script                                              script TEXT
+  packet N                                            packet STAMP HEX
   count                                               packets K frames F
   stats                                               decoded D (packets so far)
 Packets, frames and sources are numbered from 0; source 0 is IN. Edits and K are
@@ -73,6 +77,7 @@ packet's time stamp, HEX its bytes as hexadecimal digits, or `-` for none. Empty
 lines and lines that begin with # have no reply.
 A refused edit changes nothing. The reply to a refused request gives the reason:
   refused Line | Source | Place | Full | Spent | Size | TooLarge | NoMemory
+  refused NoBit             the packet has under 3 bytes  (hide, show)
   refused Syntax | Nodes | Reference | Number             (script)
   refused NoSuchFrame | CropOutside | SizeDiffers         (frame)
   refused packet J CAUSE    packet J cannot be decoded    (frame)

@@ -9,6 +9,8 @@ mod files;
 #[cfg(test)]
 mod forged;
 #[cfg(test)]
+mod questions;
+#[cfg(test)]
 mod refusals;
 #[cfg(test)]
 mod scripts;

@@ -60,7 +60,7 @@ fn scripts_that_are_refused(rt: HostRuntime) -> Result<(), Fail> {
 const SCRIPTS_THAT_ARE_REFUSED: Run = Run {
     packets: &[KEY, INTER, INTER],
     requests: b"script trim 0 0 1\nscript blur 0\ncount\nscript trim 1 0 1\ncount\nscript crop 0 1 0 4 4\ncount\nscript\ncount\n",
-    replies: b"ok 3\nrefused Syntax\npackets 3 frames 1\nrefused Reference\npackets 3 frames 1\nrefused Number\npackets 3 frames 1\nrefused Line\npackets 3 frames 1\n",
+    replies: b"ok 3\nrefused Syntax\npackets 3 frames 1\nrefused Reference\npackets 3 frames 1\nrefused Number\npackets 3 frames 1\nscript trim 0 0 1\npackets 3 frames 1\n",
     frames: None,
 };
 
