@@ -499,6 +499,10 @@ class Writing(Case):
             with self.assertRaisesRegex(ValueError, "is a file of the session"):
                 session.save(clip("talk.webm"))
 
+    def test_what_the_program_saves_is_ivf(self):
+        with self.assertRaisesRegex(ValueError, "out.webm' is written by session.save"):
+            self.session(SMALL, save=self.folder() / "out.webm")
+
     def test_an_ivf_file_becomes_webm(self):
         room = self.folder()
         with self.session(SMALL) as session:

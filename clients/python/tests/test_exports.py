@@ -2,13 +2,12 @@
 
 import os
 import pathlib
-import sys
 import unittest
 from unittest import mock
 
 import test_containers
 import test_page
-from support import SMALL, Case, command, packets_of, write_packets
+from support import SMALL, Case, command, packets_of, serve, write_packets
 from test_containers import clip, frames, media, needs_ffmpeg, setUpModule, sound_packets  # noqa: F401
 from wokureti import convert, exports, ivf, opus, programs
 
@@ -75,7 +74,20 @@ class Places(Case):
         self.assertIn("has no option --export. Install a newer vp8serve", errors)
 
 
-@unittest.skipUnless(sys.platform == "linux", "a program stands for vp8serve")
+@unittest.skipUnless(exports.has_option(REAL, "--restamp"), "vp8serve has no --restamp")
+class Stamps(Case):
+    def test_the_program_has_the_same_new_stamps(self):
+        room = self.folder()
+        stream = write_packets(room / "in.ivf", packets_of(SMALL), 25)
+        for lines in ((), ("delete 3", "delete 3"), ("move 9 2", "hold 6", "copy 1 4 4"), ("copy 1 7 0", "replace 4 -", "insert 3 99 -")):
+            with self.session(stream, sources=[stream]) as session:
+                for line in lines:
+                    session.request(line)
+                session.save(room / "client.ivf", restamp=True)
+            serve(stream, lines, "--sources", stream, "--save", room / "program.ivf", "--restamp")
+            self.assertEqual(ivf.read_packets(room / "client.ivf")[1], ivf.read_packets(room / "program.ivf")[1], lines)
+
+
 class Ivf(Case):
     LIMIT = 60
 
