@@ -1,6 +1,7 @@
 // Starts the page.
 
 import { Curves } from "./curves.js";
+import { Adding } from "./adding.js";
 import { Cutting } from "./cutting.js";
 import { Editing, savedText } from "./editing.js";
 import { EditList } from "./edit_list.js";
@@ -42,6 +43,7 @@ timeline.ondraw = () => {
   curves.soon();
 };
 const cutting = new Cutting(model, editing, status);
+new Adding(model, status);
 editing.viewer = viewer;
 
 // Panels
