@@ -1110,6 +1110,13 @@ class MoreSources(PageCase):
         self.assertEqual(self.members("/session")["edits"], [])
         self.assertEqual(list_of(room / "one.edits"), "")
 
+    def test_a_list_without_edits_stays_quiet(self):
+        room = self.opened()
+        self.assertEqual(self.add(room / "two.ivf")[0], 200)
+        self.assertEqual(self.members("/session")["notices"], [])
+        self.step("delete 3")
+        self.assertEqual(list_of(room / "one.edits"), "delete 3\n")
+
     def test_what_cannot_be_added(self):
         room = self.opened("delete 3")
         for path in ("/etc/passwd", room / "notes.txt", room / ".hidden.ivf", room / "folder.ivf", f"{room}/../one.ivf", "two.ivf", ""):

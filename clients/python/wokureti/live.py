@@ -128,14 +128,16 @@ class Live:
         before."""
         with self.lock:
             before, edits = self.options, self.alive().edits
+            # A list without edits is removed when its session ends.
+            how = {"resume": edits} if edits.path is None or len(edits) or edits.undone else {"edits": edits.path}
             self.options = {**before, "sources": [*before.get("sources", ()), path]}
             self.drop_viewers()
             self.session.kill()
             try:
-                self.session = self.open(resume=edits)
+                self.session = self.open(**how)
             except (Ended, OSError, ValueError):
                 self.options = before
-                self.session = self.open(resume=edits)
+                self.session = self.open(**how)
                 raise
             finally:
                 self.forget()

@@ -2,6 +2,7 @@
 
 import { Curves } from "./curves.js";
 import { Adding } from "./adding.js";
+import { Cropping } from "./cropping.js";
 import { Cutting } from "./cutting.js";
 import { Editing, savedText } from "./editing.js";
 import { EditList } from "./edit_list.js";
@@ -44,6 +45,7 @@ timeline.ondraw = () => {
 };
 const cutting = new Cutting(model, editing, status);
 new Adding(model, status);
+new Cropping(model, cutting, viewer.picture, status);
 editing.viewer = viewer;
 
 // Panels
