@@ -181,6 +181,23 @@ class OnThePage(test_page.PageCase):
         self.assertEqual(len(media(room / "talk-edited.webm", self.folder())[0].sounds), 1)
 
 
+    @needs_ffmpeg
+    def test_frames_have_the_times_of_their_blocks(self):
+        room = self.folder()
+        self.serve(convert.as_ivf(clip("varied.webm"), str(room), is_quiet=True))
+        self.assertTrue(self.members("/session")["varies"])
+        stamps = [stamp for stamp, _ in ivf.read_packets(media(clip("varied.webm"), room)[1])[1]]
+        self.assertEqual(self.members("/times")["times"], [stamp - stamps[0] for stamp in stamps])
+        self.step("script trim 0 0 2")
+        self.assertFalse(self.members("/session")["varies"])
+        self.step("script trim 0 2 30")
+        self.assertEqual(self.members("/times")["times"], [stamp - stamps[2] for stamp in stamps[2:32]])
+
+    def test_frames_of_a_rate_have_no_times(self):
+        self.serve(SMALL)
+        self.assertEqual((self.members("/session")["varies"], self.members("/times")["times"]), (False, None))
+
+
 class Scripts(Case):
     def test_the_node_that_changes_samples(self):
         cases = {

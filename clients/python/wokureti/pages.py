@@ -80,6 +80,7 @@ class PageRoutes(Routes):
                 ("download",): self.download,
                 ("exported",): self.exported,
                 ("files",): self.list_files,
+                ("times",): self.times,
             }
         )
 
@@ -128,6 +129,7 @@ class PageRoutes(Routes):
             "packets": len(view.streams[0]),
             "frames": view.frames,
             "rate": list(view.rate),
+            "varies": view.times() is not None,
             "sources": [len(stream) for stream in view.streams],
             "source": view.source,
             "script": view.script,
@@ -522,6 +524,12 @@ class PageRoutes(Routes):
         keeps = self.live.keeps_stamps or not view.contents.is_edited(0, stream)
         pieces = self.text(view, 0) if keeps else view.contents.restamped(0, stream)
         return Response(200, "video/x-ivf", length=length, headers=self.attached(".ivf"), pieces=until_ended(pieces))
+
+    def times(self, request):
+        """When each frame begins, in milliseconds, if the rate varies."""
+        self.only(request)
+        view = self.live.current_view()
+        return as_json({"revision": view.revision, "times": view.times()})
 
     def list_files(self, request):
         """The streams that can be added."""
