@@ -21,7 +21,7 @@ def run(words, given=None):
 
 def export(words):
     import exports
-    from wokureti.views import origins
+    from wokureti.script_runs import origins
 
     place = words.index("--export")
     out, rest = words[place + 1], [word for word in words[:place] + words[place + 2 :] if word not in ("--explain", "--pad")]

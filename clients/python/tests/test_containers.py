@@ -499,6 +499,10 @@ class Writing(Case):
             with self.assertRaisesRegex(ValueError, "is a file of the session"):
                 session.save(clip("talk.webm"))
 
+    def test_what_the_program_saves_is_ivf(self):
+        with self.assertRaisesRegex(ValueError, "out.webm' is written by session.save"):
+            self.session(SMALL, save=self.folder() / "out.webm")
+
     def test_an_ivf_file_becomes_webm(self):
         room = self.folder()
         with self.session(SMALL) as session:
@@ -562,6 +566,28 @@ class Blocks(Case):
             self.assertLessEqual(len(made) - len(found), 3 * 9, (turn, hit))
             self.assertEqual([block for block in sound if abs(times[block[0], block[2]] - block[1]) > 120], [], (turn, hit))
             self.assertEqual([data for number, _, data in found if number == 1 and bytes(20) not in data and data not in packets_of(SMALL)], [])
+
+    def test_another_time_scale(self):
+        data, made = self.file()
+        place = data.index(bytes.fromhex("2ad7b188"))
+        data = data[: place + 4] + (MS // 10).to_bytes(8, "big") + data[place + 12 :]
+        self.assertEqual(self.found(data)[0], [(number, time // 10, data) for number, time, data in made])
+
+    @needs_ffmpeg
+    @unittest.skipUnless(shutil.which("mkvmerge"), "mkvmerge is not here")
+    def test_files_of_other_programs_are_whole(self):
+        room = self.folder()
+        for name in ("talk.webm", "vorbis.webm", "two.mkv"):
+            ffmpeg("-i", clip(name), "-map", "0", "-c", "copy", "-f", "matroska", "-cluster_time_limit", "500", "-live", "1", room / "live.mkv")
+            subprocess.run(["mkvmerge", "-q", "-o", room / "merged.mkv", clip(name)], check=True, timeout=20 * SLOW)
+            # Blocks with several packets: mkvmerge makes them of sound that is not in a WebM file.
+            ffmpeg("-i", clip(name), "-c:v", "copy", "-c:a", "ac3", room / "other.mkv")
+            subprocess.run(["mkvmerge", "-q", "-o", room / "laced.mkv", room / "other.mkv"], check=True, timeout=20 * SLOW)
+            wanted = packets_of(media(clip(name), room)[1])
+            for path in (clip(name), room / "live.mkv", room / "merged.mkv", room / "laced.mkv"):
+                found = blocks.find(path.read_bytes())
+                track = blocks.video_track(found)
+                self.assertEqual((found.gaps, [block.data for block in found.blocks if block.track == track]), ([], wanted), path.name)
 
     def test_half_of_a_file(self):
         data, made = self.file()

@@ -2,13 +2,12 @@
 
 import os
 import pathlib
-import sys
 import unittest
 from unittest import mock
 
 import test_containers
 import test_page
-from support import SMALL, Case, command, packets_of, write_packets
+from support import SMALL, Case, command, packets_of, serve, write_packets
 from test_containers import clip, frames, media, needs_ffmpeg, setUpModule, sound_packets  # noqa: F401
 from wokureti import convert, exports, ivf, opus, programs
 
@@ -75,7 +74,20 @@ class Places(Case):
         self.assertIn("has no option --export. Install a newer vp8serve", errors)
 
 
-@unittest.skipUnless(sys.platform == "linux", "a program stands for vp8serve")
+@unittest.skipUnless(exports.has_option(REAL, "--restamp"), "vp8serve has no --restamp")
+class Stamps(Case):
+    def test_the_program_has_the_same_new_stamps(self):
+        room = self.folder()
+        stream = write_packets(room / "in.ivf", packets_of(SMALL), 25)
+        for lines in ((), ("delete 3", "delete 3"), ("move 9 2", "hold 6", "copy 1 4 4"), ("copy 1 7 0", "replace 4 -", "insert 3 99 -")):
+            with self.session(stream, sources=[stream]) as session:
+                for line in lines:
+                    session.request(line)
+                session.save(room / "client.ivf", restamp=True)
+            serve(stream, lines, "--sources", stream, "--save", room / "program.ivf", "--restamp")
+            self.assertEqual(ivf.read_packets(room / "client.ivf")[1], ivf.read_packets(room / "program.ivf")[1], lines)
+
+
 class Ivf(Case):
     LIMIT = 60
 
@@ -167,6 +179,23 @@ class OnThePage(test_page.PageCase):
         self.assertEqual((room / "talk-edited.webm").read_bytes(), body)
         self.assertEqual([saved["saved"] for saved in self.members("/session")["saves"]], [True])
         self.assertEqual(len(media(room / "talk-edited.webm", self.folder())[0].sounds), 1)
+
+
+    @needs_ffmpeg
+    def test_frames_have_the_times_of_their_blocks(self):
+        room = self.folder()
+        self.serve(convert.as_ivf(clip("varied.webm"), str(room), is_quiet=True))
+        self.assertTrue(self.members("/session")["varies"])
+        stamps = [stamp for stamp, _ in ivf.read_packets(media(clip("varied.webm"), room)[1])[1]]
+        self.assertEqual(self.members("/times")["times"], [stamp - stamps[0] for stamp in stamps])
+        self.step("script trim 0 0 2")
+        self.assertFalse(self.members("/session")["varies"])
+        self.step("script trim 0 2 30")
+        self.assertEqual(self.members("/times")["times"], [stamp - stamps[2] for stamp in stamps[2:32]])
+
+    def test_frames_of_a_rate_have_no_times(self):
+        self.serve(SMALL)
+        self.assertEqual((self.members("/session")["varies"], self.members("/times")["times"]), (False, None))
 
 
 class Scripts(Case):

@@ -15,8 +15,12 @@ MS = 10**6
 SEGMENT, CLUSTER, GROUP = 0x18538067, 0x1F43B675, 0xA0
 TRACKS, ENTRY, TIME, SIMPLE, BLOCK = 0x1654AE6B, 0xAE, 0xE7, 0xA3, 0xA1
 INSIDE = (SEGMENT, CLUSTER, GROUP)
-OTHERS = (0x1A45DFA3, 0x114D9B74, 0x1549A966, 0x1254C367, 0x1C53BB6B, 0x1941A469, 0x1043A770, TRACKS, TIME, 0xA7, 0xAB, 0x9B, 0xFB, 0x75A1, 0x75A2, 0xA4, 0xEC, 0xBF)
-KNOWN = frozenset((*INSIDE, *OTHERS, SIMPLE, BLOCK))
+INFO, SCALE = 0x1549A966, 0x2AD7B1
+OF_FILE = (0x1A45DFA3, 0x114D9B74, INFO, 0x1254C367, 0x1C53BB6B, 0x1941A469, 0x1043A770, TRACKS)
+OF_CLUSTER = (TIME, 0xA7, 0xAB, 0x5854, 0xAF, 0x9B, 0xFA, 0xFB, 0xFD, 0x75A1, 0x75A2, 0xA2, 0xA4, 0x8E, 0xEC, 0xBF)
+KNOWN = frozenset((*INSIDE, *OF_FILE, *OF_CLUSTER, SIMPLE, BLOCK))
+# The bits of a block that say that it has several packets.
+LACING = 6
 # Elements that must follow each other where reading goes on, and tracks that are looked for.
 CHAIN, MOST_TRACK = 3, 16
 CODECS = {"V_VP8": "vp8", "A_OPUS": "opus", "A_VORBIS": "vorbis", "A_AAC": "aac", "A_MPEG/L3": "mp3"}
@@ -25,7 +29,7 @@ OPUS_HEADS = tuple(b"OpusHead\x01" + bytes([count]) + (312).to_bytes(2, "little"
 
 
 class Block(NamedTuple):
-    """A packet: its track, its time in milliseconds, where it is in the file, and its bytes."""
+    """A packet: its track, its time in milliseconds, where its block is in the file, and its bytes."""
 
     track: int
     time: int
@@ -85,8 +89,8 @@ def element_at(data, place):
 
 
 def is_block(data, start, end):
-    """Whether a block may begin here: a small track number, and no lacing."""
-    return end - start >= 4 and 0x81 <= data[start] <= 0x80 + MOST_TRACK and not data[start + 3] & 6
+    """Whether a block may begin here: it has a small track number."""
+    return end - start >= 4 and 0x81 <= data[start] <= 0x80 + MOST_TRACK
 
 
 def follow(data, place, count):
@@ -113,8 +117,8 @@ def next_place(data, place):
 
 
 def find(data):
-    """What is in a file."""
-    blocks, gaps, tracks, base, place, is_sure, clocks = [], [], {}, 0, 0, True, {}
+    """What is in a file. Blocks with several packets, which only sound has, are left out."""
+    blocks, gaps, tracks, scale, base, place, is_sure, clocks = [], [], {}, MS, 0, 0, True, {}
     while place < len(data):
         found = element_at(data, place)
         if found is None or not (found[2] is None or found[0] in INSIDE or follow(data, found[2], 1)):
@@ -126,6 +130,8 @@ def find(data):
         number, start, end = found
         if number == TIME:
             base, is_sure = int.from_bytes(data[start:end], "big"), True
+        elif number == INFO:
+            scale = int.from_bytes(dict(children(data, start, end)).get(SCALE, b""), "big") or MS
         elif number == TRACKS:
             tracks = dict(entries(data, start, end))
         elif number in (SIMPLE, BLOCK):
@@ -135,7 +141,8 @@ def find(data):
                 base, is_sure = min(last + step for last, step in clocks.values()), True
             track, last = data[start] & 0x7F, base + time
             clocks[track] = (last, last - clocks.get(track, (last, 0))[0])
-            blocks.append(Block(track, last, place, bytes(data[start + 4 : end])))
+            if not data[start + 3] & LACING:
+                blocks.append(Block(track, last * scale // MS, place, bytes(data[start + 4 : end])))
         place = start if number in INSIDE or end is None else end
     return Found(blocks, gaps, tracks)
 

@@ -111,7 +111,7 @@ def taken_out(path, folder, name, kind, is_quiet):
     if not is_quiet:
         say(f"{name} is a {kind} file; {tool} took its packets out without coding them again{sound_text(media)}")
     if media is not None and media.said:
-        say(f"{tool} complains of {name}: {'; '.join(media.said.splitlines()[:3])}")
+        say(f"{tool} complains of {name}: {'; '.join(media.said.splitlines()[:3])}. `wokureti repair` searches a damaged file for all its packets")
     return out
 
 

@@ -9,7 +9,7 @@ from typing import NamedTuple
 
 from . import checks, excerpts, files, ivf, muxing, programs, times
 from .errors import Ended
-from .views import origins
+from .script_runs import origins
 
 # A script has 16 nodes: a part is a trim, and all but the first one are spliced.
 MOST_PARTS, MOST_STREAMS = 8, 8
@@ -60,17 +60,17 @@ def check_program(program):
 
 
 class Frames:
-    """The frames of each source of a session, and those that its script serves."""
+    """The frames of each source of a session, and those that its script serves; or of other streams of its packets, and another script."""
 
-    def __init__(self, contents):
-        self.contents, self.shown = contents, []
-        for source, stream in enumerate(contents.streams):
+    def __init__(self, contents, streams=None, script=None):
+        self.contents, self.script, self.shown = contents, contents.script if script is None else script, []
+        for source, stream in enumerate(contents.streams if streams is None else streams):
             pairs = [(number, duration) for number, duration in zip(stream, contents.durations(source, stream)) if contents.is_shown(number)]
             self.shown.append([(number, duration, source) for number, duration in pairs])
 
     def served(self):
         """The packets of the frames that the script serves, with their durations and sources."""
-        runs = origins(self.contents.script, list(map(len, self.shown)))
+        runs = origins(self.script, list(map(len, self.shown)))
         return [frame for count, source, first in runs for frame in self.shown[source][first : first + count]]
 
     def place(self, text, is_end):

@@ -123,6 +123,31 @@ class Live:
         self.events.append("restarted")
         self.changed.notify_all()
 
+    def add_source(self, path, stem, ending):
+        """Opens another stream as the last source: the program is started again, from the list of edits. If it does not read the stream, all is as
+        before."""
+        with self.lock:
+            before, edits = self.options, self.alive().edits
+            # A list without edits is removed when its session ends.
+            how = {"resume": edits} if edits.path is None or len(edits) or edits.undone else {"edits": edits.path}
+            self.options = {**before, "sources": [*before.get("sources", ()), path]}
+            self.drop_viewers()
+            self.session.kill()
+            try:
+                self.session = self.open(**how)
+            except (Ended, OSError, ValueError):
+                self.options = before
+                self.session = self.open(**how)
+                raise
+            finally:
+                self.forget()
+            self.saves.stems.append((stem, ending))
+            self.tell()
+
+    def forget(self):
+        """Nothing is known of the packets any more: the program reads the streams again."""
+        self.known = self.found = (None, None)
+
     def tell(self):
         """The stream was changed."""
         self.revision += 1

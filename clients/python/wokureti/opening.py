@@ -99,16 +99,23 @@ def run(options, titles, how, port, has_browser):
             say("open this address in a browser. Ctrl-C ends it")
 
     try:
-        serve.serve_with(live, port, lambda *given: PageRoutes(*given, names), announce)
+        made = []
+
+        def routes(*given):
+            made.append(PageRoutes(*given, names, titles))
+            return made[0]
+
+        serve.serve_with(live, port, routes, announce)
     finally:
-        say_where(live, titles[0], f"{stems[0]}.edits")
+        added = "".join(f" --source {path}" for path in (made[0].added if made else ()))
+        say_where(live, f"{titles[0]}{added}", f"{stems[0]}.edits")
     return 0
 
 
 def server_of(live, port, titles):
     """A server of the page of a stream, whose address is printed. It is not started."""
     server, tokens = Server(port), [secrets.token_urlsafe(18) for _ in range(2)]
-    server.routes = PageRoutes(live, server, tokens[0], [os.path.basename(title) for title in titles])
+    server.routes = PageRoutes(live, server, tokens[0], [os.path.basename(title) for title in titles], titles)
     server.routes.reading = tokens[1]
     print(f"{server.origin}/{tokens[0]}/page/", flush=True)
     return server

@@ -9,7 +9,7 @@ import re
 import tempfile
 import time
 
-from . import exports, ivf, muxing, records, repair
+from . import adding, exports, ivf, muxing, records, repair
 from .clipboard import Clipboard, Gone, numbers_of, runs_of
 from .errors import Ended, Refused
 from .frames import MARK
@@ -48,9 +48,12 @@ def files_of_page():
 class PageRoutes(Routes):
     """The routes of a stream that has a page."""
 
-    def __init__(self, live, server, token, titles):
+    def __init__(self, live, server, token, titles, paths=()):
         super().__init__(live, server, token)
         self.titles, self.files = titles, files_of_page()
+        # The streams that the command names, and those that were added.
+        self.paths, self.added = list(paths), []
+        self.posts[("sources",)] = self.add_source
         self.posts[("preview",)] = self.preview
         self.posts[("paste",)] = self.paste
         self.reads.update(
@@ -76,6 +79,8 @@ class PageRoutes(Routes):
                 ("stream.ivf",): self.stream,
                 ("download",): self.download,
                 ("exported",): self.exported,
+                ("files",): self.list_files,
+                ("times",): self.times,
             }
         )
 
@@ -124,6 +129,7 @@ class PageRoutes(Routes):
             "packets": len(view.streams[0]),
             "frames": view.frames,
             "rate": list(view.rate),
+            "varies": view.times() is not None,
             "sources": [len(stream) for stream in view.streams],
             "source": view.source,
             "script": view.script,
@@ -518,6 +524,32 @@ class PageRoutes(Routes):
         keeps = self.live.keeps_stamps or not view.contents.is_edited(0, stream)
         pieces = self.text(view, 0) if keeps else view.contents.restamped(0, stream)
         return Response(200, "video/x-ivf", length=length, headers=self.attached(".ivf"), pieces=until_ended(pieces))
+
+    def times(self, request):
+        """When each frame begins, in milliseconds, if the rate varies."""
+        self.only(request)
+        view = self.live.current_view()
+        return as_json({"revision": view.revision, "times": view.times()})
+
+    def list_files(self, request):
+        """The streams that can be added."""
+        self.only(request)
+        return as_json({"revision": self.live.revision, "files": adding.files_of(self.paths)})
+
+    def add_source(self, request):
+        """Opens one of these as the last source."""
+        self.only(request)
+        members = parse_body(request.body, {"file": str})
+        path = members.get("file")
+        if path not in adding.files_of(self.paths):
+            raise Refuse(404, "there is no such stream in the folders of those that are open")
+        try:
+            adding.add(self.live, path, os.path.splitext(path)[0])
+        except adding.Cannot as error:
+            raise Refuse(409, str(error)) from None
+        self.titles.append(os.path.basename(path))
+        self.added.append(path)
+        return as_json({"source": len(self.titles) - 1, "revision": self.live.revision})
 
     def attached(self, ending, what="edited"):
         """The headers of an answer that a browser saves as a file."""

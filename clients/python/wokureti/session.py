@@ -8,7 +8,7 @@ import threading
 import time
 from typing import Any, Callable, Iterable, Iterator, NamedTuple, Optional, Union
 
-from . import checks, programs
+from . import checks, muxing, programs
 from .edits import REPLIES, EditList, words_of
 from .errors import Ended, Refused
 from .frames import Frame, frame_of
@@ -109,6 +109,8 @@ class Session:
         if len(streams) > 1:
             words += ["--sources", ":".join(streams[1:])]
         if save is not None:
+            if muxing.ending_of(save) is not None:
+                raise ValueError(f"save= is an IVF file, which the program writes: {os.fsdecode(save)!r} is written by session.save()")
             checks.outputs(save, [*self._inputs.paths, *([] if tables is None else [tables])], "save")
             words += ["--save", checks.path(save)]
         if tables is not None:

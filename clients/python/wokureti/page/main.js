@@ -1,6 +1,8 @@
 // Starts the page.
 
 import { Curves } from "./curves.js";
+import { Adding } from "./adding.js";
+import { Cropping } from "./cropping.js";
 import { Cutting } from "./cutting.js";
 import { Editing, savedText } from "./editing.js";
 import { EditList } from "./edit_list.js";
@@ -42,6 +44,8 @@ timeline.ondraw = () => {
   curves.soon();
 };
 const cutting = new Cutting(model, editing, status);
+new Adding(model, status);
+new Cropping(model, cutting, viewer.picture, status);
 editing.viewer = viewer;
 
 // Panels
@@ -98,7 +102,7 @@ function writeFrame() {
   if (document.activeElement !== find("frame")) find("frame").value = model.aside ? "" : model.frame;
   if (!model.session) find("time").textContent = "";
   else if (model.aside) find("time").textContent = `packet ${model.aside.packet}, which no frame shows`;
-  else find("time").textContent = `of ${model.frames.toLocaleString("en")} · ${timeText(model.frame, model.rate)}`;
+  else find("time").textContent = `of ${model.frames.toLocaleString("en")} · ${timeText(model.frame, model.rate, model.times)}`;
 }
 
 function writeSelection() {
@@ -138,7 +142,7 @@ model.addEventListener("selection", writeSelection);
 find("source").addEventListener("change", () => model.useSource(Number(find("source").value)).catch(() => {}));
 model.addEventListener("session", () => (find("source").value = model.source));
 find("frame").addEventListener("change", () => {
-  const frame = frameOf(find("frame").value, model.frame, model.rate);
+  const frame = frameOf(find("frame").value, model.frame, model.rate, model.times);
   if (frame === null) status.say("a frame is a number, as 120; a step, as -5; or a time, as 1:02.5 or 12.5");
   else model.go(frame).catch(() => {});
 });
