@@ -103,17 +103,22 @@ int main(int argc, char **argv) {
     wk_handle handle = {0};
     wk_fault fault = {0};
     uint32_t status = wk_open(&handle, files, size, ends, count, (uint16_t)atoi(argv[2]), NULL, 0, &fault);
+    /* Nothing is kept of the caller's memory. */
+    memset(files, GUARD, size);
+    free(files);
     if (status) {
         printf("opened %u source %llu cause %u\n", status, (unsigned long long)fault.source, fault.cause);
         if (handle.at) fail("a handle holds something after a refusal");
         return 3;
     }
-    memset(files, GUARD, size);
-    free(files);
     char *line = NULL;
     size_t held = 0;
     for (ssize_t got; (got = getline(&line, &held, stdin)) >= 0;) {
-        if (got && line[got - 1] == '\n') got--;
+        /* A carriage return before the newline is no part of a line. */
+        if (got && line[got - 1] == '\n') {
+            got--;
+            if (got && line[got - 1] == '\r') got--;
+        }
         status = wk_request(&handle, (const uint8_t *)line, (size_t)got, &length);
         if (status) fail("a line was not answered");
         write_text(&handle, length, stdout);

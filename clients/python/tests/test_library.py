@@ -1,5 +1,6 @@
 """The engine in this process answers as the program does: the tests of sessions again, and what is its own."""
 
+import gc
 import os
 import pathlib
 import subprocess
@@ -130,6 +131,7 @@ class Broken(Library):
         for _ in range(20):
             Session(SMALL, engine="library").frame(0)
         for _ in range(200):
+            gc.collect()
             if threading.active_count() <= before:
                 break
             threading.Event().wait(0.02)

@@ -111,7 +111,8 @@ class Engine:
 
     def answer(self, line):
         """The reply to a line, and the picture if it is served."""
-        line = line[:-1] if line.endswith(b"\n") else line
+        # A carriage return before the newline is no part of a line.
+        line = line.removesuffix(b"\n").removesuffix(b"\r")
         status = self.library.wk_request(self.handle, line, len(line), ctypes.byref(self.length))
         if status != OK:
             raise Strange(f"out of memory for a reply ({status})")
