@@ -17,7 +17,7 @@ use std::alloc::Global;
 /// The version of the library: 10,000 times the first number, 100 times the second, and the third.
 #[unsafe(no_mangle)]
 pub extern "C" fn wk_version() -> u32 {
-    900
+    1000
 }
 
 /// Ends the session of a handle, if it holds one. The handle holds nothing afterwards.
