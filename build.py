@@ -1,5 +1,5 @@
 #!/usr/bin/env python3
-"""Proves and builds vp8serve and vp8list: build.py [--cpu x86-64-v2|x86-64-v3] [--ready | --verify | --dist]
+"""Proves and builds vp8serve and vp8list: build.py [--cpu x86-64-v2|x86-64-v3] [--ready | --verify | --dist | --library]
 
 Without an option it proves the crates that the two programs need, builds both for this processor, and puts them into bin/, next to
 bin/wokureti, which starts the Python client. It works on a copy of these crates outside the checkout, so it can be interrupted: what was
@@ -10,8 +10,9 @@ proved by then is kept. If nothing has changed since the last time, it does noth
   --verify  builds both programs for both processors, and compares them with those of dist/ byte for byte, if dist/ is of these sources.
             With --built they are taken from crates/, where `rt ci` has proved them
   --dist    the same, and packs them with the client into a new dist/, if VERSION is new
+  --library builds the C library into bin/: libwokureti.so.0, libwokureti.a, wokureti.h and a file for pkg-config. --built as above
 
-Python 3.9 and its standard library suffice for --ready; the others need the Rattle kit, the last two gcc and the C library's libc.a too.
+Python 3.9 and its standard library suffice for --ready; the others need the Rattle kit, the last three gcc too, and two of them the C library's libc.a.
 """
 
 import argparse
@@ -168,25 +169,42 @@ def objects_of(is_proved):
             yield proving.build(needed(), room, CPUS, say), room
 
 
-def names_of(sources, objects, programs):
+def make_library(cpu, is_proved):
+    """Builds the C library."""
+    from release import library
+
+    check_kit()
+    if is_proved:
+        with tempfile.TemporaryDirectory() as folder:
+            library.build(pathlib.Path(folder), BIN, cpu, True, say)
+    else:
+        with room_of() as room:
+            library.build(room, BIN, cpu, False, say)
+    return 0
+
+
+def names_of(sources, objects, programs, libraries):
     """The lines of dist/SOURCES."""
-    from release import linked
+    from release import library, linked
 
     names = {"version": version(), "date": today(), "sources": sources, "kit": kit(), "C library": linked.c_library()}
     for name, cpu in objects:
         names[f"object file of {name} for {cpu}"] = sum_of(objects[name, cpu])
         names[f"program {name} for {cpu}"] = sum_of(programs[name, cpu])
+    names["sources of the library"] = digest(needed((library.CRATE,)))
+    for name, cpu in libraries:
+        names[f"{name} for {cpu}"] = sum_of(libraries[name, cpu])
     return names
 
 
 def verify(is_proved):
-    """Compares dist/ with the programs of the current sources. Returns the exit status."""
-    from release import linked
+    """Compares dist/ with the programs and the library of the current sources. Returns the exit status."""
+    from release import library, linked
 
     dist, sources = read_names(), digest(needed())
     if dist.get("version") != version():
         raise Failed(f"VERSION is {version()}, and dist/ has {dist.get('version', 'nothing')}: ./build.py --dist makes a new one")
-    if dist["sources"] != sources:
+    if dist["sources"] != sources or dist.get("sources of the library") != digest(needed((library.CRATE,))):
         say(f"dist/ is of an earlier state of version {dist['version']}: its sources are others, so nothing is compared")
         return 0
     for name in PROGRAMS:
@@ -205,13 +223,16 @@ def verify(is_proved):
         for name, cpu in programs:
             if programs[name, cpu].read_bytes() != wheel.program(dist["version"], name, cpu):
                 raise Failed(f"{name} for {cpu} is not the one of dist/")
-    say("the four programs of dist/ are, byte for byte, what the proved sources build")
+        for (name, cpu), made in library.shared(room, CPUS, is_proved, say).items():
+            if made.read_bytes() != wheel.program(dist["version"], name, cpu) or sum_of(made) != dist[f"{name} for {cpu}"]:
+                raise Failed(f"{name} for {cpu} is not the one of dist/")
+    say("the four programs and two libraries of dist/ are, byte for byte, what the proved sources build")
     return 0
 
 
 def make_dist(is_proved):
     """Writes a new dist/."""
-    from release import linked, manuals
+    from release import library, linked, manuals
 
     dist = read_names()
     if dist.get("version") == version():
@@ -222,12 +243,13 @@ def make_dist(is_proved):
     with objects_of(is_proved) as (objects, room):
         sources = digest(needed())
         programs = link_all(objects, room)
-        names = names_of(sources, objects, programs)
+        libraries = library.shared(room, CPUS, is_proved, say)
+        names = names_of(sources, objects, programs, libraries)
         texts = {name: subprocess.run([programs[name, CPUS[0]], "--help"], capture_output=True, text=True, check=True).stdout for name in PROGRAMS}
         fresh = DIST.with_name(".dist")
         shutil.rmtree(fresh, ignore_errors=True)
         fresh.mkdir()
-        wheel.write(fresh / wheel.name_of(version()), version(), today(), programs, manuals.files(texts, version(), today()))
+        wheel.write(fresh / wheel.name_of(version()), version(), today(), {**programs, **libraries}, manuals.files(texts, version(), today()))
         write_names(names, fresh / "SOURCES")
         shutil.rmtree(DIST, ignore_errors=True)
         fresh.rename(DIST)
@@ -238,17 +260,20 @@ def make_dist(is_proved):
 def main():
     parser = argparse.ArgumentParser(description=__doc__, formatter_class=argparse.RawDescriptionHelpFormatter)
     parser.add_argument("--cpu", default=os.environ.get("WOKURETI_CPU", ""), metavar="NAME", help="x86-64-v2 or x86-64-v3; also the variable WOKURETI_CPU")
-    parser.add_argument("--built", action="store_true", help="with --verify and --dist: rt ci has proved the crates here")
+    parser.add_argument("--built", action="store_true", help="with --verify, --dist and --library: rt ci has proved the crates here")
     what = parser.add_mutually_exclusive_group()
     what.add_argument("--ready", nargs="?", const="build.py", metavar="SCRIPT")
     what.add_argument("--verify", action="store_true")
     what.add_argument("--dist", action="store_true")
+    what.add_argument("--library", action="store_true")
     given = parser.parse_args()
     try:
         if given.verify:
             return verify(given.built)
         if given.dist:
             return make_dist(given.built)
+        if given.library:
+            return make_library(processor(given.cpu), given.built)
         Speaker.name = given.ready or Speaker.name
         (ready if given.ready else build)(processor(given.cpu))
     except Failed as failed:

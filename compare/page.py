@@ -838,6 +838,46 @@ def by_keyboard(browser, room, clip, broken, place, size, looks):
     say(f"keys alone, {size[0]}x{size[1]}: found, repaired, cut out, moved, faded, saved, opened again")
 
 
+def add_and_crop(browser, room, clip, other):
+    """A stream of the folder is opened on the page; a rectangle is drawn on the picture; the bits of the packets are a curve."""
+    page = Page(browser, clip, "--edits", room / "list-of-crops")
+    page.open()
+    browser.click("#add-source")
+    browser.wait("document.getElementById('ask').open")
+    browser.run("document.querySelector('#ask select').value = args[0]", str(other))
+    browser.click("#ask button[value=yes]")
+    browser.wait("wokureti.model.session.sources.length === 2", seconds=60)
+    expect(page.members("session")["names"] == [clip.name, other.name], "the added stream is not named")
+    browser.run("await wokureti.model.go(5)")
+    browser.click("#crop")
+    box = browser.run("const box = document.getElementById('now-canvas').getBoundingClientRect(); return [box.left, box.top, box.width, box.height]")
+    at = lambda across, down: (box[0] + across * box[2], box[1] + down * box[3])
+    browser.drag([at(0.25, 0.25), at(0.5, 0.5), at(0.75, 0.75)])
+    browser.wait("document.getElementById('ask').open")
+    browser.click("#ask button[value=yes]")
+    browser.wait("wokureti.model.session.script.startsWith('crop 0 ')")
+    numbers = list(map(int, page.members("session")["script"].split()[2:]))
+    wanted = [160, 90, 320, 180]
+    expect(all(abs(one - two) <= 4 for one, two in zip(numbers, wanted)) and not numbers[0] % 2 and not numbers[1] % 2, f"the crop is {numbers}, and not about {wanted}")
+    browser.wait(f"document.getElementById('now-canvas').width === {numbers[2]}")
+    with Session(clip) as session:
+        session.script(f"crop 0 {' '.join(map(str, numbers))}")
+        expect(page.pixels()[2] == session.frame(5).rgb().tobytes(), "the picture is not that of the crop")
+    expect(page.members("session")["changing"] == [1, page.members("session")["script"]], "the crop is not known to change the picture")
+    browser.key("Control", "z")
+    browser.wait("wokureti.model.session.script === '-'")
+    browser.run("const select = document.getElementById('curve'); select.value = 'bytes'; select.dispatchEvent(new Event('change'))")
+    browser.wait("wokureti.timeline.curve")
+    found = browser.run("const { lines, most } = wokureti.timeline.curve; return lines.flat().map(([packet, part]) => Math.round(part * most))")
+    with Session(clip) as session:
+        wanted = [8 * facts["bytes"] for facts in session.packets()]
+    expect(found == wanted[: len(found)] and len(found) > 200, f"the bits are {found[:3]}, not {wanted[:3]}")
+    page.quiet("another stream and a crop")
+    said = page.end()
+    say("another stream, a crop, bits")
+    return said
+
+
 def asides(browser, room, clip, other):
     """Packets that no frame shows have their own picture; two sources are compared; what was called lost is shown."""
     page = Page(browser, clip, "--source", other, "--edits", room / "list-of-asides")
@@ -1124,6 +1164,7 @@ def main():
         reachable(page)
         said = page.end()
         door(browser, room, clip)
+        add_and_crop(browser, room, clip, other)
         asides(browser, room, clip, other)
         for size in ((1440, 900), (390, 844)):
             by_keyboard(browser, room, clip, broken, place, size, looks)

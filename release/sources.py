@@ -26,13 +26,13 @@ def version():
     return text
 
 
-def needed():
-    """The lines of crates.txt for the programs and the crates below them."""
+def needed(names=PROGRAMS):
+    """The lines of crates.txt for the programs, or for other crates, and for the crates below them."""
     lines = {}
     for line in (TOP / "crates.txt").read_text().splitlines():
         if ":" in line and not line.startswith("#"):
             lines[line.split(":")[0].split()[0]] = line
-    wanted, left = [], list(PROGRAMS)
+    wanted, left = [], list(names)
     while left:
         name = left.pop()
         if name in lines and name not in wanted:

@@ -8,6 +8,7 @@ import zipfile
 from .sources import DIST, PROGRAMS, TOP, Failed
 
 CLIENT = TOP / "clients/python/wokureti"
+LIBRARY, HEADER = "libwokureti.so.0", TOP / "clients/c/include/wokureti.h"
 # A static program asks for no glibc; the tags name the oldest systems that Python 3.9 runs on.
 TAGS = ("manylinux_2_17_x86_64", "musllinux_1_1_x86_64")
 FILE, PROGRAM = 0o100644, 0o100755
@@ -20,6 +21,11 @@ def name_of(version):
 def in_wheel(version, path):
     """The path in the wheel of a file that is installed below the environment's folder."""
     return f"wokureti-{version}.data/data/{path}"
+
+
+def place_of(name, cpu):
+    """Where a program or the library is installed for a processor."""
+    return f"lib/wokureti/{cpu}/{name}" if name == LIBRARY else f"lib/wokureti/{name}-{cpu}"
 
 
 def about(version):
@@ -41,8 +47,8 @@ def client_files():
 
 
 def entries(version, programs, shared):
-    """The files of the wheel but for its record: path, mode and bytes. `programs` has a path for each (name, processor), `shared` a text for each
-    file below share/."""
+    """The files of the wheel but for its record: path, mode and bytes. `programs` has a path for each (name, processor), the library's too, and `shared` a
+    text for each file below share/."""
     for path, data in client_files():
         yield path, FILE, data
     yield "wokureti/VERSION", FILE, f"{version}\n".encode()
@@ -50,7 +56,8 @@ def entries(version, programs, shared):
     for name in PROGRAMS:
         yield f"wokureti-{version}.data/scripts/{name}", PROGRAM, launcher
     for (name, cpu), path in sorted(programs.items()):
-        yield in_wheel(version, f"lib/wokureti/{name}-{cpu}"), PROGRAM, pathlib.Path(path).read_bytes()
+        yield in_wheel(version, place_of(name, cpu)), PROGRAM, pathlib.Path(path).read_bytes()
+    yield in_wheel(version, f"include/{HEADER.name}"), FILE, HEADER.read_bytes()
     for path, text in sorted(shared.items()):
         yield in_wheel(version, path), FILE, text.encode()
     for name, text in about(version).items():
@@ -80,10 +87,10 @@ def path_of(version):
 
 
 def program(version, name, cpu):
-    """The bytes of a program of the wheel in dist/."""
+    """The bytes of a program, or of the library, of the wheel in dist/."""
     path = path_of(version)
     try:
         with zipfile.ZipFile(path) as file:
-            return file.read(in_wheel(version, f"lib/wokureti/{name}-{cpu}"))
+            return file.read(in_wheel(version, place_of(name, cpu)))
     except (OSError, KeyError, zipfile.BadZipFile) as error:
         raise Failed(f"{path} cannot be read: {error}") from None

@@ -14,7 +14,7 @@ from unittest import mock
 
 from support import DATA, ODD, SLOW, SMALL, TOP, Case, command, packets_of, start, whole_text, write_packets
 from test_serve import unpacked
-from wokureti import Session, compare, frames, programs
+from wokureti import Session, compare, frames, ivf, programs
 
 BROKEN = b"\x10\x00"
 # 8 frames of 5x3: 15 luma samples, and 6 of each chroma plane.
@@ -349,7 +349,9 @@ class Containers(Case):
         self.clip = self.room / "a clip.webm"
         self.clip.write_bytes(b"\x1a\x45\xdf\xa3" + SMALL.read_bytes())
         (self.room / "bin").mkdir()
-        self.env = {"PATH": str(self.room / "bin")}
+        # Python's av, which may be here, is not found.
+        (self.room / "av.py").write_text("raise ImportError")
+        self.env = {"PATH": str(self.room / "bin"), "PYTHONPATH": f"{self.room}:{TOP / 'clients/python'}"}
 
     def tool(self, name, text):
         path = self.room / "bin" / name
@@ -358,15 +360,20 @@ class Containers(Case):
 
     def run_it(self, *words):
         """The command, whose PATH has only what a test puts there."""
-        env = dict(os.environ, PYTHONPATH=str(TOP / "clients/python"), **self.env)
-        done = subprocess.run([sys.executable, "-m", "wokureti", *map(str, words)], env=env, capture_output=True, timeout=20 * SLOW, check=False)
+        done = subprocess.run([sys.executable, "-m", "wokureti", *map(str, words)], env={**os.environ, **self.env}, capture_output=True, timeout=20 * SLOW, check=False)
         return done.returncode, done.stdout, done.stderr.decode()
 
     def test_packets_are_taken_out(self):
-        last = "for last; do :; done\n"
-        self.tool("ffmpeg", f'{last}case "$*" in *"-i file:{self.clip} "*"-c copy"*) tail -c +5 "{self.clip}" > "$last";; *) exit 1;; esac')
+        self.tool("ffprobe", """echo '{"streams": [{"index": 0, "codec_type": "video", "codec_name": "vp8"}]}'""")
+        # The packets one after the other, and a line for each with its time.
+        index = ivf.read_packets(SMALL)[1]
+        (self.room / "data").write_bytes(b"".join(data for _, data in index))
+        (self.room / "times").write_text("".join(f"0, {33 * place}, {33 * place}, 33, {len(data)}, 0x0\n" for place, (_, data) in enumerate(index)))
+        taken = f"""case "$*" in *"-i file:{self.clip} "*"-c copy"*);; *) exit 1;; esac
+        while [ $# -gt 0 ]; do [ "$1" = data ] && cp {self.room}/data "$2"; [ "$1" = framecrc ] && cp {self.room}/times "$2"; shift; done; exit 0"""
+        self.tool("ffmpeg", taken)
         status, out, errors = self.run_it("cat", self.clip)
-        self.assertEqual((status, out), (0, whole_text(SMALL)))
+        self.assertEqual((status, out), (0, b"YUV4MPEG2 W7 H5 F1000:33 Ip C420jpeg\n" + whole_text(SMALL).split(b"\n", 1)[1]))
         self.assertIn("a clip.webm is a WebM or Matroska file; ffmpeg took its packets out without coding them again", errors)
         self.assertEqual(self.run_it("png", self.clip, 3, "-")[0], 0)
         self.assertEqual(self.run_it("compare", self.clip, SMALL)[:2], (0, b"12 frames, all the same\n"))
@@ -384,7 +391,7 @@ class Containers(Case):
             self.clip.write_bytes(head + bytes(20))
             status, out, errors = self.run_it("cat", self.clip)
             self.assertEqual((status, out), (2, b""))
-            self.assertIn(f"is a {kind} file: to take its packets out, install ffmpeg or mkvtoolnix", errors)
+            self.assertIn(f"is a {kind} file: to take its packets out, install python3-av, ffmpeg or mkvtoolnix", errors)
         self.assertEqual(self.run_it("cat", DATA / "still.ivf")[0], 0)
 
 

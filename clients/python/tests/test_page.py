@@ -8,6 +8,7 @@ import random
 import re
 import signal
 import socket
+import shutil
 import subprocess
 import tempfile
 import threading
@@ -16,7 +17,7 @@ import unittest
 from array import array
 from unittest import mock
 
-from support import DATA, ODD, SLOW, SMALL, Case, command, list_of, packets_of, process_of, serve, start, write_packets
+from support import DATA, ODD, SLOW, SMALL, Case, command, frames_of, list_of, packets_of, process_of, serve, start, write_packets
 from test_serve import TOKEN, ServerCase
 from wokureti import Refused, Script, Session, ivf, programs, views
 from wokureti.opened import Opened
@@ -39,7 +40,7 @@ class PageCase(ServerCase):
         self.live = Opened({"stream": stream, **options}, edits, save, stems=stems)
         self.server = Server()
         titles = [os.path.basename(str(path)) for path in (stream, *options.get("sources", ()))]
-        self.server.routes = PageRoutes(self.live, self.server, TOKEN, titles)
+        self.server.routes = PageRoutes(self.live, self.server, TOKEN, titles, [str(stream)])
         live, server = self.live, self.server
         thread = threading.Thread(target=server.serve, daemon=True)
         thread.start()
@@ -315,9 +316,16 @@ class Views(PageCase):
         self.assertEqual((status, headers["Content-Disposition"]), (200, 'attachment; filename="scenes-edited.ivf"'))
         self.change("save")
         self.assertEqual(body, (room / "out.ivf").read_bytes())
+        # Frames follow each other without a gap, and times do not go back: each packet of the clip is shown.
+        packets = ivf.read_packets(room / "out.ivf")[1]
+        self.assertEqual([stamp for stamp, _ in packets], list(range(len(packets))))
+        self.assertEqual(self.ask("/download")[2], body)
+        self.live.keeps_stamps = True
         replies = serve(SCENES, ["delete 4", "hold 9", "replace 12 -", "move 20 3"], "--save", room / "other.ivf")
         self.assertTrue(all(reply.startswith("ok") for reply in replies))
-        self.assertEqual(body, (room / "other.ivf").read_bytes())
+        self.assertEqual(self.ask("/stream.ivf")[2], (room / "other.ivf").read_bytes())
+        self.change("save")
+        self.assertEqual((room / "out.ivf").read_bytes(), (room / "other.ivf").read_bytes())
 
 
 def letter_of(fact):
@@ -1064,6 +1072,68 @@ class Killed(PageCase):
             file.close()
 
 
+class MoreSources(PageCase):
+    """Streams that are added on the page."""
+
+    def opened(self, *lines):
+        room = self.folder()
+        for name, path in (("one.ivf", SMALL), ("two.ivf", ODD), (".hidden.ivf", SMALL), ("notes.txt", SMALL)):
+            shutil.copy(path, room / name)
+        (room / "broken.ivf").write_text("no stream")
+        (room / "folder.ivf").mkdir()
+        self.serve(str(room / "one.ivf"), edits=room / "one.edits", stems=[str(room / "one")])
+        if lines:
+            self.step(*lines)
+        return room
+
+    def add(self, path):
+        status, _, body = self.post_to("/sources", file=str(path))
+        return status, json.loads(body)
+
+    def test_one_is_added(self):
+        room = self.opened("delete 3", "hold 5")
+        self.assertEqual(self.members("/files")["files"], [str(room / name) for name in ("broken.ivf", "one.ivf", "two.ivf")])
+        before, revision = self.ask("/stream.ivf")[2], self.members("/session")["revision"]
+        status, found = self.add(room / "two.ivf")
+        self.assertEqual((status, found["source"]), (200, 1))
+        self.await_list()
+        session = self.members("/session")
+        self.assertEqual((session["names"], session["sources"], session["edits"]), (["one.ivf", "two.ivf"], [12, len(packets_of(ODD))], ["delete 3", "hold 5"]))
+        self.assertGreater(session["revision"], revision)
+        self.assertEqual(self.ask("/stream.ivf")[2], before)
+        self.step("copy 1 0 12", "script source 1")
+        self.assertEqual(self.picture("/frames/0.y4m"), frames_of(ODD, [0])[0])
+        self.assertEqual(self.picture("/before/frames/1.y4m?source=1"), frames_of(ODD, [1])[0])
+        self.assertEqual(self.members("/session")["saves"][1]["next"], str(room / "two-edited.ivf"))
+        self.change("undo")
+        self.change("undo")
+        self.assertEqual(self.members("/session")["edits"], [])
+        self.assertEqual(list_of(room / "one.edits"), "")
+
+    def test_a_list_without_edits_stays_quiet(self):
+        room = self.opened()
+        self.assertEqual(self.add(room / "two.ivf")[0], 200)
+        self.assertEqual(self.members("/session")["notices"], [])
+        self.step("delete 3")
+        self.assertEqual(list_of(room / "one.edits"), "delete 3\n")
+
+    def test_what_cannot_be_added(self):
+        room = self.opened("delete 3")
+        for path in ("/etc/passwd", room / "notes.txt", room / ".hidden.ivf", room / "folder.ivf", f"{room}/../one.ivf", "two.ivf", ""):
+            self.assertEqual(self.add(path)[0], 404, path)
+        status, found = self.add(room / "broken.ivf")
+        self.assertEqual((status, "broken.ivf was not added" in found["error"]), (409, True))
+        self.await_list()
+        session = self.members("/session")
+        self.assertEqual((session["names"], session["edits"], len(session["sources"])), (["one.ivf"], ["delete 3"], 1))
+        self.step("delete 4")
+        for turn in range(7):
+            self.assertEqual(self.add(room / "two.ivf")[0], 200)
+        status, found = self.add(room / "two.ivf")
+        self.assertEqual((status, "at most 8 streams" in found["error"]), (409, True))
+        self.assertEqual(self.post_to("/sources", file=3)[0], 400)
+
+
 class TheCommand(Case):
     LIMIT = 40
 
@@ -1126,7 +1196,7 @@ class TheCommand(Case):
     def test_it_saves_at_the_end_if_it_was_asked_to(self):
         room = self.folder()
         clip = write_packets(room / "clip.ivf", packets_of(SMALL))
-        process, host, token = self.open(clip, "--edits", room / "list", "--save", room / "out.ivf")
+        process, host, token = self.open(clip, "--edits", room / "list", "--save", room / "out.ivf", "--keep-stamps")
         self.ask(host, f"/{token}/edits", "hold 3")
         self.end(process)
         # The packet that holds the picture is saved so that libvpx shows it.
@@ -1135,7 +1205,7 @@ class TheCommand(Case):
             other.save(room / "plain.ivf")
             other.save(room / "padded.ivf", pad=True)
         self.assertEqual((room / "out.ivf").read_bytes(), (room / "padded.ivf").read_bytes())
-        process, host, token = self.open(clip, "--edits", room / "list", "--save", room / "out.ivf", "--no-pad")
+        process, host, token = self.open(clip, "--edits", room / "list", "--save", room / "out.ivf", "--no-pad", "--keep-stamps")
         self.ask(host, f"/{token}/edits", "save")
         self.end(process)
         self.assertEqual((room / "out.ivf").read_bytes(), (room / "plain.ivf").read_bytes())

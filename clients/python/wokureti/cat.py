@@ -9,9 +9,10 @@ import subprocess
 import tempfile
 import threading
 
-from . import checks, files, parts, programs, rooms, waits
-from .errors import Ended, sentence
-from .progress import Progress
+from . import checks, files, paces, parts, programs, rooms, virtual, waits
+from .errors import Ended, Refused, sentence
+from .frames import MARK, parse_header
+from .progress import Progress, say
 
 
 # Bytes of frames that are in the folder for temporary files, at most: those of one part may be more.
@@ -185,7 +186,7 @@ def write(session, out, workers, name="frames"):
         refusals, progress = [], Progress(name, count)
         try:
             with output(out) as file, progress:
-                file.write(first.header)
+                file.write(header(session, first))
                 for number in made:
                     more = room.refusals(number, plan[number])
                     room.join(number, plan[number], len(more), file)
@@ -198,6 +199,36 @@ def write(session, out, workers, name="frames"):
                 raise Failed(f"{sentence(error)}{full}") from None
             raise
     return refusals
+
+
+def write_constant(session, out):
+    """Writes the frames of a session at its rate: one whose time is not nearest to any step is left out, others are repeated. The exit status."""
+    contents = session.edits.contents()
+    order = paces.constant(paces.begins(contents), contents.rate)
+    number, refused = parts.first_frame(session)
+    refusals, made, picture = {} if refused is None else {0: refused.reply}, None, None
+    with output(out) as file, Progress("frames", len(order)) as progress:
+        for turn, frame in enumerate(order if number is not None else ()):
+            if frame != made:
+                made = frame
+                try:
+                    picture = session.picture(frame)
+                except Refused as error:
+                    refusals.setdefault(frame, error.reply)
+            if not turn:
+                file.write(virtual.header_of(parse_header(session.header), contents.rate))
+            if picture is not None:
+                file.write(MARK + picture[2])
+            progress.show(turn)
+    for frame, reply in list(refusals.items())[:10]:
+        say(f"frame {frame}: {reply}: the frame before it is repeated")
+    return 1 if refusals else 0
+
+
+def header(session, first):
+    """The first line of the text: that of the program, whose rate is the time base of the file; of a container it is the rate that this has."""
+    is_container = session.edits.contents().inputs.all[0].media is not None
+    return virtual.header_of(parse_header(first.header), session.rate) if is_container else first.header
 
 
 def here(session, processes, program, tables):

@@ -1,6 +1,7 @@
 """The command line of wokureti."""
 
 import argparse
+import itertools
 import os
 import signal
 import sys
@@ -8,7 +9,7 @@ import tempfile
 import threading
 import traceback
 
-from . import __version__, cat, checks, convert, programs, rooms
+from . import __version__, cat, checks, containers, convert, excerpts, files, ivf, muxing, programs, rooms, sounds
 from .errors import Ended, Lost, Refused, sentence
 from .progress import say
 
@@ -21,7 +22,7 @@ MISTAKE = 70
 
 
 # What each command reads.
-STREAM = "IVF file, or WebM, MKV, AVI or MP4 if ffmpeg or mkvtoolnix is there; `-` is standard input"
+STREAM = "IVF file, or WebM, MKV, AVI or MP4 if python3-av, ffmpeg or mkvtoolnix is there; `-` is standard input"
 
 
 def stop(text):
@@ -59,6 +60,7 @@ def add_cat(commands):
         help="machines, as GNU parallel's --sshlogin takes them: `:` is this one, `4/user@host` another one with 4 processes. Files are "
         "carried there and back",
     )
+    add_constant(parser)
     parser.add_argument("--remote", default="vp8serve", metavar="PATH", help="vp8serve on these machines; the one on their PATH if missing")
     parser.set_defaults(run=run_cat)
 
@@ -71,11 +73,18 @@ def opened(given, folder):
 
 
 def run_cat(given):
+    from . import paces
+
     program = programs.find("vp8serve")
     jobs = given.jobs or len(os.sched_getaffinity(0))
     if jobs < 1:
         raise cat.Failed("--jobs is 1 or more")
+    if muxing.ending_of(given.out) is not None:
+        raise cat.Failed(f"cat writes frames, and not {given.out}: `wokureti export` writes packets")
     with rooms.Room() as folder, opened(given, folder) as session:
+        paces.warn(session.edits.contents(), given.constant, say)
+        if given.constant:
+            return cat.write_constant(session, given.out)
         if given.sshlogin:
             from . import machines
 
@@ -99,6 +108,21 @@ def add_served(parser):
     parser.add_argument("--port", type=int, default=0, metavar="N", help="the port; a free one if missing")
     parser.add_argument("--tables", metavar="FILE", help="3012 bytes that replace the long tables of RFC 6386")
     parser.add_argument("--anyway", action="store_true", help="makes the edits of a list that is of another stream")
+    parser.add_argument("--keep-stamps", action="store_true", help="IVF files are saved with the time stamps of the packets; else those of an edited stream are new")
+    add_sound(parser)
+
+
+def add_constant(parser):
+    parser.add_argument("--constant", action="store_true", help="of a stream whose rate varies: frames are repeated or left out, so that each is at the nearest time")
+
+
+def add_sound(parser):
+    parser.add_argument(
+        "--sound",
+        choices=sounds.MODES,
+        help="of a file .webm or .mkv that is written: the packets of sound are copied, or coded again as Opus, or left out; copied where that is exact, "
+        "else coded again, if missing",
+    )
 
 
 def served(given, folder):
@@ -129,7 +153,8 @@ def run_open(given):
     with rooms.Room() as folder:
         options = served(given, folder)
         titles = [given.stream, *given.source]
-        return opening.run(options, titles, given.edits, given.save, given.port, not given.no_browser, not given.no_pad, given.anyway)
+        how = opening.How(given.edits, given.save, not given.no_pad, given.keep_stamps, given.sound)
+        return opening.run({**options, "anyway": given.anyway}, titles, how, given.port, not given.no_browser)
 
 
 def add_serve(commands):
@@ -142,6 +167,7 @@ def add_serve(commands):
     add_served(parser)
     parser.add_argument("--edits", metavar="FILE", help="the list of edits: it is made first, and each edit is written to it")
     parser.add_argument("--save", metavar="FILE", help="the file that `save` writes, and the end, if something was edited since")
+    add_constant(parser)
     parser.set_defaults(run=run_serve)
 
 
@@ -149,7 +175,135 @@ def run_serve(given):
     from . import serve
 
     with rooms.Room() as folder:
-        return serve.run({**served(given, folder), "anyway": given.anyway}, given.edits, given.save, given.port)
+        options = {**served(given, folder), "anyway": given.anyway}
+        return serve.run(options, given.edits, given.save, given.port, given)
+
+
+def add_mount(commands):
+    parser = commands.add_parser(
+        "mount",
+        help="a folder in which the edited stream is a file of each kind, for editors that open a path",
+        description="Mounts DIR, an empty folder, by FUSE (python3-fusepy): clip.y4m, clip.ivf and clip.webm, a picture of each frame in frames/, the "
+        "edits, the findings and the facts of the packets. Nothing is written: a read makes the frames that it touches. edits.txt can be written: "
+        "the session then makes these edits, or the write fails, and edits.err says why. A file that was opened before an edit can be read no more. "
+        "Ctrl-C, umount or SIGTERM ends it.",
+    )
+    add_served(parser)
+    parser.add_argument("folder", metavar="DIR", help="the empty folder")
+    parser.add_argument("--edits", metavar="FILE", help="the list of edits: it is made first, and each edit is written to it")
+    parser.add_argument("--serve", action="store_true", help="the page of `wokureti open` is there too, over the same session; its address is printed")
+    add_constant(parser)
+    parser.add_argument("--others", action="store_true", help="other users may read the folder (user_allow_other in /etc/fuse.conf)")
+    parser.set_defaults(run=run_mount)
+
+
+def run_mount(given):
+    from . import mount, opened, opening, paces
+
+    mount.fuse_module()
+    with rooms.Room() as folder:
+        live = opened.Opened({**served(given, folder), "anyway": given.anyway}, given.edits)
+        live.keeps_stamps, live.sound, live.is_constant = given.keep_stamps, given.sound, given.constant
+        paces.warn(live.contents(), given.constant, live.notice)
+        server = opening.server_of(live, given.port, [given.stream, *given.source]) if given.serve else None
+        return mount.run(live, given.folder, given.others, server)
+
+
+def add_export_options(parser, script=False):
+    """The arguments of the commands that write the frames of a script as packets."""
+    if script:
+        add_edits(parser)
+    else:
+        parser.add_argument("--tables", metavar="FILE", help="3012 bytes that replace the long tables of RFC 6386")
+    parser.add_argument("--no-pad", action="store_true", help="packets that hold the picture are written as they are, and libvpx does not show them")
+    add_sound(parser)
+
+
+EXPORTED = (
+    "The packets are those of the streams, of which nothing but the show bit is changed, and each frame is as it was: nothing is coded again. Where a "
+    "part does not begin at a key packet, the packets from there on come before it, hidden. OUT is an IVF file; WebM or Matroska, with the sound, if it "
+    "ends in .webm or .mkv. A line says how many packets are hidden, and how many bytes they have."
+)
+
+
+def add_cut(commands):
+    parser = commands.add_parser(
+        "cut",
+        help="parts of a stream, at any frame, without coding again",
+        description=f"Writes the frames of IN from F to T, T not included; several --from and --to keep several parts. {EXPORTED}",
+    )
+    parser.add_argument("stream", metavar="IN", help=STREAM)
+    parser.add_argument("out", metavar="OUT", help="the file to write")
+    parser.add_argument("--from", dest="starts", action="append", default=[], metavar="F", help="a frame, as 83, or a time, as 0:03.3; the beginning if missing")
+    parser.add_argument("--to", dest="ends", action="append", default=[], metavar="T", help="the same for the first frame that is left out; the end if missing")
+    add_export_options(parser)
+    parser.set_defaults(run=run_cut)
+
+
+def run_cut(given):
+    from . import exports
+
+    counts = {len(given.starts), len(given.ends)}
+    if not any(counts) or (len(counts) > 1 and max(counts) > 1):
+        raise cat.Failed("each part has a --from and a --to; only a single part may leave one of them out")
+    parts = list(itertools.zip_longest(given.starts, given.ends))
+    return run_script(given, [given.stream], lambda frames: exports.cut_script(frames, parts))
+
+
+def add_join(commands):
+    parser = commands.add_parser(
+        "join",
+        help="streams one after the other, without coding again",
+        description=f"Writes the frames of all streams, one after the other. {EXPORTED}",
+    )
+    parser.add_argument("streams", metavar="IN", nargs="+", help=STREAM)
+    parser.add_argument("out", metavar="OUT", help="the file to write")
+    add_export_options(parser)
+    parser.set_defaults(run=run_join)
+
+
+def run_join(given):
+    from . import exports
+
+    return run_script(given, given.streams, lambda frames: exports.join_script(len(given.streams)))
+
+
+def add_export(commands):
+    parser = commands.add_parser(
+        "export",
+        help="the frames of a script as packets, without coding again",
+        description=f"Writes the frames that a script serves, of the streams after the edits of a list. What a script changes, a fade or a crop, cannot be "
+        f"written so: the message names the frame and the node. {EXPORTED}",
+    )
+    parser.add_argument("stream", metavar="IN", help=STREAM)
+    parser.add_argument("out", metavar="OUT", help="the file to write")
+    add_export_options(parser, script=True)
+    parser.set_defaults(run=run_export)
+
+
+def run_export(given):
+    return run_script(given, [given.stream, *given.source], None)
+
+
+def run_script(given, streams, script_of):
+    """Writes OUT of the frames of a script, which is made of the frames of the streams, or that of the arguments."""
+    from . import exports, progress
+
+    edits, script = getattr(given, "edits", None), getattr(given, "script", None)
+    cat.check_output(given.out, [*streams, edits, given.tables])
+    program = programs.find("vp8serve")
+    exports.check_program(program)
+    with rooms.Room() as room, progress.Stages() as stages:
+        stages.stage("reading the packets")
+        paths = [convert.as_ivf(path, room) for path in streams]
+        with cat.open_session(paths[0], paths[1:], edits, script, given.tables, program, getattr(given, "anyway", False)) as session:
+            if script_of is not None:
+                session.request(f"script {script_of(exports.Frames(session.edits.contents()))}")
+            stages.stage(f"exporting {session.count().frames:,} frames")
+            out = exports.Output(given.out, not given.no_pad, given.sound, say)
+            told = exports.export(session.edits.contents(), list(session.edits), out, room)
+    print(told.text())
+    return 0
 
 
 def add_repair(commands):
@@ -163,7 +317,7 @@ def add_repair(commands):
         "OUT has no damage, 2 if damage is left, or no key frame survives and nothing was written.",
     )
     parser.add_argument("stream", metavar="IN", help=STREAM)
-    parser.add_argument("out", metavar="OUT", help="the mended IVF file")
+    parser.add_argument("out", metavar="OUT", help="the mended IVF file; WebM or Matroska, with the sound of IN, if it ends in .webm or .mkv")
     parser.add_argument("--second", metavar="FILE", help="a second recording of the same packets")
     parser.add_argument("--edits", metavar="FILE", help="writes the edits that make OUT of IN, which `vp8serve IN FILE - --save OUT` runs")
     parser.add_argument("--no-scan", action="store_true", help="records that are lost are not searched")
@@ -171,11 +325,12 @@ def add_repair(commands):
     parser.add_argument("--no-sort", action="store_true", help="packets stay in their order")
     parser.add_argument("--no-hold", action="store_true", help="no picture is held, and nothing is removed at the beginning")
     parser.add_argument("--tables", metavar="FILE", help="3012 bytes that replace the long tables of RFC 6386")
+    add_sound(parser)
     parser.set_defaults(run=run_repair)
 
 
 def run_repair(given):
-    from . import files, ivf, progress, repair
+    from . import ivf, progress, repair
 
     inputs = [given.stream, given.second, given.tables]
     for out in (given.out, given.edits):
@@ -186,15 +341,18 @@ def run_repair(given):
     steps = {name for name in ("scan", "double", "sort", "hold") if not getattr(given, f"no_{name}")}
     try:
         with rooms.Room() as folder, progress.Stages() as stages:
-            path, other = (path and convert.as_ivf(path, folder) for path in (given.stream, given.second))
+            stages.stage("searching the packets")
+            path, searched = convert.searched(given.stream, folder) if "scan" in steps else (convert.as_ivf(given.stream, folder), None)
+            other = given.second and convert.searched(given.second, folder)[0]
             data, second = (path and read_all(path) for path in (path, other))
-            found = repair.repair(data, programs.find("vp8serve"), programs.find("vp8list"), second, given.tables, steps, stages.stage, as_file(path))
+            tools = (programs.find("vp8serve"), programs.find("vp8list"))
+            found = repair.repair(data, *tools, second, given.tables, steps, stages.stage, as_file(path), searched)
+            packets = [(packet.stamp, packet.data) for packet in found.packets]
+            write_repaired(given, path, found.head, packets)
     except (ivf.NotIvf, repair.NoKeyFrame) as error:
         raise cat.Failed(f"{given.stream}: {error}") from None
-    packets = [(packet.stamp, packet.data) for packet in found.packets]
-    files.write_whole(given.out, ivf.pieces(found.head, len(packets), packets))
     if given.edits is not None:
-        lines = repair.edits_of(data, found)
+        lines = repair.edits_of(data, found) if searched is None else None
         if lines is None:
             raise cat.Failed("vp8serve does not read IN, so no list of edits makes OUT of it; OUT was written")
         files.write_whole(given.edits, [f"{line}\n".encode() for line in lines])
@@ -203,6 +361,19 @@ def run_repair(given):
     before = len(salvage_count(data))
     print(f"{len(packets)} packets written, {before} are read without repair; {found.changes} changes")
     return 2 if found.left else 1 if found.changes else 0
+
+
+def write_repaired(given, path, head, packets):
+    """Writes OUT: an IVF file, or with the sound of IN a WebM or Matroska file."""
+    if muxing.ending_of(given.out) is None:
+        files.write_whole(given.out, ivf.pieces(head, len(packets), packets))
+        return
+    spans, restamped = excerpts.of_packets(packets, head, containers.media_of(path))
+    with rooms.Room() as room:
+        between = os.path.join(room, "packets.ivf")
+        with open(between, "wb") as file:
+            file.writelines(ivf.pieces(head, len(restamped), restamped))
+        excerpts.save_file(given.out, between, containers.media_of(path), spans, given.sound, say)
 
 
 def as_file(path):
@@ -312,6 +483,10 @@ def parser_of():
     commands = parser.add_subparsers(metavar="COMMAND", required=True)
     add_open(commands)
     add_serve(commands)
+    add_mount(commands)
+    add_cut(commands)
+    add_join(commands)
+    add_export(commands)
     add_repair(commands)
     add_compare(commands)
     add_cat(commands)

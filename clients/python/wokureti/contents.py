@@ -5,9 +5,10 @@ import secrets
 from array import array
 from typing import NamedTuple
 
-from . import checks, files, ivf, runs
+from . import checks, excerpts, files, ivf, muxing, runs, times
 from .facts import Facts
 from .inputs import is_input
+from .progress import say
 
 
 # For each value of tags whether it is that of a key packet.
@@ -67,8 +68,8 @@ class Contents:
             count += records
         self.of_files = count
         self.file_sizes = None
-        # Of the packets that edits made: the time stamp, and the bytes, or what the program makes them of, or the number of the packet that a
-        # copy was made of.
+        # Of the packets that edits made: the time stamp; the bytes, or what the program makes them of, or the number of the packet that a
+        # copy was made of; and the number of the packet whose time it has, or None.
         self.made = []
         self.forged, self.key_sizes = {}, {}
         self.listed = Facts(self)
@@ -82,12 +83,14 @@ class Contents:
             data = b"" if rest[-1] == "-" else bytes.fromhex(rest[-1])
             rest.pop()
             at = int(rest[0])
-            stamp = int(rest[1]) if word == "insert" else self.stamp(self.streams[self.current][at])
-            return self.perform(Operation(word, (at,), self.make(stamp, data)))
+            timed = None if word == "insert" else self.streams[self.current][at]
+            stamp = int(rest[1]) if word == "insert" else self.stamp(timed)
+            return self.perform(Operation(word, (at,), self.make(stamp, data, timed)))
         numbers = tuple(map(int, rest))
         if word == "copy":
             source, index, at = numbers
-            return self.perform(Operation("insert", (at,), self.make(self.stamp(self.streams[source][index]), self.root(self.streams[source][index]))))
+            copied = self.streams[source][index]
+            return self.perform(Operation("insert", (at,), self.make(self.stamp(copied), self.root(copied), copied)))
         if word in ("blank", "hold"):
             at, *size = numbers
             return self.perform(Operation("insert", (at,), self.forge_at(word, at, size)))
@@ -131,9 +134,9 @@ class Contents:
             words.append(self.bytes(packet).hex() or "-")
         return " ".join(words)
 
-    def make(self, stamp, data):
+    def make(self, stamp, data, timed=None):
         """The number of a new packet."""
-        self.made.append((stamp, data))
+        self.made.append((stamp, data, timed))
         return self.of_files + len(self.made) - 1
 
     def forge_at(self, word, at, size):
@@ -163,6 +166,44 @@ class Contents:
             return self.made[number - self.of_files][0]
         item, index = self.where(number)
         return item.index.stamps[index]
+
+    def timed(self, number):
+        """The packet of a file that a packet has its time from: itself, or the one that it was copied from or is in the place of; else None."""
+        while number is not None and number >= self.of_files:
+            number = self.made[number - self.of_files][2]
+        return number
+
+    def duration(self, number, source):
+        """The duration of a packet in the time base of a source: that of its file; the median step for one that has no time."""
+        number, base = self.timed(number), self.inputs.all[source]
+        if number is None:
+            return base.step()
+        item, index = self.where(number)
+        return times.scaled(item.durations()[index], item.head, base.head)
+
+    def is_shown(self, number):
+        """Whether a packet is shown as a frame."""
+        number = self.root(number)
+        if number < self.of_files:
+            item, index = self.where(number)
+            return bool(item.index.tags[index] & ivf.SHOWN)
+        data = self.made[number - self.of_files][1]
+        return not isinstance(data, bytes) or ivf.is_shown(data)
+
+    def durations(self, source, stream):
+        """The durations of packets in the order of a source. A packet with a hole after it, into which a repair put others, lasts until the next one."""
+        found, step, after = array("Q", (self.duration(number, source) for number in stream)), self.inputs.all[source].step(), None
+        for place in range(len(stream) - 1, -1, -1):
+            stamp = self.stamp(stream[place])
+            if after is not None and step <= after - stamp < found[place]:
+                found[place] = after - stamp
+            if self.is_shown(stream[place]):
+                after = stamp
+        return found
+
+    def stamps(self, source, stream):
+        """New time stamps for packets in the order of a source, and the end of the last one."""
+        return times.stamps_of(zip(map(self.is_shown, stream), self.durations(source, stream)))
 
     def bytes(self, number, size=None):
         """The bytes of a packet, or the first ones of them."""
@@ -239,10 +280,13 @@ class Contents:
 
     @property
     def rate(self):
-        """Rate and scale of the frames that are served: those of the header of source 0, whose time base may be finer than a frame, over the
-        median step of its time stamps."""
+        """Rate and scale of the frames that are served: those of the container that source 0 was in; else those of its header, whose time base may be
+        finer than a frame, over the median step of its time stamps."""
+        media = self.inputs.all[0].media
+        if media is not None and media.rate is not None:
+            return media.rate
         head, step = self.inputs.all[0].head, self.inputs.all[0].step()
-        rate, scale = (head.rate, head.scale) if head.rate and head.scale else (30, 1)
+        rate, scale = times.base_of(head)
         if step == 1:
             return rate, scale
         common = math.gcd(rate, scale * step)
@@ -278,11 +322,24 @@ class Contents:
             yield from item.read_records(first, index)
             place = end
 
-    def save(self, path, pad=False, source=0):
-        """Writes the packets of a source as an IVF file."""
+    def restamped(self, source=0, stream=None):
+        """The text of an IVF file of packets in the order of a source, with new time stamps, piece by piece."""
+        stream = self.streams[source] if stream is None else stream
+        stamps, _ = self.stamps(source, stream)
+        packets = ((stamp, self.bytes(number)) for stamp, number in zip(stamps, stream))
+        return ivf.pieces(self.inputs.all[source].head, len(stream), packets)
+
+    def save(self, path, pad=False, source=0, restamp=False, sound=None, say=say):
+        """Writes the packets of a source as an IVF file; with `restamp` with new time stamps. A file .webm or .mkv always has these, and the sound."""
         if is_input(path, self.inputs.paths):
             raise ValueError(f"{path!r} is a file of the session: name another one")
         if self.edits_path is not None and checks.is_same_file(path, self.edits_path):
             raise ValueError(f"{path!r} is the list of the edits: name another file")
-        pieces = self.pieces(self.source(source))
-        files.write_whole(path, runs.padded(self.program, pieces) if pad else pieces)
+        source = self.source(source)
+        is_container = muxing.ending_of(path) is not None
+        pieces = self.restamped(source) if restamp or is_container else self.pieces(source)
+        pieces = runs.padded(self.program, pieces) if pad else pieces
+        if is_container:
+            excerpts.save(path, pieces, self.inputs.all[source], excerpts.of_numbers(self, self.streams[source], source), sound, say)
+        else:
+            files.write_whole(path, pieces)

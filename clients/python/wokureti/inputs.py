@@ -7,7 +7,7 @@ import stat
 import tempfile
 import threading
 
-from . import checks, convert, ivf, rooms
+from . import checks, containers, convert, ivf, rooms, times
 
 # Bytes that are read at a time.
 WINDOW = 1 << 20
@@ -23,7 +23,8 @@ class Input:
         self.head = ivf.EMPTY
         self.index = None
         self.lock = threading.Lock()
-        self.found_digest, self.digesting, self.found_step = None, threading.Lock(), None
+        self.found_digest, self.digesting, self.found_step, self.found_durations = None, threading.Lock(), None, None
+        self.media = containers.media_of(path)
         self.is_shared = False
         if path == "-":
             return
@@ -90,6 +91,13 @@ class Input:
             self.found_step = steps[len(steps) // 2] if steps else 1
         return self.found_step
 
+    def durations(self):
+        """The duration of each packet, in the time base of the file."""
+        if self.found_durations is None:
+            index = self.records()
+            self.found_durations = times.durations(index.stamps, index.tags, self.step())
+        return self.found_durations
+
     def extent(self):
         """The number of packets, and of their bytes."""
         index = self.records()
@@ -145,6 +153,12 @@ class Input:
             self.check()
             place += len(data)
             yield data
+
+    def whole(self):
+        """The bytes of the whole file; those of an empty stream if there is none."""
+        if self.path == "-":
+            return ivf.EMPTY.text(0)
+        return os.pread(self.opened(), os.fstat(self.opened()).st_size, 0)
 
     def close(self):
         if self.descriptor is not None:

@@ -5,7 +5,7 @@ import os
 import secrets
 import threading
 
-from . import facts, rooms
+from . import containers, facts, muxing, rooms
 from .edit_files import NotWritten
 from .errors import Ended, Lost, Refused
 from .outcomes import Outcomes
@@ -48,15 +48,18 @@ class Viewer:
 class Live:
     """The stream. A call waits until the one before it is done."""
 
-    # Whether packets are saved as with --pad.
-    pad = False
+    # Whether packets are saved as with --pad, whether they keep their time stamps, and what is done with sound (`sounds.outputs`).
+    pad, keeps_stamps, sound = False, False, None
+    # Whether frames are repeated or left out, so that all last as long.
+    is_constant = False
 
     def __init__(self, options, edits=None, save=None, stems=()):
         self.options = dict(options, timeout=MOST_TIME)
         self.lock = threading.RLock()
         self.changed = threading.Condition(self.lock)
         self.instance, self.revision = secrets.token_hex(4), 1
-        self.saves = Saves(save, stems)
+        paths = [self.options.get("stream", "-"), *self.options.get("sources", ())]
+        self.saves = Saves(save, stems, [muxing.ending_for(containers.media_of(path)) for path in paths])
         self.room = rooms.Room()
         self.viewers, self.log = [], []
         self.known, self.found = (None, None), (None, None)
@@ -120,6 +123,31 @@ class Live:
         self.events.append("restarted")
         self.changed.notify_all()
 
+    def add_source(self, path, stem, ending):
+        """Opens another stream as the last source: the program is started again, from the list of edits. If it does not read the stream, all is as
+        before."""
+        with self.lock:
+            before, edits = self.options, self.alive().edits
+            # A list without edits is removed when its session ends.
+            how = {"resume": edits} if edits.path is None or len(edits) or edits.undone else {"edits": edits.path}
+            self.options = {**before, "sources": [*before.get("sources", ()), path]}
+            self.drop_viewers()
+            self.session.kill()
+            try:
+                self.session = self.open(**how)
+            except (Ended, OSError, ValueError):
+                self.options = before
+                self.session = self.open(**how)
+                raise
+            finally:
+                self.forget()
+            self.saves.stems.append((stem, ending))
+            self.tell()
+
+    def forget(self):
+        """Nothing is known of the packets any more: the program reads the streams again."""
+        self.known = self.found = (None, None)
+
     def tell(self):
         """The stream was changed."""
         self.revision += 1
@@ -171,7 +199,8 @@ class Live:
     def save(self, source=0):
         """Writes the packets of a source, and returns the name of the file."""
         contents = self.contents()
-        path = self.saves.save(source, contents, lambda path: self.session.save(path, self.pad, source))
+        restamps = not self.keeps_stamps and contents.is_edited(source, contents.streams[source])
+        path = self.saves.save(source, contents, lambda path: contents.save(path, self.pad, source, restamps, self.sound, self.notice))
         self.changed.notify_all()
         return path
 

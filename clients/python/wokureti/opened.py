@@ -85,6 +85,14 @@ class Opened(live.Live):
         self.current, self.pool = None, None
         threading.Thread(target=self.list_files, daemon=True).start()
 
+    def forget(self):
+        super().forget()
+        self.current, self.pool = None, None
+        for other in (self.preview, self.aside):
+            other.close()
+        self.preview, self.aside = Preview(self.options), Preview(self.options)
+        threading.Thread(target=self.list_files, daemon=True).start()
+
     # Edits
 
     def make(self, edit):

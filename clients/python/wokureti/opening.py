@@ -3,13 +3,16 @@
 import hashlib
 import os
 import pathlib
+import secrets
 import webbrowser
+from typing import NamedTuple
 
 from . import serve
 from .errors import Ended
 from .opened import Opened
 from .pages import PageRoutes
 from .progress import say
+from .web import Server
 
 # Browsers that take over the terminal.
 TEXT_BROWSERS = ("www-browser", "links", "elinks", "lynx", "w3m")
@@ -60,15 +63,27 @@ def write_door(url, folder):
     return path
 
 
-def run(options, titles, edits, save, port, has_browser, pad, anyway=False):
+class How(NamedTuple):
+    """The list of edits and the file to save to, or None; whether packets are saved as with --pad, and with their time stamps; and what is done with
+    sound."""
+
+    edits: object
+    save: object
+    pad: bool
+    keeps_stamps: bool
+    sound: object
+
+
+def run(options, titles, how, port, has_browser):
     """Serves the page until the process is interrupted, and says where the edits are."""
     stems = [stem_of(title) for title in titles]
-    path = edits or f"{stems[0]}.edits"
+    path = how.edits or f"{stems[0]}.edits"
     if any(os.path.dirname(stem) == state_folder() for stem in stems):
         os.makedirs(state_folder(), mode=0o700, exist_ok=True)
         say(f"nothing can be written next to {titles[0]}: what is edited is in {path}")
     try:
-        live = Opened({**options, "anyway": anyway}, path, save, pad, stems)
+        live = Opened(options, path, how.save, how.pad, stems)
+        live.keeps_stamps, live.sound = how.keeps_stamps, how.sound
     except Ended as error:
         if ": input " in str(error):
             raise Ended(error.status, f"{error}\n`wokureti repair {titles[0]} OUT` searches the packets of a damaged file") from None
@@ -84,10 +99,26 @@ def run(options, titles, edits, save, port, has_browser, pad, anyway=False):
             say("open this address in a browser. Ctrl-C ends it")
 
     try:
-        serve.serve_with(live, port, lambda *given: PageRoutes(*given, names), announce)
+        made = []
+
+        def routes(*given):
+            made.append(PageRoutes(*given, names, titles))
+            return made[0]
+
+        serve.serve_with(live, port, routes, announce)
     finally:
-        say_where(live, titles[0], f"{stems[0]}.edits")
+        added = "".join(f" --source {path}" for path in (made[0].added if made else ()))
+        say_where(live, f"{titles[0]}{added}", f"{stems[0]}.edits")
     return 0
+
+
+def server_of(live, port, titles):
+    """A server of the page of a stream, whose address is printed. It is not started."""
+    server, tokens = Server(port), [secrets.token_urlsafe(18) for _ in range(2)]
+    server.routes = PageRoutes(live, server, tokens[0], [os.path.basename(title) for title in titles], titles)
+    server.routes.reading = tokens[1]
+    print(f"{server.origin}/{tokens[0]}/page/", flush=True)
+    return server
 
 
 def edits_text(count):

@@ -6,11 +6,12 @@ import json
 import os
 import pathlib
 import re
+import tempfile
 import time
 
-from . import ivf, records, repair
+from . import adding, exports, ivf, muxing, records, repair
 from .clipboard import Clipboard, Gone, numbers_of, runs_of
-from .errors import Refused
+from .errors import Ended, Refused
 from .frames import MARK
 from .proposals import Proposals
 from .routes import Routes, until_ended
@@ -25,6 +26,7 @@ KINDS = {
     ".css": "text/css; charset=utf-8",
     ".svg": "image/svg+xml",
 }
+CONTAINERS = {".ivf": "video/x-ivf", ".webm": "video/webm", ".mkv": "video/x-matroska"}
 REFUSALS = (404, 409, 412)
 # The steps of `wokureti repair` that act on packets.
 STEPS = frozenset(("double", "sort", "hold"))
@@ -46,9 +48,12 @@ def files_of_page():
 class PageRoutes(Routes):
     """The routes of a stream that has a page."""
 
-    def __init__(self, live, server, token, titles):
+    def __init__(self, live, server, token, titles, paths=()):
         super().__init__(live, server, token)
         self.titles, self.files = titles, files_of_page()
+        # The streams that the command names, and those that were added.
+        self.paths, self.added = list(paths), []
+        self.posts[("sources",)] = self.add_source
         self.posts[("preview",)] = self.preview
         self.posts[("paste",)] = self.paste
         self.reads.update(
@@ -72,6 +77,10 @@ class PageRoutes(Routes):
                 ("macroblocks",): self.macroblocks,
                 ("header",): self.header,
                 ("stream.ivf",): self.stream,
+                ("download",): self.download,
+                ("exported",): self.exported,
+                ("files",): self.list_files,
+                ("times",): self.times,
             }
         )
 
@@ -120,6 +129,7 @@ class PageRoutes(Routes):
             "packets": len(view.streams[0]),
             "frames": view.frames,
             "rate": list(view.rate),
+            "varies": view.times() is not None,
             "sources": [len(stream) for stream in view.streams],
             "source": view.source,
             "script": view.script,
@@ -130,6 +140,8 @@ class PageRoutes(Routes):
             "undone": view.undone,
             "saved": all(source["saved"] for source in saves),
             "saves": saves,
+            "exports": exports.has_option(view.contents.program, "--export"),
+            "changing": exports.changing_node(view.script),
             "list": edits.path,
             "unwritten": max(0, len(edits) - edits.written),
             "notices": self.live.notices,
@@ -509,8 +521,72 @@ class PageRoutes(Routes):
         view = self.live.current_view()
         timeline, stream = view.timeline(0), view.streams[0]
         length = ivf.HEAD.size + ivf.RECORD.size * len(stream) + sum(timeline.sizes)
-        headers = [("Content-Disposition", f'attachment; filename="{self.safe_name()}-edited.ivf"')]
-        return Response(200, "video/x-ivf", length=length, headers=headers, pieces=until_ended(self.text(view, 0)))
+        keeps = self.live.keeps_stamps or not view.contents.is_edited(0, stream)
+        pieces = self.text(view, 0) if keeps else view.contents.restamped(0, stream)
+        return Response(200, "video/x-ivf", length=length, headers=self.attached(".ivf"), pieces=until_ended(pieces))
+
+    def times(self, request):
+        """When each frame begins, in milliseconds, if the rate varies."""
+        self.only(request)
+        view = self.live.current_view()
+        return as_json({"revision": view.revision, "times": view.times()})
+
+    def list_files(self, request):
+        """The streams that can be added."""
+        self.only(request)
+        return as_json({"revision": self.live.revision, "files": adding.files_of(self.paths)})
+
+    def add_source(self, request):
+        """Opens one of these as the last source."""
+        self.only(request)
+        members = parse_body(request.body, {"file": str})
+        path = members.get("file")
+        if path not in adding.files_of(self.paths):
+            raise Refuse(404, "there is no such stream in the folders of those that are open")
+        try:
+            adding.add(self.live, path, os.path.splitext(path)[0])
+        except adding.Cannot as error:
+            raise Refuse(409, str(error)) from None
+        self.titles.append(os.path.basename(path))
+        self.added.append(path)
+        return as_json({"source": len(self.titles) - 1, "revision": self.live.revision})
+
+    def attached(self, ending, what="edited"):
+        """The headers of an answer that a browser saves as a file."""
+        return [("Content-Disposition", f'attachment; filename="{self.safe_name()}-{what}{ending}"')]
+
+    def download(self, request):
+        """The current packets of source 0 as a file of the kind that was opened: an IVF file, or WebM or Matroska with its sound."""
+        ending = muxing.ending_for(self.live.contents().inputs.all[0].media)
+        if ending == ".ivf":
+            return self.stream(request)
+        self.only(request)
+        with tempfile.TemporaryDirectory(dir=self.live.room.name) as folder, self.live.lock:
+            path = os.path.join(folder, f"download{ending}")
+            try:
+                self.live.contents().save(path, self.live.pad, 0, True, self.live.sound, self.live.notice)
+            except ValueError as error:
+                raise Refuse(409, str(error)) from None
+            file = open(path, "rb")
+        return Response(200, CONTAINERS[ending], length=os.fstat(file.fileno()).st_size, headers=self.attached(ending), pieces=pieces_of(file))
+
+    def exported(self, request):
+        """The frames that the script serves as packets, without coding again. Other requests go on meanwhile."""
+        self.only(request)
+        with self.live.lock:
+            revision, contents, lines = self.live.revision, self.live.contents(), list(self.live.session.edits)
+        ending = muxing.ending_for(contents.inputs.all[0].media)
+        with tempfile.TemporaryDirectory(dir=self.live.room.name) as folder:
+            path = os.path.join(folder, f"exported{ending}")
+            out = exports.Output(path, self.live.pad, self.live.sound, self.live.notice)
+            try:
+                exports.export(contents, lines, out, folder)
+            except (ValueError, Ended) as error:
+                raise Refuse(409 if self.live.revision == revision else 412, str(error)) from None
+            if self.live.revision != revision:
+                raise Refuse(412, "the stream was changed", revision=self.live.revision)
+            file = open(path, "rb")
+        return Response(200, CONTAINERS[ending], length=os.fstat(file.fileno()).st_size, headers=self.attached(ending, "export"), pieces=pieces_of(file))
 
     def change(self, request):
         """An edit, several as one step, which may have a title, `undo`, `redo` or `save`, which may be of a source."""
@@ -547,6 +623,16 @@ class PageRoutes(Routes):
             except ValueError as error:
                 raise Refuse(409, str(error)) from None
             return as_json({"reply": path, "revision": self.live.revision})
+
+
+def pieces_of(file):
+    """The bytes of a file, which is closed after them."""
+    with file:
+        while True:
+            piece = file.read(1 << 20)
+            if not piece:
+                return
+            yield piece
 
 
 def groups_of(check, findings):

@@ -17,6 +17,27 @@ def text_of(width, height, samples, channels=3):
     return b"\x89PNG\r\n\x1a\n" + chunk(b"IHDR", head) + chunk(b"IDAT", zlib.compress(rows, 3)) + chunk(b"IEND", b"")
 
 
+# Bytes of a block of stored data.
+BLOCK = 65535
+
+
+def stored_size(width, height):
+    """The size of a PNG of three bytes a pixel whose data are stored."""
+    size = height * (1 + 3 * width)
+    return 57 + 2 + 5 * max(1, -(-size // BLOCK)) + size + 4
+
+
+def stored_text_of(width, height, samples):
+    """A PNG of red, green and blue of each pixel, which is not deflated: its size is known before."""
+    view = memoryview(samples).cast("B")
+    rows = b"".join(b"\0" + bytes(view[row * 3 * width : (row + 1) * 3 * width]) for row in range(height))
+    head = struct.pack(">IIBBBBB", width, height, 8, 2, 0, 0, 0)
+    starts = range(0, len(rows), BLOCK)
+    blocks = (struct.pack("<BHH", start == starts[-1], len(rows[start : start + BLOCK]), 0xFFFF ^ len(rows[start : start + BLOCK])) + rows[start : start + BLOCK] for start in starts)
+    data = b"\x78\x01" + b"".join(blocks) + struct.pack(">I", zlib.adler32(rows))
+    return b"\x89PNG\r\n\x1a\n" + chunk(b"IHDR", head) + chunk(b"IDAT", data) + chunk(b"IEND", b"")
+
+
 def of_frame(frame, matrix="601", full=False):
     """A PNG of a frame."""
     return text_of(frame.width, frame.height, frame.rgb(matrix, full).tobytes())

@@ -2,6 +2,7 @@
 
 import bisect
 import collections
+import fractions
 import json
 from typing import NamedTuple
 
@@ -10,6 +11,8 @@ from .differences import edits_between
 
 # A packet is sorted back over at most so many others: if it is further away, the time stamps begin again, as in clips that were joined.
 MOST_MOVE = 64
+# A step that is rounded is not smaller.
+LEAST_ROUNDED = 8
 # At most so many packets are put into one hole.
 MOST_HOLE = 10000
 # This part of the steps between shown packets is the same in a stream of a constant rate.
@@ -147,6 +150,12 @@ class Repair:
         if not packets and not any(guesses):
             raise ivf.NotIvf("no packet of VP8 was found in it")
         packets, gaps = self.take_guesses(packets, gaps, guesses)
+        self.take(head, packets, gaps, len(data), "record")
+
+    def take(self, head, packets, gaps, length, what):
+        """Takes packets that were searched in a file of this length, in which `what` leads from one to the next."""
+        if head is not None:
+            self.head = head
         ends = {gap.after for gap in gaps}
         self.packets = [Packet(packet.stamp, packet.data, place + 1 in ends, place in ends) for place, packet in enumerate(packets)]
         if head is None:
@@ -154,10 +163,10 @@ class Repair:
             self.head = ivf.Head(*(self.first_size() or (0, 0)), 30, 1)
         for gap in gaps:
             where = f"after packet {gap.after - 1}" if gap.after else "before the first packet"
-            if gap.end == len(data):
-                self.say(f"byte {gap.start}: the last {gap.end - gap.start} bytes lead to no record: dropped")
+            if gap.end == length:
+                self.say(f"byte {gap.start}: the last {gap.end - gap.start} bytes lead to no {what}: dropped")
             else:
-                self.say(f"byte {gap.start}: {gap.end - gap.start} bytes {where} lead to no record: read on at byte {gap.end}")
+                self.say(f"byte {gap.start}: {gap.end - gap.start} bytes {where} lead to no {what}: read on at byte {gap.end}")
 
     def take_guesses(self, packets, gaps, guesses):
         """Takes packets whose records have a wrong size: those that decode to their end with all the bytes up to the next record. `guesses` has
@@ -313,13 +322,18 @@ class Repair:
             self.packets = self.packets[count:]
 
     def step(self, outlines):
-        """The step between the time stamps of shown packets, if it is constant, else None."""
+        """The step between the time stamps of shown packets, if it is constant, else None. Time stamps of milliseconds are rounded: then it is the mean
+        of those that are one apart, as 33 and 34."""
         stamps = [packet.stamp for packet, found in zip(self.packets, outlines) if found.is_shown]
         steps = collections.Counter(after - before for before, after in zip(stamps, stamps[1:]))
         if not steps:
             return None
         step, count = steps.most_common(1)[0]
-        return step if step > 0 and count >= CONSTANT * sum(steps.values()) else None
+        if step > 0 and count >= CONSTANT * sum(steps.values()):
+            return step
+        near = {one: steps[one] for one in (step - 1, step, step + 1)}
+        is_constant = step >= LEAST_ROUNDED and sum(near.values()) >= CONSTANT * sum(steps.values())
+        return fractions.Fraction(sum(one * times for one, times in near.items()), sum(near.values())) if is_constant else None
 
     def hold(self):
         """Holds the last picture for packets that are refused or lost, up to the next key frame."""
@@ -365,7 +379,7 @@ class Repair:
         packet = self.packets[number]
         if packet.after_gap:
             return True
-        return bool(step) and number > 0 and packet.stamp - self.packets[number - 1].stamp >= 2 * step
+        return bool(step) and number > 0 and steps_between(self.packets[number - 1].stamp, packet.stamp, step) >= 2
 
     def fill(self, kept, number, step, size, past, outlines, end):
         """Puts packets that hold the picture where packets are missing by the time stamps, and there is a sign that they were lost."""
@@ -373,11 +387,11 @@ class Repair:
         if not kept or not step or size is None:
             return
         before = self.packets[number - 1].stamp
-        count = (packet.stamp - before) // step - 1
+        count = steps_between(before, packet.stamp, step) - 1
         fewer = self.counted > len(self.packets)
         sign = packet.after_gap or fewer or outlines[number].cause or any(other in past for other in range(number, end))
         if 1 <= count <= MOST_HOLE and sign:
-            stamps = [before + step * turn for turn in range(1, count + 1)]
+            stamps = [before + round(step * turn) for turn in range(1, count + 1)]
             kept += [Packet(stamp, self.forge("hold", *self.last_size(kept) or size)) for stamp in stamps]
             names = f"time stamp {stamps[0]}" if count == 1 else f"time stamps {stamps[0]} to {stamps[-1]}"
             self.say(f"{names}: {count} {'packet' if count == 1 else 'packets'} lost: the picture before is held")
@@ -410,6 +424,11 @@ class Repair:
             return
         more = "; a second recording of the same packets (--second) may have one" if second is None else ", and none is in the second recording either"
         raise NoKeyFrame(f"no key frame survives, so no frame can be decoded and there is nothing to mend from{more}. Nothing was written")
+
+
+def steps_between(before, after, step):
+    """How many steps are between two time stamps, which are rounded if the step is no whole number."""
+    return (after - before) // step if isinstance(step, int) else round((after - before) / step)
 
 
 def with_guesses(packets, gaps, guesses):
@@ -501,12 +520,16 @@ def packets_of(data, scan=True):
     return reader.packets
 
 
-def repair(data, program, lister, second=None, tables=None, steps=frozenset(("scan", "double", "sort", "hold")), stage=None, path=None):
-    """Mends a stream, and returns a `Repair`. `stage` is called with what is done next, and `path` is a file with the data, if there is one."""
+def repair(data, program, lister, second=None, tables=None, steps=frozenset(("scan", "double", "sort", "hold")), stage=None, path=None, searched=None):
+    """Mends a stream, and returns a `Repair`. `stage` is called with what is done next, and `path` is a file with the data, if there is one. `searched` is
+    what was found of a damaged container: the head, the packets, the gaps, and the length of the file."""
     found = Repair(program, lister, tables)
     found.stage = stage or found.stage
     found.stage("searching the packets")
-    found.read(data, "scan" in steps, path)
+    if searched is None:
+        found.read(data, "scan" in steps, path)
+    else:
+        found.take(*searched, "block")
     if "double" in steps:
         found.drop_doubles()
     if "sort" in steps:

@@ -14,22 +14,22 @@ class Saved(NamedTuple):
     packets: array
 
 
-def names_of(stem):
+def names_of(stem, ending):
     """clip-edited.ivf, clip-edited-2.ivf, and so on."""
     number = 1
     while True:
-        yield f"{stem}-edited.ivf" if number == 1 else f"{stem}-edited-{number}.ivf"
+        yield f"{stem}-edited{ending}" if number == 1 else f"{stem}-edited-{number}{ending}"
         number += 1
 
 
-def free_name(stem):
+def free_name(stem, ending=".ivf"):
     """The first of these names that is not there yet."""
-    return next(path for path in names_of(stem) if not os.path.lexists(path))
+    return next(path for path in names_of(stem, ending) if not os.path.lexists(path))
 
 
-def claimed(stem):
+def claimed(stem, ending=".ivf"):
     """The same as a new file, so that no other program gets it."""
-    for path in names_of(stem):
+    for path in names_of(stem, ending):
         try:
             os.close(os.open(path, os.O_WRONLY | os.O_CREAT | os.O_EXCL | os.O_CLOEXEC, 0o666))
             return path
@@ -49,10 +49,10 @@ def identity(path):
 
 class Saves:
     """What was saved of each source. Source 0 goes to the file `named`, if there is one, which is replaced. Otherwise a source goes to a new file
-    of its stem, that no other program has, and only this file is replaced later."""
+    of its stem and ending, that no other program has, and only this file is replaced later."""
 
-    def __init__(self, named=None, stems=()):
-        self.named, self.stems = None if named is None else os.fspath(named), stems
+    def __init__(self, named=None, stems=(), endings=()):
+        self.named, self.stems = None if named is None else os.fspath(named), list(zip(stems, endings))
         self.done, self.count = {}, 0
 
     def path(self, source=0):
@@ -62,7 +62,7 @@ class Saves:
         done = self.done.get(source)
         if done is not None and identity(done.path) == done.identity:
             return done.path
-        return free_name(self.stems[source]) if source < len(self.stems) else None
+        return free_name(*self.stems[source]) if source < len(self.stems) else None
 
     def save(self, source, contents, write):
         """Saves a source: `write` writes a file of this path. Returns the path."""
@@ -72,7 +72,7 @@ class Saves:
         done = self.done.get(source)
         try:
             if path != self.named and (done is None or path != done.path):
-                path, is_new = claimed(self.stems[source]), True
+                path, is_new = claimed(*self.stems[source]), True
             write(path)
         except OSError as error:
             if is_new:

@@ -4,7 +4,7 @@ import secrets
 import sys
 import threading
 
-from . import waits
+from . import paces, waits
 from .live import Live
 from .routes import Routes
 from .web import Server
@@ -38,7 +38,10 @@ def serve_with(live, port, routes, announce):
         live.close()
 
 
-def run(options, edits, save, port):
-    """Opens the stream and serves it."""
-    serve(Live(options, edits, save), port)
+def run(options, edits, save, port, how):
+    """Opens the stream and serves it. `how` has the options of a server."""
+    live = Live(options, edits, save)
+    live.keeps_stamps, live.sound, live.is_constant = how.keep_stamps, how.sound, how.constant
+    paces.warn(live.contents(), how.constant, live.notice)
+    serve(live, port)
     return 0

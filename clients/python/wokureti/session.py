@@ -3,15 +3,17 @@
 from __future__ import annotations
 
 import os
+import pathlib
 import threading
 import time
 from typing import Any, Callable, Iterable, Iterator, NamedTuple, Optional, Union
 
-from . import checks, programs
+from . import checks, muxing, programs
 from .edits import REPLIES, EditList, words_of
 from .errors import Ended, Refused
 from .frames import Frame, frame_of
 from .inputs import Inputs
+from .library import CACHE, Library
 from .pipes import Gone, Late, Pipes, Strange
 from .scripts import Script
 
@@ -20,6 +22,8 @@ AnyBytes = Union[bytes, bytearray, memoryview]
 EDITS = frozenset(("use", "insert", "replace", "delete", "move", "copy", "blank", "hold", "script"))
 # Lines and bytes that are sent at a time, at most.
 MOST_LINES, MOST_BYTES = 500, 1 << 18
+# Bytes of pictures that the program caches where nothing else is said.
+MOST_CACHED = 512 << 20
 
 
 class Count(NamedTuple):
@@ -34,13 +38,16 @@ class Session:
     are taken out first, by ffmpeg or mkvextract.
 
     `sources` are the paths of sources 1 to 7, `cache` the number of cached states, or `cache_bytes` the number of bytes that their pictures
-    may take, `tables` a file that replaces the RFC's long tables, and `save` the file that gets the packets of source 0 when the session
+    may take, 512 MiB if neither is given, `tables` a file that replaces the RFC's long tables, and `save` the file that gets the packets of source 0 when the session
     is closed; with `pad` players that use libvpx show the packets of `blank` and `hold` in it too. `program` is the path of vp8serve, `lister` that of vp8list, which `packets` needs.
 
     `edits` is a file that the accepted edits are written to, each when it was accepted; if the file exists, its edits are made first. A list
     of another stream is refused, unless `anyway` is true. `resume` is the list of a session that ended, with which this one goes on.
     `timeout` is the number of seconds that a call may take, if it gives none of its own. With `explain` the program says why it refuses
     a request, in `Refused.reason`.
+
+    With `engine="library"` there is no program: the same proved code answers in this process, from `libwokureti.so.0`, without a pipe. It
+    takes no `cache_bytes`, and a call that takes too long is left to its thread, and the session is over.
 
     Threads may share a session: a call waits until the one before it has its reply and its picture. What leaves a call in the middle, as
     an exception of a signal's handler, or a call that takes too long, ends the session, since the reply would be taken for the next
@@ -64,6 +71,7 @@ class Session:
         cache_bytes: Optional[int] = None,
         anyway: bool = False,
         resume: Optional[EditList] = None,
+        engine: str = "program",
     ) -> None:
         # Called with the line of each edit that was accepted, also with those of `undo` and `redo`.
         self.on_edit: Optional[Callable[[str], None]] = None
@@ -81,7 +89,7 @@ class Session:
             if edits is not None:
                 checks.outputs(edits, [*self._inputs.paths, *(path for path in (save, tables) if path is not None)], "edits")
             self._edits = EditList(self, edits, anyway)
-            self._pipes = Pipes(words, self._inputs.shared)
+            self._pipes = Pipes(words, self._inputs.shared) if engine == "program" else self._library(engine, cache, cache_bytes, tables, save, pad)
         except BaseException:
             self._close_files()
             raise
@@ -101,15 +109,32 @@ class Session:
         if len(streams) > 1:
             words += ["--sources", ":".join(streams[1:])]
         if save is not None:
+            if muxing.ending_of(save) is not None:
+                raise ValueError(f"save= is an IVF file, which the program writes: {os.fsdecode(save)!r} is written by session.save()")
             checks.outputs(save, [*self._inputs.paths, *([] if tables is None else [tables])], "save")
             words += ["--save", checks.path(save)]
         if tables is not None:
             words += ["--tables", checks.path(tables)]
         if cache is not None:
             words += ["--cache", str(checks.states(cache))]
-        if cache_bytes is not None:
-            words += ["--cache-bytes", str(checks.number(cache_bytes))]
+        if cache_bytes is not None or cache is None:
+            words += ["--cache-bytes", str(checks.number(MOST_CACHED if cache_bytes is None else cache_bytes))]
         return words + ["--pad"] * bool(pad) + ["--explain"] * bool(self._explain)
+
+    def _library(self, engine, cache, cache_bytes, tables, save, pad):
+        """The session in this process, over the bytes of the files as they were opened."""
+        if engine != "library":
+            raise ValueError(f'the engine is {engine!r}, but must be "program" or "library"')
+        if cache_bytes is not None:
+            raise ValueError("the library does not take cache_bytes: use the program")
+        if save is not None:
+            checks.outputs(save, [*self._inputs.paths, *([] if tables is None else [tables])], "save")
+        files = [item.whole() for item in self._inputs.all]
+        states = CACHE if cache is None else checks.states(cache)
+        try:
+            return Library(files, states, b"" if tables is None else pathlib.Path(tables).read_bytes(), None if save is None else checks.path(save), pad, self._explain)
+        except Gone as error:
+            raise Ended(2, str(error)) from None
 
     def _close_files(self):
         if self._edits is not None:
@@ -395,10 +420,14 @@ class Session:
             contents = self._edits.contents()
             return contents.shown_kinds(0) if contents.script == "-" else None
 
-    def save(self, path: AnyPath, pad: bool = False, source: int = 0) -> None:
-        """Writes the current packets of a source as an IVF file now, as `--save` does at the end."""
+    def save(self, path: AnyPath, pad: bool = False, source: int = 0, restamp: bool = False, sound: Optional[str] = None) -> None:
+        """Writes the current packets of a source as an IVF file now, as `--save` does at the end; with `restamp` with new time stamps, by which each
+        shown packet stays as long as in its file.
+
+        If the path ends in `.webm` or `.mkv`, the time stamps are new ones, and the sound of the files is cut with the packets: `sound` is `copy`,
+        `encode` or `none`; without it packets of sound are copied where that is exact, else coded again. `ValueError` if it cannot be done."""
         with self._locked(None):
-            self._edits.contents().save(path, pad, source)
+            self._edits.contents().save(path, pad, source, restamp, sound)
 
 
 class _Turn:

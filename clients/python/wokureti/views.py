@@ -6,8 +6,9 @@ import threading
 from array import array
 from itertools import accumulate, chain
 
-from . import ivf
+from . import ivf, paces
 from .ivf import KEY, NO_BYTES, SHOWN
+from .script_runs import origins
 
 # Kinds of packets, each one worse than those before it: a column of several packets has the kind of its worst.
 INTER, HIDDEN, KEY_PACKET, FORGED, DROPPED, DAMAGED, LOST, BROKEN = range(8)
@@ -199,36 +200,6 @@ def is_marked(stream, own, place):
     return stream[place] - last not in (1, place - before)
 
 
-def runs_of(words, nodes, counts):
-    """The frames of a node as runs: (count, source, first frame), given those of the nodes before it."""
-    word, *numbers = words
-    numbers = [int(number) for number in numbers]
-    if word == "source":
-        return [(counts[numbers[0]], numbers[0], 0)]
-    runs = nodes[numbers[0]]
-    if word == "splice":
-        return runs + nodes[numbers[1]]
-    if word != "trim":
-        return runs
-    skip, left, found = numbers[1], numbers[2], []
-    for count, source, first in runs:
-        gone = min(skip, count)
-        taken = min(count - gone, left)
-        if taken > 0:
-            found.append((taken, source, first + gone))
-        skip, left = skip - gone, left - max(0, taken)
-    return found
-
-
-def origins(script, counts):
-    """The frames that a script serves, as runs."""
-    nodes = [[(counts[0], 0, 0)]]
-    if script != "-":
-        for text in script.split(";"):
-            nodes.append(runs_of(text.split(), nodes, counts))
-    return [run for run in nodes[-1] if run[0]]
-
-
 class View:
     """The stream at a revision."""
 
@@ -243,7 +214,7 @@ class View:
         self.before = before if lends else None
         if before is not None:
             before.before = None
-        self.script, self.source = contents.script, contents.current
+        self.script, self.source, self.found_times = contents.script, contents.current, None
         self.edits_before = max(0, len(edits.entries) - MOST_EDITS)
         self.edits = [(entry.line[:MOST_TEXT], entry.step, entry.title) for entry in edits.entries[-MOST_EDITS:]]
         self.undone = [line[:MOST_TEXT] for line in edits.undone[:MOST_EDITS]]
@@ -303,6 +274,17 @@ class View:
     @property
     def rate(self):
         return self.contents.rate
+
+    def times(self):
+        """The milliseconds at which each frame begins, if source 0 was in a container and its rate varies, else None."""
+        with self.lock:
+            if self.found_times is None:
+                self.found_times = (None,)
+                if self.contents.inputs.all[0].media is not None:
+                    starts = paces.begins(self.contents, self.streams, self.script)
+                    if paces.drift(starts, self.rate) >= paces.step_of(self.rate):
+                        self.found_times = ([round(start / 10**6) for start in starts[:-1]],)
+            return self.found_times[0]
 
     def own(self, source):
         """The packets of the file of a source, as numbers of the pool."""

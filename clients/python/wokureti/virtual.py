@@ -3,6 +3,7 @@
 import queue
 import threading
 
+from . import paces
 from .errors import Lost, Refused
 from .frames import MARK, size_of
 from .live import Changed
@@ -49,11 +50,14 @@ def header_of(size, rate):
 
 class Clip:
     """The file of one revision. `mode` says what is in the place of a frame that is refused: None, the file cannot be served; `repeat`, the
-    frame before it; `black`, a black frame."""
+    frame before it; `black`, a black frame; `error`, none: the other frames are served."""
 
     def __init__(self, live, mode=None):
         self.live, self.mode = live, mode
-        self.revision, self.outcomes = live.outcomes()
+        with live.lock:
+            self.revision, self.outcomes = live.outcomes()
+            # The frames of the stream that are the frames of the file, if they are repeated or left out.
+            self.order = paces.constant(paces.begins(live.contents()), live.rate()) if live.is_constant else None
         self.etag = f'"{live.instance}-{self.revision}{f"-{mode}" if mode else ""}"'
         size = self.outcomes.size
         refused = self.outcomes.first_refused()
@@ -64,13 +68,14 @@ class Clip:
         self.header = header_of(size, live.rate())
         self.samples = size_of(*size)
         self.frame_size = len(MARK) + self.samples
-        self.count = self.outcomes.count
+        self.count = self.outcomes.count if self.order is None else len(self.order)
         self.length = len(self.header) + self.count * self.frame_size
         luma = size[0] * size[1]
         self.black = bytes([16]) * luma + bytes([128]) * (self.samples - luma)
 
     def source_of(self, number):
-        """The frame whose picture is served as this one, or None for a black one."""
+        """The frame of the stream whose picture is served as this one, or None for a black one."""
+        number = number if self.order is None else self.order[number]
         if self.outcomes.is_served(self.outcomes.of_frame(number)):
             return number
         return self.outcomes.served_before(number) if self.mode == "repeat" else None
@@ -82,7 +87,11 @@ class Clip:
         for number, (width, height, _) in found.items():
             if (width, height) != self.outcomes.size:
                 raise Lost(f"frame {number} has {width}x{height} samples")
-        sources = map(self.source_of, numbers)
+        sources = list(map(self.source_of, numbers))
+        if self.mode == "error" and None in sources:
+            number = list(numbers)[sources.index(None)]
+            number = number if self.order is None else self.order[number]
+            raise Cannot(number, self.outcomes.reply(self.outcomes.of_frame(number)))
         return [self.black if source is None else found[source][2] for source in sources]
 
     def in_order(self, first, end):

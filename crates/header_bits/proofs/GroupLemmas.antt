@@ -201,7 +201,7 @@ fields-takes is_key before = counted-as (first_total is_key before)
     rw (color-ends is_key s, (segmentation-measured before.segments).ends color, filter-ends segments) (omega arith))
 
 -- quantizers
-quantizers-ends : (s : Reader) → (quantizer_bits s).1 ≡ (quantizers s).1
+pub quantizers-ends : (s : Reader) → (quantizer_bits s).1 ≡ (quantizers s).1
 unfolding quantizers quantizer_bits four_optional
 quantizers-ends s =
     let one : IsOptional (signed 4) 5 = signed-optional 4 in

@@ -3,3 +3,4 @@ pub mod TakesLemmas
 pub mod AddLemmas
 pub mod GroupLemmas
 mod PacketLemmas
+mod CopyLemmas

@@ -49,7 +49,7 @@ start_tagged before packet None = tt
 start_tagged before packet (Some tag) =
     IfOk-unless _ (tag.key && nat_lt (length packet) 10) ShortPacket _ (IfOk-unless _ (nat_lt 3 tag.version) Version _ (start_chosen tag.key before packet tag refl))
 
-start_known : (before : Option Context) (packet : List ℕ) → IfOk (start_of before packet) (λ start. (start.tag.key ≡ has_key_tag packet) × (slice_range packet start.place (start.place + start.tag.first_partition) ≡ first_text packet))
+pub start_known : (before : Option Context) (packet : List ℕ) → IfOk (start_of before packet) (λ start. (start.tag.key ≡ has_key_tag packet) × (slice_range packet start.place (start.place + start.tag.first_partition) ≡ first_text packet))
 unfolding text_after
 start_known before packet = start_tagged before packet (tag_of packet)
 
@@ -64,7 +64,7 @@ ends_there : (tables : TableEntries) (before : Option Context) (packet : List �
     → (all_bits (has_key_tag packet) tables.updates (started (first_text packet))).1 ≡ (reading_of is_key tables.updates (first_context tables (has_key_tag packet) before) (started text)).1
 ends_there tables before packet is_key text key_is text_is = rw (key_is, text_is) (all-ends (has_key_tag packet) tables.updates (first_context tables (has_key_tag packet) before) (started (first_text packet)))
 
-end_known : (packet : List ℕ) (is_past : Bool) (end : ℕ) → IfOk (if is_past then Err FirstPartition else Ok end) (λ e. e ≡ end)
+pub end_known : (packet : List ℕ) (is_past : Bool) (end : ℕ) → IfOk (if is_past then Err FirstPartition else Ok end) (λ e. e ≡ end)
 end_known packet is_past end = IfOk-unless (λ (e : ℕ). e ≡ end) is_past FirstPartition (Ok end) refl
 
 pub bits_add_up : BitsAddUp

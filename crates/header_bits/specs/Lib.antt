@@ -1,4 +1,6 @@
 pub mod Asked
 pub mod Bits
+pub mod Coded
+pub mod Copies
 pub mod Totals
 pub mod Worked

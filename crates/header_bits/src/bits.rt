@@ -158,7 +158,7 @@ fn read_deltas(reader: &mut Decoder) -> DeltaBits
 }
 
 #[tactic(auto, unfolding(crate::specs::Bits::quantizer_bits))]
-fn read_quantizers(reader: &mut Decoder) -> [u8; 5]
+pub(crate) fn read_quantizers(reader: &mut Decoder) -> [u8; 5]
     ensures { quantizer_bits reader.old ≡ (result, reader.new) }
 {
     skip(reader, 7);
@@ -211,7 +211,7 @@ fn read_inter(reader: &mut Decoder, is_key: bool) -> InterBits
 }
 
 #[tactic(auto, unfolding(crate::specs::Bits::first_bits))]
-fn read_first(reader: &mut Decoder, is_key: bool) -> (SegmentBits, DeltaBits)
+pub(crate) fn read_first(reader: &mut Decoder, is_key: bool) -> (SegmentBits, DeltaBits)
     ensures { first_bits is_key reader.old ≡ (result, reader.new) }
 {
     skip(reader, if is_key { 2 } else { 0 });
@@ -242,7 +242,7 @@ fn read_all(reader: &mut Decoder, is_key: bool, updates: &[u8; 1056]) -> HeaderB
 }
 
 /// The text of the first partition of a packet, as far as the packet has it.
-fn first_text(packet: &[u8]) -> &[u8]
+pub(crate) fn first_text(packet: &[u8]) -> &[u8]
     ensures { result.now ≡ first_text packet.now }
 {
     match tag(packet) {

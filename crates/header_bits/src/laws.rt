@@ -7,6 +7,7 @@ ghost use Rattle.frame_header.specs.Header.{header_of};
 ghost use Rattle.frame_header.specs.Worked.{key_frame_packet, worked_tables, written_fields};
 ghost use Rattle.frame_header.specs.WorkedInter.{inter_before, inter_packet};
 ghost use Rattle.header_bits.specs.Bits.{all_bits, header_bits, optional};
+ghost use Rattle.header_bits.specs.Copies.{CopiesAreNamed, copy_numbers};
 ghost use Rattle.header_bits.specs.Totals.{BitsAddUp, BitsEndThere, total};
 ghost use Rattle.header_bits.specs.Worked.{bits_written, inter_bits_written, key_bits};
 
@@ -36,4 +37,15 @@ pub fn worked_totals()
 pub fn bits_add_up()
     ensures sum { BitsAddUp }
     ensures ends { BitsEndThere }
+{}
+
+/// Decoding copies the references that the coded numbers name: 1 is the last frame, 2 the other reference, 0 and 3 are none.
+pub fn copies_are_named()
+    ensures { CopiesAreNamed }
+{}
+
+/// The numbers of a worked inter frame, which copies altref to golden and golden to altref, and of a key frame.
+pub fn worked_copies()
+    ensures inter { copy_numbers inter_packet ≡ record { golden = 2; altref = 2 } }
+    ensures key { copy_numbers key_frame_packet ≡ record { golden = 0; altref = 0 } }
 {}

@@ -22,4 +22,4 @@ IsAnswerFault Lines tables bytes output output' fault = IsListFault bytes output
 IsAnswerFault Objects tables bytes output output' fault = IsListFault bytes output output' fault
 IsAnswerFault Hashes tables bytes output output' fault = IsFileHashFault tables bytes output output' fault
 IsAnswerFault (Findings checking) tables bytes output output' fault = IsCheckedFault checking.form tables bytes output output' fault
-IsAnswerFault (Details asked) tables bytes output output' fault = IsDetailFault asked bytes output output' fault
+IsAnswerFault (Details asked) tables bytes output output' fault = IsDetailFault asked tables bytes output output' fault

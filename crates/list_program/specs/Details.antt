@@ -4,6 +4,7 @@ use Rattle.std.specs.Io.KnownBytes.{Appends}
 use Rattle.vp8_tables.specs.Tables.{TableEntries}
 use Rattle.stream_files.specs.declared.ivf.Ivf.{Ivf}
 use Rattle.stream_files.specs.Ivf.{IsIvf, IvfRefuses}
+use Rattle.macroblock_lists.specs.Fronts.{GainsFront}
 use Rattle.macroblock_lists.specs.Texts.{list_text}
 use Rattle.macroblock_lists.specs.declared.listing.Wanted.{Wanted}
 use Rattle.list_program.specs.declared.details.Asked.{Asked}
@@ -50,11 +51,18 @@ pub record HasNoPacket (asked : Asked) (bytes : List ℕ) (packet count : ℕ) :
   pub over : count ≤ packet
   pub asked_for : (asked.first ≡ packet) ⊎ (asked.last ≡ Some packet)
 
+-- the bytes are an IVF file that has these packets, and the output gained the front of their text
+pub record IsDetailCut (asked : Asked) (tables : TableEntries) (bytes : List ℕ) (output output' : Option (List ℕ)) : Type 0 where
+  pub file : Ivf
+  pub read : IsIvf bytes file
+  pub inside : end_of asked.last (length file.packets) ≤ length file.packets
+  pub front : GainsFront (list_text asked.what asked.form tables file.packets (start_of asked (length file.packets)) (count_of asked (length file.packets))) output output'
+
 -- why they were not written: the bytes are not an IVF file, or a packet is not there, and then nothing was written; memory ran out; or the
 -- writer returned an error
-abbrev pub IsDetailFault : Asked → List ℕ → Option (List ℕ) → Option (List ℕ) → Fault → Type 0
-IsDetailFault asked bytes output output' (Input fault) = IvfRefuses bytes fault × (output' ≡ output)
-IsDetailFault asked bytes output output' (NoPacket packet count) = HasNoPacket asked bytes packet count × (output' ≡ output)
-IsDetailFault asked bytes output output' NoMemory = (file : Ivf) × IsIvf bytes file
-IsDetailFault asked bytes output output' CannotWrite = Unit {0}
-IsDetailFault asked bytes output output' _ = ⊥
+abbrev pub IsDetailFault : Asked → TableEntries → List ℕ → Option (List ℕ) → Option (List ℕ) → Fault → Type 0
+IsDetailFault asked tables bytes output output' (Input fault) = IvfRefuses bytes fault × (output' ≡ output)
+IsDetailFault asked tables bytes output output' (NoPacket packet count) = HasNoPacket asked bytes packet count × (output' ≡ output)
+IsDetailFault asked tables bytes output output' NoMemory = IsDetailCut asked tables bytes output output'
+IsDetailFault asked tables bytes output output' CannotWrite = Unit {0}
+IsDetailFault asked tables bytes output output' _ = ⊥

@@ -63,8 +63,8 @@ fn wanted_of(asked: Asked, count: usize) -> Result<Wanted, Fault<'static>>
 
 /// Writes the macroblocks of packets of an IVF file, or their headers, and flushes the writer.
 ///
-/// `NoPacket` if the stream has no such packet: nothing is written then. If memory runs out, a part may have been
-/// written, which is not flushed.
+/// `NoPacket` if the stream has no such packet: nothing is written then. `NoMemory` if memory runs out: the front of the
+/// text was written, and is not flushed. `CannotWrite` if the writer returns an error.
 pub fn details_to<O: Write>(
     alloc: Global,
     asked: Asked,
@@ -73,7 +73,7 @@ pub fn details_to<O: Write>(
     output: &mut O,
 ) -> Result<(), Fault<'static>>
     ensures detailed { OnOk result (IsDetailed asked tables.now (rc_slice_items bytes.now) (O.contents output.old) (O.contents output.new)) }
-    ensures fault { IfErr result (IsDetailFault asked (rc_slice_items bytes.now) (O.contents output.old) (O.contents output.new)) }
+    ensures fault { IfErr result (IsDetailFault asked tables.now (rc_slice_items bytes.now) (O.contents output.old) (O.contents output.new)) }
 {
     let file = match ivf_share(alloc, bytes) {
         Ok(file) => file,

@@ -9,14 +9,14 @@ use Rattle.frame_header.specs.declared.context.SignBiases.{SignBiases}
 use Rattle.frame_header.specs.declared.fields.Segmentation.{Segmentation}
 use Rattle.frame_header.specs.declared.header.Header.{Header}
 use Rattle.frame_header.specs.declared.inter_fields.ReferenceProbabilities.{ReferenceProbabilities}
-use Rattle.frame_header.specs.declared.references.Reference.{Reference}
-use Rattle.frame_header.specs.declared.references.Reference.TheVariants.{Last, Golden, Altref}
 use Rattle.frame_header.specs.declared.references.ReferenceUpdates.{ReferenceUpdates}
 use Rattle.frame_header.specs.declared.trailing_fields.Quantizers.{Quantizers}
 use Rattle.header_bits.specs.declared.bits.DeltaBits.{DeltaBits}
 use Rattle.header_bits.specs.declared.bits.HeaderBits.{HeaderBits}
 use Rattle.header_bits.specs.declared.bits.InterBits.{InterBits}
 use Rattle.header_bits.specs.declared.bits.SegmentBits.{SegmentBits}
+use Rattle.header_bits.specs.declared.coded.Coded.{Coded}
+use Rattle.header_bits.specs.declared.copies.CopyNumbers.{CopyNumbers}
 use Rattle.macroblock_lists.specs.declared.layouts.Layout.{Layout}
 use Rattle.macroblock_lists.specs.declared.layouts.Layout.TheVariants.{Words, Lines, Members, Bits}
 use Rattle.macroblock_lists.specs.Parts.{joined}
@@ -92,17 +92,23 @@ numbers_field layout name values bits = field layout name (list_of layout (joine
 abbrev pub signed_numbers_field : Layout → List ℕ → List ℤ → List ℕ → List ℕ
 signed_numbers_field layout name values bits = field layout name (list_of layout (joined signed_decimal values)) (list_of layout (joined decimal bits))
 
--- the frame tag, and the size of a key frame (sections 9.1 and 19.1); `key_frame` is 1 for a key frame
-abbrev pub tag_fields : Layout → Header → List ℕ
-tag_fields layout header = flag_field layout (codes "key_frame") header.is_key ++ number_field layout (codes "version") header.version 3 ++ flag_field layout (codes "show_frame") header.is_shown
+-- the frame tag, and the size of a key frame with its scales (sections 9.1 and 19.1); `key_frame` is 1 for a key frame
+abbrev pub tag_fields : Layout → Header → ℕ → List ℕ
+tag_fields layout header first_size =
+    flag_field layout (codes "key_frame") header.is_key ++ number_field layout (codes "version") header.version 3 ++ flag_field layout (codes "show_frame") header.is_shown
+    ++ number_field layout (codes "first_part_size") first_size 19
 
-abbrev pub key_fields : Layout → Header → List ℕ
-key_fields layout header =
-    number_field layout (codes "width") header.width 14 ++ number_field layout (codes "height") header.height 14
-    ++ flag_field layout (codes "color_space") header.colors.color_space ++ flag_field layout (codes "clamping_type") header.colors.clamping_type
+abbrev pub size_fields : Layout → Header → ℕ × ℕ → List ℕ
+size_fields layout header scales =
+    number_field layout (codes "width") header.width 14 ++ number_field layout (codes "horizontal_scale") scales.0 2
+    ++ number_field layout (codes "height") header.height 14 ++ number_field layout (codes "vertical_scale") scales.1 2
 
-abbrev pub frame_fields : Layout → Header → List ℕ
-frame_fields layout header = tag_fields layout header ++ (if header.is_key then key_fields layout header else [])
+abbrev pub key_fields : Layout → Header → ℕ × ℕ → List ℕ
+key_fields layout header scales =
+    size_fields layout header scales ++ flag_field layout (codes "color_space") header.colors.color_space ++ flag_field layout (codes "clamping_type") header.colors.clamping_type
+
+abbrev pub frame_fields : Layout → Header → Coded → List ℕ
+frame_fields layout header coded = tag_fields layout header coded.first_size ++ (if header.is_key then key_fields layout header coded.scales else [])
 
 -- the segments (section 9.3)
 abbrev pub data_fields : Layout → Segments → SegmentBits → List ℕ
@@ -153,36 +159,25 @@ quantizer_fields layout quantizers bits =
     number_field layout (codes "y_ac_qi") quantizers.y_ac_index 7 ++ signed_field layout (codes "y_dc_delta") quantizers.y_dc_delta (slice_index bits 0)
     ++ delta_quantizers layout quantizers bits
 
--- the references (section 9.7): the number of the reference that another becomes a copy of
-abbrev pub golden_number : Option Reference → ℕ
-golden_number None = 0
-golden_number (Some Last) = 1
-golden_number (Some Golden) = 0
-golden_number (Some Altref) = 2
+-- the references (section 9.7): the numbers of the references that golden and altref become copies of are those that are coded (law
+-- `copies_are_named` of header_bits)
+abbrev pub copy_fields : Layout → ReferenceUpdates → CopyNumbers → List ℕ
+copy_fields layout updates copies =
+    number_field_unless layout updates.refreshes_golden (codes "copy_buffer_to_golden") copies.golden 2
+    ++ number_field_unless layout updates.refreshes_altref (codes "copy_buffer_to_arf") copies.altref 2
 
-abbrev pub altref_number : Option Reference → ℕ
-altref_number None = 0
-altref_number (Some Last) = 1
-altref_number (Some Golden) = 2
-altref_number (Some Altref) = 0
-
-abbrev pub copy_fields : Layout → ReferenceUpdates → List ℕ
-copy_fields layout updates =
-    number_field_unless layout updates.refreshes_golden (codes "copy_buffer_to_golden") (golden_number updates.golden_copy) 2
-    ++ number_field_unless layout updates.refreshes_altref (codes "copy_buffer_to_arf") (altref_number updates.altref_copy) 2
-
-abbrev pub refresh_fields : Layout → ReferenceUpdates → SignBiases → List ℕ
-refresh_fields layout updates biases =
+abbrev pub refresh_fields : Layout → ReferenceUpdates → CopyNumbers → SignBiases → List ℕ
+refresh_fields layout updates copies biases =
     flag_field layout (codes "refresh_golden_frame") updates.refreshes_golden ++ flag_field layout (codes "refresh_alternate_frame") updates.refreshes_altref
-    ++ copy_fields layout updates
+    ++ copy_fields layout updates copies
     ++ flag_field layout (codes "sign_bias_golden") biases.golden ++ flag_field layout (codes "sign_bias_alternate") biases.altref
 
 abbrev pub entropy_field : Layout → Header → List ℕ
 entropy_field layout header = flag_field layout (codes "refresh_entropy_probs") header.refreshes_entropy
 
-abbrev pub reference_fields : Layout → Header → List ℕ
-reference_fields layout header =
-    (if header.is_key then [] else refresh_fields layout header.references header.context.sign_biases) ++ entropy_field layout header
+abbrev pub reference_fields : Layout → Header → CopyNumbers → List ℕ
+reference_fields layout header copies =
+    (if header.is_key then [] else refresh_fields layout header.references copies header.context.sign_biases) ++ entropy_field layout header
     ++ number_field_unless layout header.is_key (codes "refresh_last") (from_bool header.references.refreshes_last) 1
 
 -- the updates of probabilities: how many of them are coded, of so many bits each, and the bits of all, those of the flags too
@@ -214,9 +209,10 @@ last_fields layout header bits =
     token_field layout bits.coefficients ++ skip_fields layout header.skip_probability ++ (if header.is_key then [] else inter_fields layout header.reference_probabilities bits.inter)
 
 -- all fields
-abbrev pub first_fields : Layout → Header → HeaderBits → List ℕ
-first_fields layout header bits =
-    frame_fields layout header ++ segment_fields layout header.segmentation header.context.segments bits.segments ++ filter_fields layout header bits.deltas ++ partition_fields layout header
+abbrev pub first_fields : Layout → Header → Coded → List ℕ
+first_fields layout header coded =
+    frame_fields layout header coded ++ segment_fields layout header.segmentation header.context.segments coded.bits.segments ++ filter_fields layout header coded.bits.deltas ++ partition_fields layout header
 
-unfoldable pub header_fields : Layout → Header → HeaderBits → List ℕ
-header_fields layout header bits = first_fields layout header bits ++ quantizer_fields layout header.quantizers bits.quantizers ++ reference_fields layout header ++ last_fields layout header bits
+unfoldable pub header_fields : Layout → Header → Coded → List ℕ
+header_fields layout header coded =
+    first_fields layout header coded ++ quantizer_fields layout header.quantizers coded.bits.quantizers ++ reference_fields layout header coded.copies ++ last_fields layout header coded.bits

@@ -11,5 +11,7 @@ pub mod PartitionEnds
 pub mod PartitionEndLaws
 pub mod Changes
 pub mod Records
+pub mod FilterLaws
+pub mod Fronts
 pub mod Frames
 pub mod Texts

@@ -8,8 +8,8 @@ use Rattle.frame_header.specs.declared.cause.Cause.{Cause}
 use Rattle.frame_header.specs.declared.cause.Cause.TheVariants.{NoKeyFrame}
 use Rattle.frame_header.specs.declared.header.Header.{Header}
 use Rattle.frame_header.specs.Tags.{has_key_tag}
-use Rattle.header_bits.specs.Bits.{header_bits}
-use Rattle.header_bits.specs.declared.bits.HeaderBits.{HeaderBits}
+use Rattle.header_bits.specs.Coded.{coded_in}
+use Rattle.header_bits.specs.declared.coded.Coded.{Coded}
 use Rattle.stream_facts.specs.Json.{number_member}
 use Rattle.stream_facts.specs.Lines.{cause_text}
 use Rattle.state_cache.specs.declared.outcomes.Broken.{Broken}
@@ -42,9 +42,9 @@ repeat_text forms.Lines place = comment_start place ++ codes " no bytes, the las
 repeat_text forms.Objects place = codes "{" ++ number_member (codes "packet") place ++ codes "\"repeats\":true}\n"
 
 -- the header before the macroblocks: a comment
-abbrev pub comment_of : Form → ℕ → Header → HeaderBits → List ℕ
-comment_of forms.Lines place header bits = comment_start place ++ header_fields layouts.Words header bits ++ codes "\n"
-comment_of forms.Objects place header bits = []
+abbrev pub comment_of : Form → ℕ → Header → Coded → List ℕ
+comment_of forms.Lines place header coded = comment_start place ++ header_fields layouts.Words header coded ++ codes "\n"
+comment_of forms.Objects place header coded = []
 
 -- the sizes of the token partitions
 abbrev pub sizes_text : Header → List ℕ
@@ -58,18 +58,18 @@ sizes_bits header = decimal (24 * (length header.partitions.items - 1))
 abbrev pub packet_line : ℕ → List ℕ
 packet_line place = codes "packet\t" ++ decimal place ++ codes "\n"
 
-abbrev pub header_text : Form → ℕ → Header → HeaderBits → List ℕ
-header_text forms.Lines place header bits =
-    packet_line place ++ header_fields layouts.Lines header bits ++ codes "token_partition_sizes\t" ++ sizes_text header ++ codes "\t" ++ sizes_bits header ++ codes "\n"
-header_text forms.Objects place header bits =
-    codes "{" ++ number_member (codes "packet") place ++ header_fields layouts.Members header bits ++ codes "\"token_partition_sizes\":[" ++ sizes_text header
-    ++ codes "],\"bits\":{" ++ header_fields layouts.Bits header bits ++ codes "\"token_partition_sizes\":" ++ sizes_bits header ++ codes "}}\n"
+abbrev pub header_text : Form → ℕ → Header → Coded → List ℕ
+header_text forms.Lines place header coded =
+    packet_line place ++ header_fields layouts.Lines header coded ++ codes "token_partition_sizes\t" ++ sizes_text header ++ codes "\t" ++ sizes_bits header ++ codes "\n"
+header_text forms.Objects place header coded =
+    codes "{" ++ number_member (codes "packet") place ++ header_fields layouts.Members header coded ++ codes "\"token_partition_sizes\":[" ++ sizes_text header
+    ++ codes "],\"bits\":{" ++ header_fields layouts.Bits header coded ++ codes "\"token_partition_sizes\":" ++ sizes_bits header ++ codes "}}\n"
 
 -- a packet that is decoded
 abbrev pub frame_by : What → Form → ℕ → TableEntries → List ℕ → Header → Option Known → List ℕ
-frame_by what.Macroblocks form place tables packet header before = comment_of form place header (header_bits tables packet) ++ frame_text form place tables packet header before
+frame_by what.Macroblocks form place tables packet header before = comment_of form place header (coded_in tables packet) ++ frame_text form place tables packet header before
 frame_by what.Header form place tables packet header before =
-    header_text form place header (header_bits tables packet) ++ all_changes form place (probabilities_before tables header.is_key before) header.context.probabilities
+    header_text form place header (coded_in tables packet) ++ all_changes form place (probabilities_before tables header.is_key before) header.context.probabilities
 
 abbrev pub text_by : What → Form → ℕ → TableEntries → List ℕ → Option Known → Result Header Cause → List ℕ
 text_by what form place tables packet before (Ok header) = frame_by what form place tables packet header before

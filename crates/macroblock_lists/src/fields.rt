@@ -2,31 +2,53 @@
 
 ghost use Rattle.std.specs.Prelude.{◌≡◌, ◌<◌, [], if◌then◌else◌, OnOk};
 ghost use Rattle.std.specs.Io.KnownBytes.{Appends};
-ghost use Rattle.macroblock_lists.specs.Fields.{altref_number, coded_count, copy_fields, delta_quantizers, entropy_field, first_fields, frame_fields, golden_number, header_fields, inter_fields, inter_updates, key_fields, last_fields, log_of, number_field_unless, partition_fields, probability_fields, quantizer_fields, reference_fields, refresh_fields, skip_fields, tag_fields, token_field};
+ghost use Rattle.macroblock_lists.specs.Fields.{coded_count, copy_fields, delta_quantizers, entropy_field, first_fields, frame_fields, header_fields, inter_fields, inter_updates, key_fields, last_fields, log_of, number_field_unless, partition_fields, probability_fields, quantizer_fields, reference_fields, refresh_fields, size_fields, skip_fields, tag_fields, token_field};
 
 use crate::layouts::Layout;
 use crate::segment_fields::{write_filter_fields, write_segment_fields};
 use crate::values::{write_flag_field, write_number_field, write_signed_field, write_update_field};
-use frame_header::{
-    Header, Quantizers, Reference, ReferenceProbabilities, ReferenceUpdates, SignBiases,
-};
-use header_bits::{HeaderBits, InterBits};
+use frame_header::{Header, Quantizers, ReferenceProbabilities, ReferenceUpdates, SignBiases};
+use header_bits::{Coded, CopyNumbers, HeaderBits, InterBits};
 use std::io::Write;
 use stream_files::WriteFault;
 
-fn write_tag_fields<W: Write>(w: &mut W, layout: Layout, header: &Header) -> Result<(), WriteFault>
-    ensures { OnOk result (Appends (W.contents w.old) (W.contents w.new) (tag_fields layout header.now)) }
+fn write_tag_fields<W: Write>(
+    w: &mut W,
+    layout: Layout,
+    header: &Header,
+    first_size: u32,
+) -> Result<(), WriteFault>
+    ensures { OnOk result (Appends (W.contents w.old) (W.contents w.new) (tag_fields layout header.now first_size)) }
 {
     write_flag_field(w, layout, "key_frame", header.is_key)?;
     write_number_field(w, layout, "version", u64::from(header.version), 3)?;
-    write_flag_field(w, layout, "show_frame", header.is_shown)
+    write_flag_field(w, layout, "show_frame", header.is_shown)?;
+    write_number_field(w, layout, "first_part_size", u64::from(first_size), 19)
 }
 
-fn write_key_fields<W: Write>(w: &mut W, layout: Layout, header: &Header) -> Result<(), WriteFault>
-    ensures { OnOk result (Appends (W.contents w.old) (W.contents w.new) (key_fields layout header.now)) }
+fn write_size_fields<W: Write>(
+    w: &mut W,
+    layout: Layout,
+    header: &Header,
+    scales: (u8, u8),
+) -> Result<(), WriteFault>
+    ensures { OnOk result (Appends (W.contents w.old) (W.contents w.new) (size_fields layout header.now scales)) }
 {
     write_number_field(w, layout, "width", u64::from(header.width), 14)?;
+    write_number_field(w, layout, "horizontal_scale", u64::from(scales.0), 2)?;
     write_number_field(w, layout, "height", u64::from(header.height), 14)?;
+    write_number_field(w, layout, "vertical_scale", u64::from(scales.1), 2)
+}
+
+fn write_key_fields<W: Write>(
+    w: &mut W,
+    layout: Layout,
+    header: &Header,
+    scales: (u8, u8),
+) -> Result<(), WriteFault>
+    ensures { OnOk result (Appends (W.contents w.old) (W.contents w.new) (key_fields layout header.now scales)) }
+{
+    write_size_fields(w, layout, header, scales)?;
     write_flag_field(w, layout, "color_space", header.colors.color_space)?;
     write_flag_field(w, layout, "clamping_type", header.colors.clamping_type)
 }
@@ -35,11 +57,12 @@ fn write_key_fields_if<W: Write>(
     w: &mut W,
     layout: Layout,
     header: &Header,
+    scales: (u8, u8),
 ) -> Result<(), WriteFault>
-    ensures { OnOk result (Appends (W.contents w.old) (W.contents w.new) (if header.now.is_key then key_fields layout header.now else [])) }
+    ensures { OnOk result (Appends (W.contents w.old) (W.contents w.new) (if header.now.is_key then key_fields layout header.now scales else [])) }
 {
     if header.is_key {
-        write_key_fields(w, layout, header)
+        write_key_fields(w, layout, header, scales)
     } else {
         Ok(())
     }
@@ -49,11 +72,12 @@ fn write_frame_fields<W: Write>(
     w: &mut W,
     layout: Layout,
     header: &Header,
+    coded: &Coded,
 ) -> Result<(), WriteFault>
-    ensures { OnOk result (Appends (W.contents w.old) (W.contents w.new) (frame_fields layout header.now)) }
+    ensures { OnOk result (Appends (W.contents w.old) (W.contents w.new) (frame_fields layout header.now coded.now)) }
 {
-    write_tag_fields(w, layout, header)?;
-    write_key_fields_if(w, layout, header)
+    write_tag_fields(w, layout, header, coded.first_size)?;
+    write_key_fields_if(w, layout, header, coded.scales)
 }
 
 /// The logarithm of a number of partitions.
@@ -86,14 +110,14 @@ fn write_first_fields<W: Write>(
     w: &mut W,
     layout: Layout,
     header: &Header,
-    bits: &HeaderBits,
+    coded: &Coded,
 ) -> Result<(), WriteFault>
-    ensures { OnOk result (Appends (W.contents w.old) (W.contents w.new) (first_fields layout header.now bits.now)) }
+    ensures { OnOk result (Appends (W.contents w.old) (W.contents w.new) (first_fields layout header.now coded.now)) }
 {
-    write_frame_fields(w, layout, header)?;
+    write_frame_fields(w, layout, header, coded)?;
     let (segmentation, segments) = (&header.segmentation, &header.context.segments);
-    write_segment_fields(w, layout, segmentation, segments, &bits.segments)?;
-    write_filter_fields(w, layout, header, &bits.deltas)?;
+    write_segment_fields(w, layout, segmentation, segments, &coded.bits.segments)?;
+    write_filter_fields(w, layout, header, &coded.bits.deltas)?;
     write_partition_fields(w, layout, header)
 }
 
@@ -124,30 +148,6 @@ fn write_quantizer_fields<W: Write>(
     write_delta_quantizers(w, layout, quantizers, bits)
 }
 
-/// The number of the reference that golden becomes a copy of.
-fn golden_number(copy: Option<Reference>) -> u64
-    ensures { result ≡ golden_number copy }
-{
-    match copy {
-        None => 0,
-        Some(Reference::Last) => 1,
-        Some(Reference::Golden) => 0,
-        Some(Reference::Altref) => 2,
-    }
-}
-
-/// The number of the reference that altref becomes a copy of.
-fn altref_number(copy: Option<Reference>) -> u64
-    ensures { result ≡ altref_number copy }
-{
-    match copy {
-        None => 0,
-        Some(Reference::Last) => 1,
-        Some(Reference::Golden) => 2,
-        Some(Reference::Altref) => 0,
-    }
-}
-
 /// Writes a number unless `is_absent`.
 fn write_number_unless<W: Write>(
     w: &mut W,
@@ -170,11 +170,11 @@ fn write_copy_fields<W: Write>(
     w: &mut W,
     layout: Layout,
     updates: ReferenceUpdates,
+    copies: CopyNumbers,
 ) -> Result<(), WriteFault>
-    ensures { OnOk result (Appends (W.contents w.old) (W.contents w.new) (copy_fields layout updates)) }
+    ensures { OnOk result (Appends (W.contents w.old) (W.contents w.new) (copy_fields layout updates copies)) }
 {
-    let golden = golden_number(updates.golden_copy);
-    let altref = altref_number(updates.altref_copy);
+    let (golden, altref) = (u64::from(copies.golden), u64::from(copies.altref));
     let (has_golden, has_altref) = (updates.refreshes_golden, updates.refreshes_altref);
     write_number_unless(w, layout, has_golden, "copy_buffer_to_golden", golden, 2)?;
     write_number_unless(w, layout, has_altref, "copy_buffer_to_arf", altref, 2)
@@ -184,9 +184,10 @@ fn write_refresh_fields<W: Write>(
     w: &mut W,
     layout: Layout,
     updates: ReferenceUpdates,
+    copies: CopyNumbers,
     biases: SignBiases,
 ) -> Result<(), WriteFault>
-    ensures { OnOk result (Appends (W.contents w.old) (W.contents w.new) (refresh_fields layout updates biases)) }
+    ensures { OnOk result (Appends (W.contents w.old) (W.contents w.new) (refresh_fields layout updates copies biases)) }
 {
     write_flag_field(w, layout, "refresh_golden_frame", updates.refreshes_golden)?;
     write_flag_field(
@@ -195,7 +196,7 @@ fn write_refresh_fields<W: Write>(
         "refresh_alternate_frame",
         updates.refreshes_altref,
     )?;
-    write_copy_fields(w, layout, updates)?;
+    write_copy_fields(w, layout, updates, copies)?;
     write_flag_field(w, layout, "sign_bias_golden", biases.golden)?;
     write_flag_field(w, layout, "sign_bias_alternate", biases.altref)
 }
@@ -204,13 +205,15 @@ fn write_refresh_fields_unless<W: Write>(
     w: &mut W,
     layout: Layout,
     header: &Header,
+    copies: CopyNumbers,
 ) -> Result<(), WriteFault>
-    ensures { OnOk result (Appends (W.contents w.old) (W.contents w.new) (if header.now.is_key then [] else refresh_fields layout header.now.references header.now.context.sign_biases)) }
+    ensures { OnOk result (Appends (W.contents w.old) (W.contents w.new) (if header.now.is_key then [] else refresh_fields layout header.now.references copies header.now.context.sign_biases)) }
 {
     if header.is_key {
         Ok(())
     } else {
-        write_refresh_fields(w, layout, header.references, header.context.sign_biases)
+        let (updates, biases) = (header.references, header.context.sign_biases);
+        write_refresh_fields(w, layout, updates, copies, biases)
     }
 }
 
@@ -228,11 +231,12 @@ fn write_reference_fields<W: Write>(
     w: &mut W,
     layout: Layout,
     header: &Header,
+    copies: CopyNumbers,
 ) -> Result<(), WriteFault>
-    ensures { OnOk result (Appends (W.contents w.old) (W.contents w.new) (reference_fields layout header.now)) }
+    ensures { OnOk result (Appends (W.contents w.old) (W.contents w.new) (reference_fields layout header.now copies)) }
 {
     let last = u64::from(header.references.refreshes_last);
-    write_refresh_fields_unless(w, layout, header)?;
+    write_refresh_fields_unless(w, layout, header, copies)?;
     write_entropy_field(w, layout, header)?;
     write_number_unless(w, layout, header.is_key, "refresh_last", last, 1)
 }
@@ -343,18 +347,18 @@ fn write_last_fields<W: Write>(
     write_inter_fields_unless(w, layout, header, &bits.inter)
 }
 
-/// Writes the fields of a header, whose optional fields take these bits.
+/// Writes the fields of a header, with what its text has besides.
 #[tactic(auto, unfolding(crate::specs::Fields::header_fields))]
 pub(crate) fn write_header_fields<W: Write>(
     w: &mut W,
     layout: Layout,
     header: &Header,
-    bits: &HeaderBits,
+    coded: &Coded,
 ) -> Result<(), WriteFault>
-    ensures { OnOk result (Appends (W.contents w.old) (W.contents w.new) (header_fields layout header.now bits.now)) }
+    ensures { OnOk result (Appends (W.contents w.old) (W.contents w.new) (header_fields layout header.now coded.now)) }
 {
-    write_first_fields(w, layout, header, bits)?;
-    write_quantizer_fields(w, layout, header.quantizers, &bits.quantizers)?;
-    write_reference_fields(w, layout, header)?;
-    write_last_fields(w, layout, header, bits)
+    write_first_fields(w, layout, header, coded)?;
+    write_quantizer_fields(w, layout, header.quantizers, &coded.bits.quantizers)?;
+    write_reference_fields(w, layout, header, coded.copies)?;
+    write_last_fields(w, layout, header, &coded.bits)
 }

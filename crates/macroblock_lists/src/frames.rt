@@ -1,6 +1,6 @@
 //! The macroblocks of a frame, one after another.
 
-ghost use Rattle.std.specs.Prelude.{◌≡◌, ◌<◌, ◌≤◌, ◌+◌, ◌*◌, length, All, OnOk};
+ghost use Rattle.std.specs.Prelude.{◌≡◌, ◌<◌, ◌≤◌, ◌+◌, ◌*◌, length, All, Err, OnOk};
 ghost use Rattle.std.specs.Io.KnownBytes.{Appends};
 ghost use Rattle.reference_frames.specs.FrameTokens.{state_with, tokens_at, tokens_start};
 ghost use Rattle.macroblock_lists.specs.PartitionEnds.{marked_start, zeros_for};
@@ -137,7 +137,8 @@ pub(crate) fn write_frame<W: Write>(
     requires high { (0 < frame.now.rows) × (frame.now.rows ≤ 1024) }
     requires some { 0 < length frame.now.header.now.partitions.items }
     requires inside { All (λ place. place.start + place.length ≤ length packet.now) frame.now.header.now.partitions.items }
-    ensures { OnOk result (Appends (W.contents w.old) (W.contents w.new) (texts_of target.form target.place frame.now.header.now frame.now.columns (tokens_start frame.now.header.now.partitions.items packet.now frame.now.columns) (marked_start (zeros_for frame.now.columns frame.now.rows) frame.now.header.now.partitions.items packet.now frame.now.columns) frame.now.records.now.modes.records frame.now.records.now.facts.items)) }
+    ensures written { OnOk result (Appends (W.contents w.old) (W.contents w.new) (texts_of target.form target.place frame.now.header.now frame.now.columns (tokens_start frame.now.header.now.partitions.items packet.now frame.now.columns) (marked_start (zeros_for frame.now.columns frame.now.rows) frame.now.header.now.partitions.items packet.now frame.now.columns) frame.now.records.now.modes.records frame.now.records.now.facts.items)) }
+    ensures memory { result ≡ Err ListFault.NoMemory → W.contents w.new ≡ W.contents w.old }
 {
     let columns = frame.columns;
     let partitions = frame.header.partitions.as_slice();

@@ -2,6 +2,7 @@
 //! nothing.
 
 ghost use Rattle.std.specs.Prelude.{◌≡◌, ◌<◌, length};
+ghost use Rattle.macroblock_lists.specs.FilterLaws.{FiltersAreUsed};
 ghost use Rattle.macroblock_lists.specs.KnownLaws.{KnownIsDecoded, ModesAreDecoded};
 ghost use Rattle.macroblock_lists.specs.PartitionEnds.{bytes_past, bytes_unread};
 ghost use Rattle.macroblock_lists.specs.PartitionEndLaws.{CountsBits, CountsBitsOfNone, CountsUnread};
@@ -12,6 +13,12 @@ ghost use Rattle.macroblock_lists.specs.PartitionEndLaws.{CountsBits, CountsBits
 pub fn known_is_decoded()
     ensures progress { KnownIsDecoded }
     ensures modes { ModesAreDecoded }
+{}
+
+/// The limits and the inner edges that are listed of a macroblock are those by which `filtered_planes` of loop_filter filters it: none
+/// in a frame of level 0, and none of a macroblock of level 0.
+pub fn filters_are_used()
+    ensures { FiltersAreUsed }
 {}
 
 /// The bytes past the end of a text are the bits that any chain of reads takes in after it, in bytes

@@ -1,9 +1,10 @@
 //! The list of the macroblocks of packets, or of their headers.
 
-ghost use Rattle.std.specs.Prelude.{◌≡◌, ◌⊎◌, ◌+◌, ◌-◌, ◌<◌, ◌≤◌, ◌^◌, Ok, None, IfOk, IfSome, OnOk, true, length, map, slice_get};
+ghost use Rattle.std.specs.Prelude.{◌≡◌, ◌⊎◌, ℕ, ◌+◌, ◌-◌, ◌<◌, ◌≤◌, ◌^◌, Ok, None, IfErr, IfOk, IfSome, OnOk, true, false, length, map, slice_get};
 ghost use Rattle.std.specs.List.{flat_map, range_with_len};
 ghost use Rattle.std.specs.Io.KnownBytes.{Appends};
 ghost use Rattle.frame_header.specs.Tags.{has_key_tag};
+ghost use Rattle.macroblock_lists.specs.Fronts.{IsListEnd, memory_fault, writer_fault};
 ghost use Rattle.macroblock_lists.specs.Known.{progress_over};
 ghost use Rattle.macroblock_lists.specs.Texts.{head_of, list_text, progress_before, text_at};
 
@@ -31,12 +32,16 @@ pub enum ListFault {
 }
 
 impl From<NoMemory> for ListFault {
+    ghost from_gives = { λ _ told. told ≡ memory_fault };
+
     fn from(_fault: NoMemory) -> ListFault {
         ListFault::NoMemory
     }
 }
 
 impl From<WriteFault> for ListFault {
+    ghost from_gives = { λ _ told. told ≡ writer_fault };
+
     fn from(_fault: WriteFault) -> ListFault {
         ListFault::Write
     }
@@ -75,6 +80,7 @@ fn key_before(packets: &[Packet], place: usize) -> usize
     requires { place ≤ length packets.now }
     ensures within { result ≤ place }
     ensures key { (result ≡ 0) ⊎ (result < place) × IfSome (slice_get packets.now result) (λ packet. has_key_tag packet.bytes ≡ true) }
+    ensures last { (k : ℕ) → result < k → k < place → IfSome (slice_get packets.now k) (λ packet. has_key_tag packet.bytes ≡ false) }
 {
     let mut start = place;
     while start > 0 {
@@ -134,7 +140,8 @@ fn write_packets<W: Write>(
 ) -> Result<(), ListFault>
     requires inside { wanted.first + wanted.count ≤ length packets.now }
     requires before { progress ≡ progress_before tables.now packets.now wanted.first }
-    ensures { OnOk result (Appends (W.contents w.old) (W.contents w.new) (flat_map (text_at wanted.what wanted.form tables.now packets.now) (range_with_len wanted.first wanted.count))) }
+    ensures written { OnOk result (Appends (W.contents w.old) (W.contents w.new) (flat_map (text_at wanted.what wanted.form tables.now packets.now) (range_with_len wanted.first wanted.count))) }
+    ensures early { IfErr result (IsListEnd (flat_map (text_at wanted.what wanted.form tables.now packets.now) (range_with_len wanted.first wanted.count)) (W.contents w.old) (W.contents w.new)) }
 {
     let Wanted {
         what,
@@ -156,8 +163,8 @@ fn write_packets<W: Write>(
 ///
 /// Headers and modes are read starting at the last packet with a key tag before the first packet that is
 /// written, and tokens of the packets that are written. No sample is made. `NoMemory` if memory runs out for the
-/// records, the partitions or the flags of a frame, `Write` if the writer returns an error: a part of the text may
-/// have been written.
+/// records, the partitions or the flags of a frame: the front of the text was written. `Write` if the writer returns an
+/// error: part of the text may have been written.
 pub fn write_list<W: Write>(
     w: &mut W,
     alloc: Global,
@@ -166,7 +173,8 @@ pub fn write_list<W: Write>(
     packets: &[Packet],
 ) -> Result<(), ListFault>
     requires { wanted.first + wanted.count ≤ length packets.now }
-    ensures { OnOk result (Appends (W.contents w.old) (W.contents w.new) (list_text wanted.what wanted.form tables.now packets.now wanted.first wanted.count)) }
+    ensures written { OnOk result (Appends (W.contents w.old) (W.contents w.new) (list_text wanted.what wanted.form tables.now packets.now wanted.first wanted.count)) }
+    ensures early { IfErr result (IsListEnd (list_text wanted.what wanted.form tables.now packets.now wanted.first wanted.count) (W.contents w.old) (W.contents w.new)) }
 {
     let progress = progress_before(alloc, tables, packets, wanted.first)?;
     write_text(w, head_of(wanted.what, wanted.form))?;

@@ -27,8 +27,8 @@ use vp8_tables::Tables;
 pub struct PartitionEnd {
     /// The number of bytes that the partition has.
     pub size: usize,
-    /// How many bytes decoding reads past its end. It reads zeros there, and libvpx calls the frame
-    /// corrupt.
+    /// How many bytes decoding reads past its end. It reads zeros there; libvpx calls the frame corrupt if it is a token partition,
+    /// and reads on in the bytes after a first partition.
     pub past: usize,
     /// How many of its last bytes are never read.
     pub unread: usize,

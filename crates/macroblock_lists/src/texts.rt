@@ -1,15 +1,16 @@
 //! The text of a packet.
 
-ghost use Rattle.std.specs.Prelude.{◌≡◌, ◌+◌, ◌++◌, ◌<◌, ◌≤◌, false, length, All, IsSome, IsTrue, OnOk};
+ghost use Rattle.std.specs.Prelude.{◌≡◌, ◌+◌, ◌++◌, ◌<◌, ◌≤◌, false, length, All, IfErr, IsSome, IsTrue, OnOk};
 ghost use Rattle.std.specs.Fmt.{decimal};
 ghost use Rattle.std.specs.List.{flat_map};
 ghost use Rattle.std.specs.Option.{option_copied};
 ghost use Rattle.std.specs.Io.KnownBytes.{Appends};
 ghost use Rattle.frame_header.specs.Tags.{has_key_tag};
 ghost use Rattle.macroblock_lists.specs.Changes.{all_changes, probabilities_before};
+ghost use Rattle.macroblock_lists.specs.Fronts.{IsListEnd};
 ghost use Rattle.macroblock_lists.specs.Known.{header_after, known_before};
 ghost use Rattle.macroblock_lists.specs.Parts.{after_comma, joined};
-ghost use Rattle.header_bits.specs.Bits.{header_bits};
+ghost use Rattle.header_bits.specs.Coded.{coded_in};
 ghost use Rattle.macroblock_lists.specs.Texts.{broken_text, comment_of, comment_start, frame_by, header_text, known_text, packet_line, packet_text, repeat_by, repeat_text, sizes_bits, text_by};
 
 use crate::changes::{probabilities_before, write_changes};
@@ -20,7 +21,7 @@ use crate::layouts::{Form, Layout, Target, What};
 use crate::listing::ListFault;
 use crate::records::read_records;
 use frame_header::{Cause, Header, Place, has_key_tag, read_header};
-use header_bits::{HeaderBits, read_header_bits};
+use header_bits::{Coded, read_coded};
 use state_cache::Broken;
 use std::alloc::Global;
 use std::io::Write;
@@ -108,14 +109,14 @@ fn write_comment<W: Write>(
     form: Form,
     place: usize,
     header: &Header,
-    bits: &HeaderBits,
+    coded: &Coded,
 ) -> Result<(), WriteFault>
-    ensures { OnOk result (Appends (W.contents w.old) (W.contents w.new) (comment_of form place header.now bits.now)) }
+    ensures { OnOk result (Appends (W.contents w.old) (W.contents w.new) (comment_of form place header.now coded.now)) }
 {
     match form {
         Form::Lines => {
             write_start(w, place)?;
-            write_header_fields(w, Layout::Words, header, bits)?;
+            write_header_fields(w, Layout::Words, header, coded)?;
             write_text(w, "\n")
         }
         Form::Objects => Ok(()),
@@ -170,13 +171,13 @@ fn write_header_lines<W: Write>(
     w: &mut W,
     place: usize,
     header: &Header,
-    bits: &HeaderBits,
+    coded: &Coded,
 ) -> Result<(), WriteFault>
     requires { 0 < length header.now.partitions.items }
-    ensures { OnOk result (Appends (W.contents w.old) (W.contents w.new) (header_text Form.Lines place header.now bits.now)) }
+    ensures { OnOk result (Appends (W.contents w.old) (W.contents w.new) (header_text Form.Lines place header.now coded.now)) }
 {
     write_packet_line(w, place)?;
-    write_header_fields(w, Layout::Lines, header, bits)?;
+    write_header_fields(w, Layout::Lines, header, coded)?;
     write_text(w, "token_partition_sizes\t")?;
     write_lengths(w, header.partitions.as_slice())?;
     write_text(w, "\t")?;
@@ -188,18 +189,18 @@ fn write_header_object<W: Write>(
     w: &mut W,
     place: usize,
     header: &Header,
-    bits: &HeaderBits,
+    coded: &Coded,
 ) -> Result<(), WriteFault>
     requires { 0 < length header.now.partitions.items }
-    ensures { OnOk result (Appends (W.contents w.old) (W.contents w.new) (header_text Form.Objects place header.now bits.now)) }
+    ensures { OnOk result (Appends (W.contents w.old) (W.contents w.new) (header_text Form.Objects place header.now coded.now)) }
 {
     write_text(w, "{")?;
     write_number(w, "packet", place as u64)?;
-    write_header_fields(w, Layout::Members, header, bits)?;
+    write_header_fields(w, Layout::Members, header, coded)?;
     write_text(w, "\"token_partition_sizes\":[")?;
     write_lengths(w, header.partitions.as_slice())?;
     write_text(w, "],\"bits\":{")?;
-    write_header_fields(w, Layout::Bits, header, bits)?;
+    write_header_fields(w, Layout::Bits, header, coded)?;
     write_text(w, "\"token_partition_sizes\":")?;
     write_sizes_bits(w, header)?;
     write_text(w, "}}\n")
@@ -210,14 +211,14 @@ fn write_header<W: Write>(
     form: Form,
     place: usize,
     header: &Header,
-    bits: &HeaderBits,
+    coded: &Coded,
 ) -> Result<(), WriteFault>
     requires { 0 < length header.now.partitions.items }
-    ensures { OnOk result (Appends (W.contents w.old) (W.contents w.new) (header_text form place header.now bits.now)) }
+    ensures { OnOk result (Appends (W.contents w.old) (W.contents w.new) (header_text form place header.now coded.now)) }
 {
     match form {
-        Form::Lines => write_header_lines(w, place, header, bits),
-        Form::Objects => write_header_object(w, place, header, bits),
+        Form::Lines => write_header_lines(w, place, header, coded),
+        Form::Objects => write_header_object(w, place, header, coded),
     }
 }
 
@@ -237,12 +238,13 @@ fn write_macroblocks<W: Write>(
     requires high { IsTrue header.now.is_key → (1 ≤ header.now.height) × (header.now.height ≤ 16383) }
     requires some { 0 < length header.now.partitions.items }
     requires inside { All (λ place. place.start + place.length ≤ length packet.now) header.now.partitions.items }
-    ensures { OnOk result (Appends (W.contents w.old) (W.contents w.new) (frame_by What.Macroblocks target.form target.place tables.now packet.now header.now (option_copied before.entry))) }
+    ensures written { OnOk result (Appends (W.contents w.old) (W.contents w.new) (frame_by What.Macroblocks target.form target.place tables.now packet.now header.now (option_copied before.entry))) }
+    ensures early { IfErr result (IsListEnd (frame_by What.Macroblocks target.form target.place tables.now packet.now header.now (option_copied before.entry)) (W.contents w.old) (W.contents w.new)) }
 {
     let Target { form, place, .. } = target;
     let (width, height) = size_of(header, before);
     let records = read_records(alloc, tables, packet, header, before)?;
-    write_comment(w, form, place, header, &read_header_bits(tables, packet))?;
+    write_comment(w, form, place, header, &read_coded(tables, packet))?;
     let frame = Frame {
         header,
         columns: macroblocks(width),
@@ -263,11 +265,11 @@ fn write_whole_header<W: Write>(
 ) -> Result<(), WriteFault>
     requires following { header.now.is_key ≡ false → IsSome before }
     requires some { 0 < length header.now.partitions.items }
-    ensures { OnOk result (Appends (W.contents w.old) (W.contents w.new) (header_text target.form target.place header.now (header_bits tables.now packet.now) ++ all_changes target.form target.place (probabilities_before tables.now header.now.is_key (option_copied before.entry)) header.now.context.probabilities)) }
+    ensures { OnOk result (Appends (W.contents w.old) (W.contents w.new) (header_text target.form target.place header.now (coded_in tables.now packet.now) ++ all_changes target.form target.place (probabilities_before tables.now header.now.is_key (option_copied before.entry)) header.now.context.probabilities)) }
 {
     let Target { form, place, .. } = target;
     let old = probabilities_before(tables, header.is_key, before);
-    write_header(w, form, place, header, &read_header_bits(tables, packet))?;
+    write_header(w, form, place, header, &read_coded(tables, packet))?;
     write_changes(w, form, place, &old, &header.context.probabilities)
 }
 
@@ -287,7 +289,8 @@ fn write_accepted<W: Write>(
     requires high { IsTrue header.now.is_key → (1 ≤ header.now.height) × (header.now.height ≤ 16383) }
     requires some { 0 < length header.now.partitions.items }
     requires inside { All (λ place. place.start + place.length ≤ length packet.now) header.now.partitions.items }
-    ensures { OnOk result (Appends (W.contents w.old) (W.contents w.new) (frame_by target.what target.form target.place tables.now packet.now header.now (option_copied before.entry))) }
+    ensures written { OnOk result (Appends (W.contents w.old) (W.contents w.new) (frame_by target.what target.form target.place tables.now packet.now header.now (option_copied before.entry))) }
+    ensures early { IfErr result (IsListEnd (frame_by target.what target.form target.place tables.now packet.now header.now (option_copied before.entry)) (W.contents w.old) (W.contents w.new)) }
 {
     match target.what {
         What::Macroblocks => write_macroblocks(w, alloc, tables, target, packet, header, before),
@@ -307,7 +310,8 @@ fn write_coded<W: Write>(
     known: Option<&Known>,
     packet: &[u8],
 ) -> Result<(), ListFault>
-    ensures { OnOk result (Appends (W.contents w.old) (W.contents w.new) (text_by target.what target.form target.place tables.now packet.now (known_before packet.now (option_copied known.entry)) (header_after tables.now (option_copied known.entry) packet.now))) }
+    ensures written { OnOk result (Appends (W.contents w.old) (W.contents w.new) (text_by target.what target.form target.place tables.now packet.now (known_before packet.now (option_copied known.entry)) (header_after tables.now (option_copied known.entry) packet.now))) }
+    ensures early { IfErr result (IsListEnd (text_by target.what target.form target.place tables.now packet.now (known_before packet.now (option_copied known.entry)) (header_after tables.now (option_copied known.entry) packet.now)) (W.contents w.old) (W.contents w.new)) }
 {
     let Target { form, place, .. } = target;
     match read_header(tables, context_of(known), packet) {
@@ -331,7 +335,8 @@ fn write_known<W: Write>(
     known: Option<&Known>,
     packet: &[u8],
 ) -> Result<(), ListFault>
-    ensures { OnOk result (Appends (W.contents w.old) (W.contents w.new) (known_text target.what target.form target.place tables.now (option_copied known.entry) packet.now)) }
+    ensures written { OnOk result (Appends (W.contents w.old) (W.contents w.new) (known_text target.what target.form target.place tables.now (option_copied known.entry) packet.now)) }
+    ensures early { IfErr result (IsListEnd (known_text target.what target.form target.place tables.now (option_copied known.entry) packet.now) (W.contents w.old) (W.contents w.new)) }
 {
     if packet.is_empty() {
         write_repeat_by(w, target.form, target.place, known)?;
@@ -349,7 +354,8 @@ pub(crate) fn write_packet<W: Write>(
     progress: &Progress,
     packet: &[u8],
 ) -> Result<(), ListFault>
-    ensures { OnOk result (Appends (W.contents w.old) (W.contents w.new) (packet_text target.what target.form target.place tables.now progress.now packet.now)) }
+    ensures written { OnOk result (Appends (W.contents w.old) (W.contents w.new) (packet_text target.what target.form target.place tables.now progress.now packet.now)) }
+    ensures early { IfErr result (IsListEnd (packet_text target.what target.form target.place tables.now progress.now packet.now) (W.contents w.old) (W.contents w.new)) }
 {
     if has_key_tag(packet) {
         return write_known(w, alloc, tables, target, None, packet);

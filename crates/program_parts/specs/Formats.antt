@@ -1,6 +1,7 @@
 -- The format of a file that is given for an IVF file, and the message that names it and the command that converts it.
 use Rattle.std.specs.Prelude.{ℕ, Bool, ◌&&◌, nat_eq, if◌then◌else◌, List, [], ◌∷◌, ◌++◌, codes, drop, Option, Some, None}
 use Rattle.std.specs.List.{starts_with}
+use Rattle.program_parts.specs.InLine.{in_line}
 use Rattle.program_parts.specs.declared.formats.Format.{Format}
 use Rattle.program_parts.specs.declared.formats.Format.TheVariants.{WebM, Mp4, Avi, Y4m}
 
@@ -28,15 +29,22 @@ format_of bytes =
     else if is_y4m bytes then Some Y4m
     else None
 
--- of a container whose video may be VP8
+-- of a container whose video may be VP8: the command that copies it, and the one that codes it again
+abbrev pub copy_text : List ℕ → List ℕ → List ℕ
+copy_text path name = in_line path ++ codes " is " ++ name ++ codes "; if its video is VP8: ffmpeg -i " ++ in_line path ++ codes " -an -c copy out.ivf\n"
+
+abbrev pub around_text : List ℕ → List ℕ → List ℕ → List ℕ
+around_text start path end = start ++ in_line path ++ end
+
+abbrev pub coding_text : List ℕ → List ℕ
+coding_text path = around_text (codes "any other video has to be coded again, which changes each frame: ffmpeg -i ") path (codes " -an -c:v libvpx out.ivf\n")
+
 abbrev pub container_text : List ℕ → List ℕ → List ℕ
-container_text path name =
-    path ++ codes " is " ++ name ++ codes "; if its video is VP8: ffmpeg -i " ++ path ++ codes " -an -c copy out.ivf\n"
-    ++ codes "any other video has to be coded again, which changes each frame: ffmpeg -i " ++ path ++ codes " -an -c:v libvpx out.ivf\n"
+container_text path name = copy_text path name ++ coding_text path
 
 -- of a file that one command converts
 abbrev pub line_text : List ℕ → List ℕ → List ℕ → List ℕ
-line_text path name options = path ++ codes " is " ++ name ++ codes ": ffmpeg -i " ++ path ++ codes " " ++ options ++ codes " out.ivf\n"
+line_text path name options = in_line path ++ codes " is " ++ name ++ codes ": ffmpeg -i " ++ in_line path ++ codes " " ++ options ++ codes " out.ivf\n"
 
 -- the message for a file with this path
 abbrev pub format_text : List ℕ → Format → List ℕ

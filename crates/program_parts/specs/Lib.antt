@@ -1,3 +1,4 @@
 pub mod Endings
 pub mod Formats
+pub mod InLine
 pub mod Readings

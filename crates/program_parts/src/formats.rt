@@ -1,8 +1,9 @@
 // The formats of files that are given for an IVF file.
 ghost use Rattle.std.specs.Prelude.{◌≡◌, OnOk};
 ghost use Rattle.std.specs.Io.KnownBytes.{Appends};
-ghost use Rattle.program_parts.specs.Formats.{container_text, format_of, format_text, is_avi, is_mp4, is_webm, is_y4m, line_text};
+ghost use Rattle.program_parts.specs.Formats.{around_text, coding_text, container_text, copy_text, format_of, format_text, is_avi, is_mp4, is_webm, is_y4m, line_text};
 
+use crate::in_line::write_in_line;
 use std::io::{self, Write};
 
 /// The format of a file.
@@ -66,26 +67,48 @@ pub fn format_of(bytes: &[u8]) -> Option<Format>
     }
 }
 
+fn write_copy_command<E: Write>(errors: &mut E, path: &str, name: &str) -> io::Result<()>
+    ensures { OnOk result (Appends (E.contents errors.old) (E.contents errors.new) (copy_text path.now name.now)) }
+{
+    write_in_line(errors, path)?;
+    write!(errors, " is {name}; if its video is VP8: ffmpeg -i ")?;
+    write_in_line(errors, path)?;
+    errors.write_all(b" -an -c copy out.ivf\n")
+}
+
+fn write_around<E: Write>(errors: &mut E, start: &str, path: &str, end: &str) -> io::Result<()>
+    ensures { OnOk result (Appends (E.contents errors.old) (E.contents errors.new) (around_text start.now path.now end.now)) }
+{
+    write!(errors, "{start}")?;
+    write_in_line(errors, path)?;
+    write!(errors, "{end}")
+}
+
+fn write_coding_command<E: Write>(errors: &mut E, path: &str) -> io::Result<()>
+    ensures { OnOk result (Appends (E.contents errors.old) (E.contents errors.new) (coding_text path.now)) }
+{
+    write_around(
+        errors,
+        "any other video has to be coded again, which changes each frame: ffmpeg -i ",
+        path,
+        " -an -c:v libvpx out.ivf\n",
+    )
+}
+
 fn write_container<E: Write>(errors: &mut E, path: &str, name: &str) -> io::Result<()>
     ensures { OnOk result (Appends (E.contents errors.old) (E.contents errors.new) (container_text path.now name.now)) }
 {
-    writeln!(
-        errors,
-        "{path} is {name}; if its video is VP8: ffmpeg -i {path} -an -c copy out.ivf"
-    )?;
-    writeln!(
-        errors,
-        "any other video has to be coded again, which changes each frame: ffmpeg -i {path} -an -c:v libvpx out.ivf"
-    )
+    write_copy_command(errors, path, name)?;
+    write_coding_command(errors, path)
 }
 
 fn write_line<E: Write>(errors: &mut E, path: &str, name: &str, options: &str) -> io::Result<()>
     ensures { OnOk result (Appends (E.contents errors.old) (E.contents errors.new) (line_text path.now name.now options.now)) }
 {
-    writeln!(
-        errors,
-        "{path} is {name}: ffmpeg -i {path} {options} out.ivf"
-    )
+    write_in_line(errors, path)?;
+    write!(errors, " is {name}: ffmpeg -i ")?;
+    write_in_line(errors, path)?;
+    writeln!(errors, " {options} out.ivf")
 }
 
 /// Writes which format the file at `path` has, and the `ffmpeg` command that makes an IVF file of it.

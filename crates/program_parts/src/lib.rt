@@ -7,6 +7,7 @@ mod endings;
 mod fault;
 mod formats;
 mod help;
+mod in_line;
 mod inputs;
 
 pub use arguments::{VERSION, flag, given};
@@ -14,4 +15,5 @@ pub use endings::{Ending, exit_status, tell};
 pub use fault::{ArgumentFault, FileFault};
 pub use formats::{Format, format_of, write_format};
 pub use help::help_or_mistake;
+pub use in_line::InLine;
 pub use inputs::{NO_FILE, read_file, read_input, read_tables};

@@ -1,5 +1,5 @@
 -- What decoding reads of a first partition is a chain of reads.
-use Rattle.std.proofs.Common.{◌≡◌, ℕ, ◌*◌, Bool, true, false, List, [], ◌∷◌, refl, sym, subst, ◌∙◌, suc, zero}
+use Rattle.std.proofs.Common.{◌≡◌, ℕ, Bool, true, false, List, [], ◌∷◌, refl, sym, subst, ◌∙◌, suc, zero}
 use Rattle.std.specs.Prelude.{nat_lt, ◌&&◌, Option, Some, None, if◌then◌else◌}
 use Rattle.std.proofs.lemmas.Bool.{and_parts, lt-ltb, ltb-true}
 use Rattle.bool_coder.specs.Reader.{Reader}
@@ -17,7 +17,7 @@ use Rattle.frame_header.specs.Header.{header_in}
 use Rattle.frame_header.specs.TrailingFields.{trailing_fields}
 use Rattle.mode_parser.specs.Chains.{AreRows, FramesAreChains, HaveProbabilities, IsProbability}
 use Rattle.macroblock_lists.specs.Known.{Known}
-use Rattle.stream_checks.specs.FirstChains.{AreBytes, FirstIsChain, columns_of, context_in, first_reading, header_reading, rows_of}
+use Rattle.stream_checks.specs.FirstChains.{AreBytes, FirstIsChain, columns_of, context_in, header_reading, records_reading, rows_of}
 use Rattle.stream_checks.proofs.Gives.{Gives, fields-bytes, gives-give, gives-next, trailing-bytes}
 
 -- readings that return the same
@@ -126,16 +126,16 @@ header-chain : (tables : TableEntries) (given : Header) (context : Context) → 
 header-chain tables given context first trailing = search (bind-chain, give-chain, first, trailing)
 
 -- the whole partition
-pub first_reading-chain : (tables : TableEntries) (given : Header) (context : Context) (columns rows : ℕ) (map : Option (List ℕ))
+pub records_reading-chain : (tables : TableEntries) (given : Header) (context : Context) (columns rows : ℕ) (map : Option (List ℕ)) (n : ℕ)
     → ((before : Context) → IsChain (fields given.is_key before)) → ((before : Context) → IsChain (trailing_fields given.is_key tables.updates before)) → FramesAreChains
-    → AreProbabilities tables.key_subs → AreBytes context.probabilities → IsChain (first_reading tables given context columns rows map)
-unfolding first_reading
-first_reading-chain tables given context columns rows map first trailing frames key_subs kept =
+    → AreProbabilities tables.key_subs → AreBytes context.probabilities → IsChain (records_reading tables given context columns rows map n)
+unfolding records_reading
+records_reading-chain tables given context columns rows map n first trailing frames key_subs kept =
     tested-chain has_bytes (given, []) (header-chain tables given context first trailing)
     (record { at = λ r. has_them tables _ ((header-gives tables given context key_subs kept).at r) })
-    (λ header has. bind-chain (frames tables header columns rows map (columns * rows) (have_them tables header key_subs has)) (λ records. give-chain (header, records)))
+    (λ header has. bind-chain (frames tables header columns rows map n (have_them tables header key_subs has)) (λ records. give-chain (header, records)))
 
 pub first_is_chain : (tables : TableEntries) (state : Option Known) → ((is_key : Bool) (before : Context) → IsChain (fields is_key before)) → ((is_key : Bool) (before : Context) → IsChain (trailing_fields is_key tables.updates before)) → FramesAreChains
     → AreProbabilities tables.key_subs → ((packet : List ℕ) → AreBytes (first_context tables (has_key_tag packet) (context_in state)).probabilities) → FirstIsChain tables state
 first_is_chain tables state first trailing frames key_subs bytes packet header =
-    first_reading-chain tables header (first_context tables (has_key_tag packet) (context_in state)) (columns_of state packet header) (rows_of state packet header) _ (first header.is_key) (trailing header.is_key) frames key_subs (bytes packet)
+    records_reading-chain tables header (first_context tables (has_key_tag packet) (context_in state)) (columns_of state packet header) (rows_of state packet header) _ _ (first header.is_key) (trailing header.is_key) frames key_subs (bytes packet)

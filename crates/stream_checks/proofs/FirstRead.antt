@@ -1,5 +1,5 @@
 -- Decoding reads a first partition by its chain of reads, and the chain ends where the count says.
-use Rattle.std.proofs.Common.{◌≡◌, ℕ, zero, suc, ◌+◌, ◌-◌, ◌*◌, ◌≤◌, Bool, List, length, refl, sym, subst, ap, ◌∙◌, arith, inl, inr, ◌⊎◌, Option, Some, None, Result, Ok, Err}
+use Rattle.std.proofs.Common.{◌≡◌, ℕ, zero, suc, ◌+◌, ◌-◌, ◌*◌, ◌<◌, ◌≤◌, Bool, List, length, refl, sym, subst, ap, ◌∙◌, arith, inl, inr, ◌⊎◌, Option, Some, None, Result, Ok, Err}
 use Rattle.std.specs.Prelude.{drop, nat_lt, slice_range, if◌then◌else◌}
 use Rattle.std.specs.Option.{option_map}
 use Rattle.std.proofs.lemmas.Bool.{cases_lt, le-ltb, lt-ltb}
@@ -32,8 +32,13 @@ use Rattle.pixel_planes.specs.Pictures.{macroblocks}
 use Rattle.macroblock_lists.specs.PartitionEnds.{end_of, first_end_by, first_partition_end, marked_text, partition_ends_of}
 use Rattle.macroblock_lists.specs.Known.{frame_modes, height_of, known_before, width_of}
 use Rattle.macroblock_lists.specs.Known.{Known}
+use Rattle.macroblock_lists.specs.Records.{facts_by, facts_in, facts_over, no_facts}
+use Rattle.mode_parser.specs.declared.record_facts.RecordFacts.{RecordFacts}
+use Rattle.mode_parser.specs.RecordFacts.{facts_at, left_after}
+use Rattle.std.proofs.lemmas.List.FromFn.{get_or-map-range_with_len}
+use Rattle.stream_checks.specs.ModeBits.{frame_records}
 use Rattle.stream_checks.specs.ChainEnds.{text_of}
-use Rattle.stream_checks.specs.FirstChains.{AreBytes, FirstEndIsOfChain, FirstIsReadSo, context_in, first_reading, header_reading, packet_reading, zeros_of}
+use Rattle.stream_checks.specs.FirstChains.{AreBytes, FirstEndIsOfChain, FirstIsReadSo, context_in, first_reading, header_reading, packet_reading, records_reading, zeros_of}
 use Rattle.stream_checks.proofs.FirstChains.{header-gives}
 use Rattle.stream_checks.proofs.KeyEnds.{ends_after_state}
 use Rattle.stream_checks.proofs.CountedEnds.{chain-none, end-counted}
@@ -66,7 +71,7 @@ OwnIsRead tables context before own header =
 reads-own : (tables : TableEntries) (context : Context) (before : Option Known) (own packet : List ℕ) (earlier : Option Context) (start : _) → start_of earlier packet ≡ Ok start → (partitions : ArrayVec Place)
     → let first = fields start.tag.key context (started own) in
     OwnIsRead tables context before own (header_in start first.0 partitions (trailing_fields start.tag.key tables.updates first.0.1 first.1))
-unfolding first_reading
+unfolding records_reading
 reads-own tables context before own packet earlier start is partitions = (refl, refl)
 
 -- a header with other token partitions leaves the same bits
@@ -96,7 +101,7 @@ accepted-other : (tables : TableEntries) (context : Context) (before : Option Kn
     let other = fields start.tag.key context (started text) in
     OtherIsRead tables context before text (header_in start first.0 partitions (trailing_fields start.tag.key tables.updates first.0.1 first.1))
     (Ok (header_in start other.0 others (trailing_fields start.tag.key tables.updates other.0.1 other.1))) blanks size
-unfolding first_reading
+unfolding records_reading
 accepted-other tables context before own text packet earlier start is partitions others blanks size =
     let first = fields start.tag.key context (started own) in
     let other = fields start.tag.key context (started text) in
@@ -109,7 +114,7 @@ refused-other : (tables : TableEntries) (context : Context) (before : Option Kno
     → length (fields start.tag.key context (started text)).1.rest ≡ 0
     → let first = fields start.tag.key context (started own) in
     OtherIsRead tables context before text (header_in start first.0 partitions (trailing_fields start.tag.key tables.updates first.0.1 first.1)) (Err cause) blanks size
-unfolding first_reading
+unfolding records_reading
 refused-other tables context before own text packet earlier start is partitions cause blanks size chains kept none =
     let first = fields start.tag.key context (started own) in
     let given : Header = header_in start first.0 partitions (trailing_fields start.tag.key tables.updates first.0.1 first.1) in
@@ -146,6 +151,86 @@ by-ranges tables context before own packet earlier start is end partitions blank
       | inr none ↦ rw theirs (refused-other tables context before own (marked blanks own) packet earlier start is partitions cause blanks size chains kept none)
     ]
 
+-- the bits that are counted of the record of a macroblock, over the header of another text
+abbrev pub OtherFacts : TableEntries → Context → Option Known → List ℕ → Header → Result Header Cause → ℕ → Type 0
+OtherFacts tables context before text header found n =
+    (facts_in (facts_by tables before found) n).bits
+    ≡ length (frame_records tables header context before n (started text)).1.rest - length (frame_records tables header context before (n + 1) (started text)).1.rest
+
+left-at : (tables : TableEntries) (one given : Header) (before : Option Known) (m : ℕ) → one.width ≡ given.width → one.height ≡ given.height
+    → left_after m tables one (macroblocks (width_of one before)) (macroblocks (height_of one before)) (option_map (λ (s : Known). s.segment_map) before)
+    ≡ length (first_modes m tables (record one { partitions = given.partitions; reader = given.reader }) (macroblocks (width_of given before)) (macroblocks (height_of given before)) (option_map (λ (s : Known). s.segment_map) before) one.reader).1.rest
+left-at tables one given before m wide high =
+    let map : Option (List ℕ) = option_map (λ (s : Known). s.segment_map) before in
+    rw (width-alike before one given wide, height-alike before one given high)
+    (ap (λ (reading : Reading (List MbMode)). length (reading one.reader).1.rest) (sym (modes-alike m tables one given.partitions given.reader (macroblocks (width_of given before)) (macroblocks (height_of given before)) map)))
+
+facts-of : (tables : TableEntries) (one given : Header) (before : Option Known) (n : ℕ) → one.width ≡ given.width → one.height ≡ given.height
+    → n < macroblocks (width_of given before) * macroblocks (height_of given before)
+    → (facts_in (facts_by tables before (Ok one)) n).bits
+    ≡ left_after n tables one (macroblocks (width_of one before)) (macroblocks (height_of one before)) (option_map (λ (s : Known). s.segment_map) before)
+    - left_after (n + 1) tables one (macroblocks (width_of one before)) (macroblocks (height_of one before)) (option_map (λ (s : Known). s.segment_map) before)
+facts-of tables one given before n wide high inside =
+    let map : Option (List ℕ) = option_map (λ (s : Known). s.segment_map) before in
+    let columns : ℕ = macroblocks (width_of one before) in
+    let rows : ℕ = macroblocks (height_of one before) in
+    let within : n < columns * rows = rw (width-alike before one given wide, height-alike before one given high) inside in
+    ap (λ (f : RecordFacts). f.bits) (get_or-map-range_with_len (facts_at tables one columns rows map) 0 (columns * rows) n n no_facts within (omega arith))
+
+accepted-facts : (tables : TableEntries) (context : Context) (before : Option Known) (own text packet : List ℕ) (earlier : Option Context) (start : _) → start_of earlier packet ≡ Ok start
+    → (partitions others : ArrayVec Place) (n : ℕ)
+    → let first = fields start.tag.key context (started own) in
+    let other = fields start.tag.key context (started text) in
+    let given = header_in start first.0 partitions (trailing_fields start.tag.key tables.updates first.0.1 first.1) in
+    n < macroblocks (width_of given before) * macroblocks (height_of given before) →
+    OtherFacts tables context before text given (Ok (header_in start other.0 others (trailing_fields start.tag.key tables.updates other.0.1 other.1))) n
+unfolding records_reading
+accepted-facts tables context before own text packet earlier start is partitions others n inside =
+    let first = fields start.tag.key context (started own) in
+    let other = fields start.tag.key context (started text) in
+    let given : Header = header_in start first.0 partitions (trailing_fields start.tag.key tables.updates first.0.1 first.1) in
+    let one : Header = header_in start other.0 others (trailing_fields start.tag.key tables.updates other.0.1 other.1) in
+    facts-of tables one given before n refl refl inside
+    ∙ ap (λ (m : ℕ). m - left_after (n + 1) tables one (macroblocks (width_of one before)) (macroblocks (height_of one before)) (option_map (λ (s : Known). s.segment_map) before)) (left-at tables one given before n refl refl)
+    ∙ ap (λ (m : ℕ). length (first_modes n tables (record one { partitions = given.partitions; reader = given.reader }) (macroblocks (width_of given before)) (macroblocks (height_of given before)) (option_map (λ (s : Known). s.segment_map) before) one.reader).1.rest - m) (left-at tables one given before (n + 1) refl refl)
+
+none-less : (a b : ℕ) → a ≡ 0 → 0 ≡ a - b
+none-less a b none = omega arith
+
+refused-facts : (tables : TableEntries) (context : Context) (before : Option Known) (own text packet : List ℕ) (earlier : Option Context) (start : _) → start_of earlier packet ≡ Ok start
+    → (partitions : ArrayVec Place) (cause : Cause) (n : ℕ)
+    → AreChains tables → AreBytes context.probabilities
+    → length (fields start.tag.key context (started text)).1.rest ≡ 0
+    → let first = fields start.tag.key context (started own) in
+    OtherFacts tables context before text (header_in start first.0 partitions (trailing_fields start.tag.key tables.updates first.0.1 first.1)) (Err cause) n
+unfolding records_reading
+refused-facts tables context before own text packet earlier start is partitions cause n chains kept none =
+    let first = fields start.tag.key context (started own) in
+    let given : Header = header_in start first.0 partitions (trailing_fields start.tag.key tables.updates first.0.1 first.1) in
+    let header = header_reading tables given context (started text) in
+    let after : length header.1.rest ≡ 0 = chain-none (chains.trailing start.tag.key (fields start.tag.key context (started text)).0.1) (fields start.tag.key context (started text)).1 none in
+    let columns : ℕ = macroblocks (width_of given before) in
+    let rows : ℕ = macroblocks (height_of given before) in
+    let have : HaveProbabilities tables header.0 = (header-gives tables given context chains.key_subs kept).at (started text) in
+    none-less _ _ (chain-none (chains.frames tables header.0 columns rows (option_map (λ (s : Known). s.segment_map) before) n have) header.1 after)
+
+by-ranges-facts : (tables : TableEntries) (context : Context) (before : Option Known) (own packet : List ℕ) (earlier : Option Context) (start : _) → start_of earlier packet ≡ Ok start
+    → (end : ℕ) (partitions : ArrayVec Place) (blanks n : ℕ) (ranges : Result (ArrayVec Place) Cause)
+    → AreChains tables → AreBytes context.probabilities
+    → token_ranges packet end (fields start.tag.key context (started own)).0.0.partition_count ≡ Ok partitions
+    → token_ranges packet end (fields start.tag.key context (started (marked blanks own))).0.0.partition_count ≡ ranges
+    → let first = fields start.tag.key context (started own) in
+    let given = header_in start first.0 partitions (trailing_fields start.tag.key tables.updates first.0.1 first.1) in
+    n < macroblocks (width_of given before) * macroblocks (height_of given before) →
+    OtherFacts tables context before (marked blanks own) given (header_from tables context packet start end (marked blanks own)) n
+by-ranges-facts tables context before own packet earlier start is end partitions blanks n (Ok others) chains kept ours theirs inside =
+    rw theirs (accepted-facts tables context before own (marked blanks own) packet earlier start is partitions others n inside)
+by-ranges-facts tables context before own packet earlier start is end partitions blanks n (Err cause) chains kept ours theirs inside =
+    elim (same_or_none (chains.first start.tag.key context) blanks own) [
+      | inl same ↦ absurd (let count = rw same at theirs in let both = sym ours ∙ count in cc)
+      | inr none ↦ rw theirs (refused-facts tables context before own (marked blanks own) packet earlier start is partitions cause n chains kept none)
+    ]
+
 -- the bytes of a place that is not longer than its packet
 pub length-text : (packet : List ℕ) (start size : ℕ) → size ≤ length packet - start → length (slice_range packet start (start + size)) ≡ size
 length-text packet start size inside =
@@ -162,12 +247,16 @@ first_end-inside whole place size end is =
           omega arith
     ]
 
--- what both laws say of a first partition
+-- what the laws say of a first partition
 pub record IsKnown (tables : TableEntries) (earlier : Option Context) (before : Option Known) (packet : List ℕ) (header : Header) (place : Place) : Type 0 where
   pub own : OwnIsRead tables (first_context tables (has_key_tag packet) earlier) before (slice_range packet place.start (place.start + place.length)) header
   pub ends : (blanks : ℕ) → first_partition_end tables blanks packet earlier before
       ≡ end_of blanks place.length (length (frame_reading tables header (first_context tables (has_key_tag packet) earlier) before (started (marked_text blanks packet place))).1.rest)
   pub size : length (slice_range packet place.start (place.start + place.length)) ≡ place.length
+  pub facts : (blanks n : ℕ) → n < macroblocks (width_of header before) * macroblocks (height_of header before)
+      → (facts_in (facts_over tables blanks packet before earlier (first_partition earlier packet)) n).bits
+      ≡ length (frame_records tables header (first_context tables (has_key_tag packet) earlier) before n (started (marked_text blanks packet place))).1.rest
+      - length (frame_records tables header (first_context tables (has_key_tag packet) earlier) before (n + 1) (started (marked_text blanks packet place))).1.rest
 
 -- of a header that is read of the packet's own partition
 header_over-by : (tables : TableEntries) (earlier : Option Context) (packet text : List ℕ) (start : _) (end : ℕ) → start_of earlier packet ≡ Ok start → first_end start packet ≡ Ok end
@@ -197,6 +286,8 @@ by-own tables earlier before packet header start end (Ok partitions) chains kept
       ends = λ blanks. rw placed (ap (first_end_by tables blanks place.length before) (header_over-by tables earlier packet (marked blanks own) start end start_is end_is)
           ∙ by-ranges tables context before own packet earlier start start_is end partitions blanks place.length _ chains kept ours refl);
       size = length-text packet start.place (end - start.place) (first_end-inside (length packet) start.place start.tag.first_partition end end_is);
+      facts = λ blanks n inside. rw placed (ap (λ (found : Result Header Cause). (facts_in (facts_by tables before found) n).bits) (header_over-by tables earlier packet (marked blanks own) start end start_is end_is)
+          ∙ by-ranges-facts tables context before own packet earlier start start_is end partitions blanks n _ chains kept ours refl inside);
     } in
     subst (λ (h : Header). IsKnown tables earlier before packet h place) is known
 by-own tables earlier before packet header start end (Err cause) chains kept start_is end_is placed ours accepted =

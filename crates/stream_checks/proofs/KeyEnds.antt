@@ -28,10 +28,10 @@ start-by before packet (Some tag) is tagged = rw tagged refl
 start-key : (before : Option Context) (packet : List ℕ) → has_key_tag packet ≡ true → start_of before packet ≡ start_of None packet
 start-key before packet tagged = start-by before packet (tag_of packet) refl tagged
 
-begun-key : (tables : TableEntries) (before : Option Context) (is_key : Bool) → is_key ≡ true → first_context tables is_key before ≡ first_context tables is_key None
+pub begun-key : (tables : TableEntries) (before : Option Context) (is_key : Bool) → is_key ≡ true → first_context tables is_key before ≡ first_context tables is_key None
 begun-key tables before is_key tagged = rw tagged refl
 
-first-key : (before : Option Context) (packet : List ℕ) → has_key_tag packet ≡ true → first_partition before packet ≡ first_partition None packet
+pub first-key : (before : Option Context) (packet : List ℕ) → has_key_tag packet ≡ true → first_partition before packet ≡ first_partition None packet
 first-key before packet tagged = rw (start-key before packet tagged) refl
 
 over-key : (tables : TableEntries) (before : Option Context) (packet text : List ℕ) → has_key_tag packet ≡ true → header_over tables before packet text ≡ header_over tables None packet text
@@ -55,7 +55,7 @@ by-key tables before packet (Ok header) tagged =
     ap (λ (end : PartitionEnd). let ends : PartitionEnds = record { first = end; tokens = (frame_ends tables packet header None None).tokens } in ends) (first_end-key tables _ before packet tagged)
 by-key tables before packet (Err cause) tagged = refl
 
-none-before : (packet : List ℕ) (state : Option Known) → has_key_tag packet ≡ true → known_before packet state ≡ None
+pub none-before : (packet : List ℕ) (state : Option Known) → has_key_tag packet ≡ true → known_before packet state ≡ None
 none-before packet state tagged = rw tagged refl
 
 ends-key : (tables : TableEntries) (state : Option Known) (packet : List ℕ) → has_key_tag packet ≡ true → partition_ends_of tables state packet ≡ partition_ends_of tables None packet

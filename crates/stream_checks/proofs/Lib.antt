@@ -17,3 +17,5 @@ pub mod TokenChains
 pub mod PlacesInside
 pub mod TokenEnds
 pub mod KeyEnds
+pub mod ModeBits
+pub mod TokenBits

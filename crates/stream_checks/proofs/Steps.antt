@@ -1,11 +1,12 @@
 -- One more packet of a check.
-use Rattle.std.proofs.Common.{◌≡◌, ◌++◌, ◌∷◌, ℕ, List, sym, ap, ◌∙◌}
+use Rattle.std.proofs.Common.{◌≡◌, ◌++◌, ◌∷◌, List, sym, ap, ◌∙◌}
 use Rattle.vp8_tables.specs.Tables.{TableEntries}
 use Rattle.stream_files.specs.declared.packets.Packet.{Packet}
 use Rattle.macroblock_lists.specs.Known.{Progress}
 use Rattle.stream_checks.specs.declared.checker.Checker.{Checker}
 use Rattle.stream_checks.specs.declared.finding.Finding.{Finding}
 use Rattle.stream_checks.specs.declared.packets.Position.{Position}
+use Rattle.stream_checks.specs.declared.stamps.Pace.{Pace}
 use Rattle.stream_checks.specs.Packets.{bytes_of, findings_from, position_after}
 use Rattle.stream_checks.specs.Breaks.{progresses_from}
 use Rattle.stream_checks.specs.Partitions.{ends_from}
@@ -13,11 +14,11 @@ use Rattle.stream_checks.specs.Checks.{findings_after, findings_next, progress_n
 
 -- what is left after a packet is what the checker after it finds
 pub one_more : (tables : TableEntries) (before after : Checker) (packet : Packet) (rest : List Packet)
-    → after.step ≡ before.step → after.position ≡ position_after before.step before.position packet → after.reader ≡ progress_next tables before packet
+    → after.pace ≡ before.pace → after.position ≡ position_after before.pace.step before.position packet → after.reader ≡ progress_next tables before packet
     → findings_after tables before (packet ∷ rest) ≡ findings_next tables before packet rest ++ findings_after tables after rest
-one_more tables before after packet rest step position reader =
+one_more tables before after packet rest pace position reader =
     let found : List Finding = findings_next tables before packet rest in
-    let from : ℕ → Position → Progress → List Finding = λ s p d. found ++ findings_from s p rest (progresses_from tables p.packets d (bytes_of rest)) (ends_from tables p.packets d (bytes_of rest)) in
-    ap (λ (s : ℕ). from s (position_after before.step before.position packet) (progress_next tables before packet)) (sym step)
-    ∙ ap (λ (p : Position). from after.step p (progress_next tables before packet)) (sym position)
-    ∙ ap (λ (d : Progress). from after.step after.position d) (sym reader)
+    let from : Pace → Position → Progress → List Finding = λ s p d. found ++ findings_from s p rest (progresses_from tables p.packets d (bytes_of rest)) (ends_from tables p.packets d (bytes_of rest)) in
+    ap (λ (s : Pace). from s (position_after before.pace.step before.position packet) (progress_next tables before packet)) (sym pace)
+    ∙ ap (λ (p : Position). from after.pace p (progress_next tables before packet)) (sym position)
+    ∙ ap (λ (d : Progress). from after.pace after.position d) (sym reader)

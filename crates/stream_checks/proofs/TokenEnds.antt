@@ -47,7 +47,7 @@ other-reader one other j i apart same =
     sym (get_or-set_other one.readers j i (started []) (started []) apart) ∙ ap (λ (state : TokenState). reader_in state i) same ∙ get_or-set_other other.readers j i (started []) (started []) apart
 
 -- the partitions before i, but not k, have their own readers; and the tokens after are read with those of all marked partitions
-record IsMixed (header : Header) (columns : ℕ) (modes : List MbMode) (n blanks : ℕ) (packet : List ℕ) (places : List Place) (k i : ℕ) (state : TokenState) : Type 0 where
+pub record IsMixed (header : Header) (columns : ℕ) (modes : List MbMode) (n blanks : ℕ) (packet : List ℕ) (places : List Place) (k i : ℕ) (state : TokenState) : Type 0 where
   pub long : length state.readers ≡ length places
   pub above : state.above ≡ replicate columns outside
   pub left : state.left ≡ outside
@@ -116,7 +116,7 @@ mixed-own header columns modes n blanks packet places k i state chains is apart 
     }
 
 -- all of them but k
-mixed-first : (header : Header) (columns : ℕ) (modes : List MbMode) (n blanks : ℕ) (packet : List ℕ) (places : List Place) (k i : ℕ) → TokensAreChains header → i ≤ length places
+pub mixed-first : (header : Header) (columns : ℕ) (modes : List MbMode) (n blanks : ℕ) (packet : List ℕ) (places : List Place) (k i : ℕ) → TokensAreChains header → i ≤ length places
     → ((j : ℕ) → j < length places → j ≢ k → 0 < length (reader_in (token_state header columns (marked_start blanks places packet columns) modes n) j).rest)
     → (state : TokenState) × IsMixed header columns modes n blanks packet places k i state
 mixed-first header columns modes n blanks packet places k zero chains within some = (marked_start blanks places packet columns, mixed-none header columns modes n blanks packet places k)
@@ -135,7 +135,7 @@ state-is : (readers others : List Reader) (above higher : List (List Bool)) (lef
 state-is readers others above higher left further p q s = cc
 
 -- then it is decoding's own start, but for partition k
-mixed-all : (header : Header) (columns : ℕ) (modes : List MbMode) (n blanks : ℕ) (packet : List ℕ) (places : List Place) (k : ℕ) (state : TokenState)
+pub mixed-all : (header : Header) (columns : ℕ) (modes : List MbMode) (n blanks : ℕ) (packet : List ℕ) (places : List Place) (k : ℕ) (state : TokenState)
     → IsMixed header columns modes n blanks packet places k (length places) state → k < length places
     → state ≡ with_reader (tokens_start places packet columns) k (started (marked blanks (text_of packet (slice_index_or places k no_place))))
 mixed-all header columns modes n blanks packet places k state is inside =

@@ -13,13 +13,14 @@ use Rattle.stream_checks.specs.Partitions.{ends_from}
 use Rattle.macroblock_lists.specs.declared.partition_ends.PartitionEnds.{PartitionEnds}
 use Rattle.stream_checks.specs.declared.finding.Finding.{Finding}
 use Rattle.stream_checks.specs.declared.finding.Tally.{Tally}
+use Rattle.stream_checks.specs.declared.stamps.Pace.{Pace}
 use Rattle.stream_checks.specs.declared.fault.CheckFault.{CheckFault}
 use Rattle.stream_checks.specs.declared.fault.CheckFault.TheVariants.{NoMemory, Write}
 use Rattle.macroblock_lists.specs.declared.layouts.Form.{Form}
 use Rattle.stream_checks.specs.Files.{findings}
 use Rattle.stream_checks.specs.Lines.{frames_of}
 use Rattle.stream_checks.specs.Severity.{tally_of}
-use Rattle.stream_checks.specs.Stamps.{IsMedianStep, steps_of}
+use Rattle.stream_checks.specs.Stamps.{IsPace}
 use Rattle.stream_checks.specs.Texts.{end_of, texts_of}
 
 -- what is known after the packet after a checker's position
@@ -32,7 +33,7 @@ ends_next tables checker packet = ends_before tables checker.reader packet.bytes
 -- the findings at this packet
 abbrev pub findings_next : TableEntries → Checker → Packet → List Packet → List Finding
 findings_next tables checker packet rest =
-    findings_at checker.step checker.position packet rest (progress_next tables checker packet) (ends_next tables checker packet)
+    findings_at checker.pace checker.position packet rest (progress_next tables checker packet) (ends_next tables checker packet)
 
 -- what is known of a hidden packet before the position is the answer for the packets after it
 abbrev pub TellsUnshown : Option Bool → List Packet → Type 0
@@ -41,7 +42,7 @@ TellsUnshown unshown rest = IfSome unshown (λ answer. answer ≡ is_unshown res
 -- the findings at the packets after the position
 abbrev pub findings_after : TableEntries → Checker → List Packet → List Finding
 findings_after tables checker rest =
-    findings_from checker.step checker.position rest (progresses_from tables checker.position.packets checker.reader (bytes_of rest))
+    findings_from checker.pace checker.position rest (progresses_from tables checker.position.packets checker.reader (bytes_of rest))
     (ends_from tables checker.position.packets checker.reader (bytes_of rest))
 
 -- the text of findings, and what follows them
@@ -50,10 +51,10 @@ text_of_check form file found = texts_of form found ++ end_of form (length file.
 
 -- a check of a file: the output gained the text of its findings, and the tally is theirs
 pub record IsChecked (form : Form) (tables : TableEntries) (bytes : List ℕ) (file : Ivf) (tally : Tally) (output output' : Option (List ℕ)) : Type 0 where
-  pub step : ℕ
-  pub median : IsMedianStep (steps_of file.packets) step
-  pub written : Appends output output' (text_of_check form file (findings step tables bytes file))
-  pub counted : tally ≡ tally_of (findings step tables bytes file)
+  pub pace : Pace
+  pub paced : IsPace file.packets pace
+  pub written : Appends output output' (text_of_check form file (findings pace tables bytes file))
+  pub counted : tally ≡ tally_of (findings pace tables bytes file)
 
 -- the output gained the texts of the first findings, as many as there was memory for
 pub record IsBegun (form : Form) (all : List Finding) (output output' : Option (List ℕ)) : Type 0 where
@@ -64,9 +65,9 @@ pub record IsBegun (form : Form) (all : List Finding) (output output' : Option (
 
 -- of the findings of a file
 pub record IsCheckBegun (form : Form) (tables : TableEntries) (bytes : List ℕ) (file : Ivf) (output output' : Option (List ℕ)) : Type 0 where
-  pub step : ℕ
-  pub median : IsMedianStep (steps_of file.packets) step
-  pub begun : IsBegun form (findings step tables bytes file) output output'
+  pub pace : Pace
+  pub paced : IsPace file.packets pace
+  pub begun : IsBegun form (findings pace tables bytes file) output output'
 
 -- what was written when a check ended early
 abbrev pub IsEarlyEnd : Form → TableEntries → List ℕ → Ivf → Option (List ℕ) → Option (List ℕ) → CheckFault → Type 0

@@ -32,12 +32,16 @@ header_reading tables given context = do
   after ← trailing_fields given.is_key tables.updates first.1
   give (header_in (record { tag = record { key = given.is_key; version = given.version; shown = given.is_shown; first_partition = 0 }; place = 0; width = given.width; height = given.height }) first given.partitions (after, given.reader))
 
--- the header, and then a record for each of so many macroblocks, after a segment map (section 19.3)
-unfoldable pub first_reading : TableEntries → Header → Context → ℕ → ℕ → Option (List ℕ) → Reading (Header × List MbMode)
-first_reading tables given context columns rows map = do
+-- the header, and then the records of the first n of so many macroblocks, after a segment map (section 19.3)
+unfoldable pub records_reading : TableEntries → Header → Context → ℕ → ℕ → Option (List ℕ) → ℕ → Reading (Header × List MbMode)
+records_reading tables given context columns rows map n = do
   header ← header_reading tables given context
-  records ← first_modes (columns * rows) tables header columns rows map
+  records ← first_modes n tables header columns rows map
   give (header, records)
+
+-- and of all
+abbrev pub first_reading : TableEntries → Header → Context → ℕ → ℕ → Option (List ℕ) → Reading (Header × List MbMode)
+first_reading tables given context columns rows map = records_reading tables given context columns rows map (columns * rows)
 
 -- the context that is known, or none
 abbrev pub context_in : Option Known → Option Context

@@ -17,3 +17,5 @@ pub mod Hashes
 pub mod ChainEnds
 pub mod FirstChains
 pub mod TokenChains
+pub mod ModeBits
+pub mod TokenBits

@@ -8,7 +8,7 @@ use Rattle.stream_checks.specs.declared.finding.Finding.{Finding}
 use Rattle.stream_checks.specs.declared.finding.Spot.{Spot}
 use Rattle.stream_checks.specs.declared.finding.Tally.{Tally}
 use Rattle.stream_checks.specs.declared.finding.Trouble.{Trouble}
-use Rattle.stream_checks.specs.declared.finding.Trouble.TheVariants.{FrameCount, FrameSize, NoRate, Refused, PastFirst, PastToken, UnreadFirst, UnreadToken, EmptyToken, NoBytes, StampRepeats, StampGoesBack, StampSkips, SizeChanges, NeverShown, CutRecord}
+use Rattle.stream_checks.specs.declared.finding.Trouble.TheVariants.{FrameCount, FrameSize, NoRate, Refused, PastFirst, PastToken, UnreadFirst, UnreadToken, EmptyToken, NoBytes, GoldenCopiesNone, AltrefCopiesNone, ComesTwice, StampRepeats, StampGoesBack, StampSkips, BreaksStep, SizeChanges, NeverShown, CutRecord}
 use Rattle.stream_checks.specs.Severity.{is_damage}
 
 -- what is at the front of a line
@@ -63,6 +63,13 @@ back_text stamp before = stamp_text stamp ++ codes " goes back from " ++ decimal
 abbrev pub skips_text : ℕ → ℕ → List ℕ
 skips_text stamp before = stamp_text stamp ++ codes " skips from " ++ decimal before
 
+abbrev pub breaks_text : ℕ → ℕ → ℕ → List ℕ
+breaks_text stamp before step = stamp_text stamp ++ codes " follows " ++ decimal before ++ codes ", all other steps are " ++ decimal step
+
+-- of the number of a copy
+abbrev pub copy_text : List ℕ → List ℕ
+copy_text field = field ++ codes " 3, at which vpxdec ends"
+
 -- of a size
 abbrev pub change_text : ℕ × ℕ → ℕ × ℕ → List ℕ
 change_text before size = codes "size " ++ size_text before ++ codes " changes to " ++ size_text size
@@ -93,9 +100,13 @@ trouble_text (UnreadFirst bytes size) = first_text ++ unread_text bytes size
 trouble_text (UnreadToken partition bytes size) = partition_text partition ++ unread_text bytes size
 trouble_text (EmptyToken partition) = partition_text partition ++ codes "no bytes, which libvpx calls corrupt"
 trouble_text NoBytes = codes "no bytes, at which vpxdec ends"
+trouble_text GoldenCopiesNone = copy_text (codes "copy_buffer_to_golden")
+trouble_text AltrefCopiesNone = copy_text (codes "copy_buffer_to_arf")
+trouble_text (ComesTwice breaks_step) = codes "the next packet has the same bytes and time stamp"
 trouble_text (StampRepeats stamp) = stamp_text stamp ++ codes " repeats"
 trouble_text (StampGoesBack stamp before) = back_text stamp before
 trouble_text (StampSkips stamp before) = skips_text stamp before
+trouble_text (BreaksStep stamp before step) = breaks_text stamp before step
 trouble_text (SizeChanges before size) = change_text before size
 trouble_text NeverShown = codes "hidden, never shown"
 trouble_text (CutRecord number begins claimed left) = cut_text number begins claimed left

@@ -5,7 +5,7 @@ use Rattle.stream_facts.specs.Lines.{cause_text}
 use Rattle.stream_checks.specs.declared.finding.Finding.{Finding}
 use Rattle.stream_checks.specs.declared.finding.Spot.{Spot}
 use Rattle.stream_checks.specs.declared.finding.Trouble.{Trouble}
-use Rattle.stream_checks.specs.declared.finding.Trouble.TheVariants.{FrameCount, FrameSize, NoRate, Refused, PastFirst, PastToken, UnreadFirst, UnreadToken, EmptyToken, NoBytes, StampRepeats, StampGoesBack, StampSkips, SizeChanges, NeverShown, CutRecord}
+use Rattle.stream_checks.specs.declared.finding.Trouble.TheVariants.{FrameCount, FrameSize, NoRate, Refused, PastFirst, PastToken, UnreadFirst, UnreadToken, EmptyToken, NoBytes, GoldenCopiesNone, AltrefCopiesNone, ComesTwice, StampRepeats, StampGoesBack, StampSkips, BreaksStep, SizeChanges, NeverShown, CutRecord}
 use Rattle.stream_checks.specs.Lines.{size_text}
 use Rattle.stream_checks.specs.Severity.{is_damage}
 
@@ -45,6 +45,16 @@ refused_members cause lost = kind_member (codes "refused") ++ cause_member cause
 abbrev pub stamp_members : List ℕ → ℕ → ℕ → List ℕ
 stamp_members kind stamp before = kind_member kind ++ number_member (codes "stamp") stamp ++ number_member (codes "before") before
 
+abbrev pub breaks_members : ℕ → ℕ → ℕ → List ℕ
+breaks_members stamp before step = stamp_members (codes "breaks_step") stamp before ++ number_member (codes "step") step
+
+-- the field of a copy
+abbrev pub field_member : List ℕ → List ℕ
+field_member field = member (codes "field") (quoted field)
+
+abbrev pub copy_members : List ℕ → List ℕ
+copy_members field = kind_member (codes "copies_none") ++ field_member field
+
 -- two sizes
 abbrev pub size_members : List ℕ → List ℕ → ℕ × ℕ → ℕ × ℕ → List ℕ
 size_members kind name before size = kind_member kind ++ size_member name before ++ size_member (codes "size") size
@@ -66,9 +76,13 @@ trouble_members (UnreadFirst bytes size) = unread_members None bytes size
 trouble_members (UnreadToken partition bytes size) = unread_members (Some partition) bytes size
 trouble_members (EmptyToken partition) = partition_members (codes "empty") (Some partition)
 trouble_members NoBytes = kind_member (codes "no_bytes")
+trouble_members GoldenCopiesNone = copy_members (codes "copy_buffer_to_golden")
+trouble_members AltrefCopiesNone = copy_members (codes "copy_buffer_to_arf")
+trouble_members (ComesTwice breaks_step) = kind_member (codes "comes_twice")
 trouble_members (StampRepeats stamp) = kind_member (codes "stamp_repeats") ++ number_member (codes "stamp") stamp
 trouble_members (StampGoesBack stamp before) = stamp_members (codes "stamp_goes_back") stamp before
 trouble_members (StampSkips stamp before) = stamp_members (codes "stamp_skips") stamp before
+trouble_members (BreaksStep stamp before step) = breaks_members stamp before step
 trouble_members (SizeChanges before size) = size_members (codes "size_changes") (codes "before") before size
 trouble_members NeverShown = kind_member (codes "never_shown")
 trouble_members (CutRecord number begins claimed left) = cut_members number begins claimed left

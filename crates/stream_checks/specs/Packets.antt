@@ -1,11 +1,14 @@
 -- The findings at a packet: by the packets around it, what is known after it, and where decoding ends in its partitions.
-use Rattle.std.specs.Prelude.{ℕ, ◌+◌, ◌==◌, Bool, true, false, not, if◌then◌else◌, List, [], ◌++◌, ◌∷◌, map, length, Option, Some, None, Ok}
+use Rattle.std.specs.Prelude.{ℕ, ◌+◌, ◌==◌, ◌&&◌, Bool, true, false, not, if◌then◌else◌, List, [], ◌++◌, ◌∷◌, map, length, Option, Some, None, Ok, Err}
 use Rattle.std.specs.Int.{from_bool}
 use Rattle.std.specs.List.{prefix_len}
+use Rattle.std.specs.Str.{bytes_eq}
 use Rattle.stream_files.specs.declared.packets.Packet.{Packet}
 use Rattle.frame_header.specs.declared.cause.Cause.{Cause}
 use Rattle.frame_header.specs.Tags.{has_key_tag, is_shown, key_size_of}
 use Rattle.vp8_tables.specs.Tables.{TableEntries}
+use Rattle.header_bits.specs.Copies.{copy_numbers, no_copies}
+use Rattle.header_bits.specs.declared.copies.CopyNumbers.{CopyNumbers}
 use Rattle.macroblock_lists.specs.Known.{Progress}
 use Rattle.macroblock_lists.specs.declared.partition_ends.PartitionEnds.{PartitionEnds}
 use Rattle.stream_checks.specs.Breaks.{break_in, progresses_from}
@@ -15,9 +18,11 @@ use Rattle.stream_checks.specs.Stamps.{stamp_trouble_in, stamps_after}
 use Rattle.stream_checks.specs.declared.finding.Finding.{Finding}
 use Rattle.stream_checks.specs.declared.finding.Spot.{Spot}
 use Rattle.stream_checks.specs.declared.finding.Trouble.{Trouble}
-use Rattle.stream_checks.specs.declared.finding.Trouble.TheVariants.{Refused, SizeChanges, NeverShown, NoBytes}
+use Rattle.stream_checks.specs.declared.finding.Trouble.TheVariants.{Refused, SizeChanges, NeverShown, NoBytes, GoldenCopiesNone, AltrefCopiesNone, ComesTwice}
 use Rattle.stream_checks.specs.declared.packets.Position.{Position}
 use Rattle.stream_checks.specs.declared.packets.Found.{Found}
+use Rattle.stream_checks.specs.declared.packets.Read.{Read}
+use Rattle.stream_checks.specs.declared.stamps.Pace.{Pace}
 
 -- the packets after a refused one that are lost with it: those before the next key tag
 abbrev pub lost_after : List Packet → ℕ
@@ -52,6 +57,27 @@ hidden_of (Some unshown) = if unshown then Some NeverShown else None
 abbrev pub emptiness : Packet → Option Trouble
 emptiness packet = if length packet.bytes == 0 then Some NoBytes else None
 
+-- a packet that is decoded has the numbers of copies that are coded, any other none
+abbrev pub copies_in : Progress → List ℕ → CopyNumbers
+copies_in (Ok known) packet = copy_numbers packet
+copies_in (Err broken) packet = no_copies
+
+-- what reading a packet says: the cause, if the stream breaks at it, and the numbers of its copies
+abbrev pub read_in : ℕ → Progress → List ℕ → Read
+read_in place after packet = record { cause = break_in place after; copies = copies_in after packet }
+
+-- a number 3, which names no reference
+abbrev pub undefined_copy : Trouble → ℕ → Option Trouble
+undefined_copy trouble number = if number == 3 then Some trouble else None
+
+-- the packet after this one is the same again, an inter packet where the step is constant, or any other
+abbrev pub is_same : Packet → Packet → Bool
+is_same one other = one.stamp == other.stamp && bytes_eq one.bytes other.bytes
+
+abbrev pub repetition : Pace → Packet → List Packet → Option Trouble
+repetition pace packet [] = None
+repetition pace packet (next ∷ rest) = if is_same packet next && not (length packet.bytes == 0) then Some (ComesTwice (pace.is_constant && not (has_key_tag packet.bytes))) else None
+
 -- before the first packet
 abbrev pub first_position : Position
 first_position = record { packets = 0; frames = 0; stamps = None; size = None }
@@ -73,37 +99,41 @@ abbrev pub spot_of : Position → Packet → Spot
 spot_of position packet = record { packet = position.packets; frame = if is_shown packet.bytes then Some position.frames else None }
 
 -- what is wrong with a packet by the packets around it
-abbrev pub found_at : ℕ → Position → Packet → List Packet → Option Cause → Found
-found_at step position packet rest cause = record {
-  refused = refusal cause rest;
+abbrev pub found_at : Pace → Position → Packet → List Packet → Read → Found
+found_at pace position packet rest read = record {
+  refused = refusal read.cause rest;
   empty = emptiness packet;
-  stamp = stamp_trouble_in step position.packets position.stamps packet;
+  to_golden = undefined_copy GoldenCopiesNone read.copies.golden;
+  to_altref = undefined_copy AltrefCopiesNone read.copies.altref;
+  twice = repetition pace packet rest;
+  stamp = stamp_trouble_in pace position.packets position.stamps packet;
   size = size_change position.size (key_size_of packet.bytes);
   hidden = hidden_of (unshown_at packet rest);
 }
 
 abbrev pub listed_of : Spot → Found → List Finding
 listed_of spot all =
-    listed (found spot all.refused) ++ listed (found spot all.empty) ++ listed (found spot all.stamp) ++ listed (found spot all.size) ++ listed (found spot all.hidden)
+    listed (found spot all.refused) ++ listed (found spot all.empty) ++ listed (found spot all.to_golden) ++ listed (found spot all.to_altref) ++ listed (found spot all.twice)
+    ++ listed (found spot all.stamp) ++ listed (found spot all.size) ++ listed (found spot all.hidden)
 
 -- the findings at a packet. A packet whose partitions are read is not refused, so its first findings are those of its partitions,
 -- as a refused packet's first is the refusal
-abbrev pub findings_at : ℕ → Position → Packet → List Packet → Progress → PartitionEnds → List Finding
-findings_at step position packet rest after ends =
+abbrev pub findings_at : Pace → Position → Packet → List Packet → Progress → PartitionEnds → List Finding
+findings_at pace position packet rest after ends =
     partition_findings (spot_of position packet) ends
-    ++ listed_of (spot_of position packet) (found_at step position packet rest (break_in position.packets after))
+    ++ listed_of (spot_of position packet) (found_at pace position packet rest (read_in position.packets after packet.bytes))
 
 -- the findings at packets, by what is known after each and by their partitions: in the order of the packets
-abbrev pub findings_from : ℕ → Position → List Packet → List Progress → List PartitionEnds → List Finding
-findings_from step position (packet ∷ packets) (after ∷ progresses) (ends ∷ later) =
-    findings_at step position packet packets after ends ++ findings_from step (position_after step position packet) packets progresses later
-findings_from step position packets progresses ends = []
+abbrev pub findings_from : Pace → Position → List Packet → List Progress → List PartitionEnds → List Finding
+findings_from pace position (packet ∷ packets) (after ∷ progresses) (ends ∷ later) =
+    findings_at pace position packet packets after ends ++ findings_from pace (position_after pace.step position packet) packets progresses later
+findings_from pace position packets progresses ends = []
 
 -- the bytes of packets
 abbrev pub bytes_of : List Packet → List (List ℕ)
 bytes_of packets = map (λ packet. packet.bytes) packets
 
--- the findings at the packets of a stream whose shown packets are so many units of time apart
-abbrev pub packet_findings : ℕ → TableEntries → List Packet → List Finding
-packet_findings step tables packets =
-    findings_from step first_position packets (progresses_from tables 0 (Ok None) (bytes_of packets)) (ends_from tables 0 (Ok None) (bytes_of packets))
+-- the findings at the packets of a stream whose time stamps go on so
+abbrev pub packet_findings : Pace → TableEntries → List Packet → List Finding
+packet_findings pace tables packets =
+    findings_from pace first_position packets (progresses_from tables 0 (Ok None) (bytes_of packets)) (ends_from tables 0 (Ok None) (bytes_of packets))

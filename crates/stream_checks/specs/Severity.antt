@@ -3,7 +3,7 @@ use Rattle.std.specs.Prelude.{◌+◌, Bool, true, false, not, List, count_by}
 use Rattle.stream_checks.specs.declared.finding.Finding.{Finding}
 use Rattle.stream_checks.specs.declared.finding.Tally.{Tally}
 use Rattle.stream_checks.specs.declared.finding.Trouble.{Trouble}
-use Rattle.stream_checks.specs.declared.finding.Trouble.TheVariants.{Refused, PastFirst, PastToken, UnreadFirst, UnreadToken, CutRecord}
+use Rattle.stream_checks.specs.declared.finding.Trouble.TheVariants.{Refused, PastFirst, PastToken, UnreadFirst, UnreadToken, ComesTwice, BreaksStep, CutRecord}
 
 -- samples are lost, or they are not those that were coded; anything else is only worth a note
 abbrev pub is_damage : Trouble → Bool
@@ -12,6 +12,8 @@ is_damage (PastFirst bytes) = true
 is_damage (PastToken partition bytes) = true
 is_damage (UnreadFirst bytes size) = true
 is_damage (UnreadToken partition bytes size) = true
+is_damage (ComesTwice breaks_step) = breaks_step
+is_damage (BreaksStep stamp before step) = true
 is_damage (CutRecord number begins claimed left) = true
 is_damage trouble = false
 

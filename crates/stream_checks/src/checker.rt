@@ -13,6 +13,7 @@ use crate::finding::{Spot, Tally};
 use crate::packets::{Found, Position, unshown};
 use crate::partitions::{found, write_partitions};
 use crate::reader::Reader;
+use crate::stamps::Pace;
 use crate::texts::write_found;
 use macroblock_lists::{Form, PartitionEnds};
 use std::alloc::Global;
@@ -24,8 +25,7 @@ use vp8_tables::Tables;
 #[derive(Drop)]
 pub(crate) struct Checker {
     form: Form,
-    // The median step between the time stamps of shown packets.
-    step: u64,
+    pace: Pace,
     position: Position,
     reader: Reader,
     // Of a hidden packet before the position: whether no shown packet comes before the next key tag.
@@ -41,14 +41,18 @@ fn write_around<W: Write>(
 ) -> Result<Tally, WriteFault>
     ensures written { OnOk result (Appends (W.contents w.old) (W.contents w.new) (texts_of form (listed_of spot all))) }
     ensures counted { IfOk result (λ tally. tally ≡ tally_of (listed_of spot all)) }
-    ensures few { IfOk result (λ tally. tally.damage + tally.notes ≤ 5) }
+    ensures few { IfOk result (λ tally. tally.damage + tally.notes ≤ 8) }
 {
     let refused = write_found(w, form, found(spot, all.refused))?;
     let empty = write_found(w, form, found(spot, all.empty))?;
+    let to_golden = write_found(w, form, found(spot, all.to_golden))?;
+    let to_altref = write_found(w, form, found(spot, all.to_altref))?;
+    let twice = write_found(w, form, found(spot, all.twice))?;
     let stamp = write_found(w, form, found(spot, all.stamp))?;
     let size = write_found(w, form, found(spot, all.size))?;
     let hidden = write_found(w, form, found(spot, all.hidden))?;
-    Ok(refused.plus(empty).plus(stamp).plus(size).plus(hidden))
+    let read = refused.plus(empty).plus(to_golden).plus(to_altref);
+    Ok(read.plus(twice).plus(stamp).plus(size).plus(hidden))
 }
 
 /// Writes the findings at a packet, and returns their tally.
@@ -62,7 +66,7 @@ fn write_all<W: Write>(
     requires { length ends.now.tokens.items ≤ 8 }
     ensures written { OnOk result (Appends (W.contents w.old) (W.contents w.new) (texts_of form (partition_findings spot ends.now ++ listed_of spot all))) }
     ensures counted { IfOk result (λ tally. tally ≡ tally_of (partition_findings spot ends.now ++ listed_of spot all)) }
-    ensures few { IfOk result (λ tally. tally.damage + tally.notes ≤ 14) }
+    ensures few { IfOk result (λ tally. tally.damage + tally.notes ≤ 17) }
 {
     let partitions = write_partitions(w, form, spot, ends)?;
     let around = write_around(w, form, spot, all)?;
@@ -70,13 +74,13 @@ fn write_all<W: Write>(
 }
 
 impl Checker {
-    /// Before the first packet of a stream whose shown packets are `step` units of time apart.
-    pub fn new(alloc: Global, form: Form, step: u64) -> Checker
-        ensures { result ≡ record { form = form; step = step; position = first_position; reader = Ok None; unshown = None } }
+    /// Before the first packet of a stream whose time stamps go on so.
+    pub fn new(alloc: Global, form: Form, pace: Pace) -> Checker
+        ensures { result ≡ record { form = form; pace = pace; position = first_position; reader = Ok None; unshown = None } }
     {
         Checker {
             form,
-            step,
+            pace,
             position: Position::first(),
             reader: Reader::new(alloc),
             unshown: None,
@@ -94,15 +98,15 @@ impl Checker {
     ) -> Result<Tally, CheckFault>
         requires room { self.old.position.packets + 1 < 2 ^ 64 }
         requires frames { self.old.position.frames ≤ self.old.position.packets }
-        requires step { 1 ≤ self.old.step }
+        requires step { 1 ≤ self.old.pace.step }
         requires answers { TellsUnshown self.old.unshown (packet.now ∷ rest.now) }
         ensures written { OnOk result (Appends (W.contents w.old) (W.contents w.new) (texts_of self.old.form (findings_next tables.now self.old packet.now rest.now))) }
         ensures counted { IfOk result (λ tally. tally ≡ tally_of (findings_next tables.now self.old packet.now rest.now)) }
-        ensures few { IfOk result (λ tally. tally.damage + tally.notes ≤ 14) }
+        ensures few { IfOk result (λ tally. tally.damage + tally.notes ≤ 17) }
         ensures early { IfErr result (λ fault. fault ≡ CheckFault.NoMemory → W.contents w.new ≡ W.contents w.old) }
         ensures form { self.new.form ≡ self.old.form }
-        ensures step { self.new.step ≡ self.old.step }
-        ensures position { OnOk result (self.new.position ≡ position_after self.old.step self.old.position packet.now) }
+        ensures pace { self.new.pace ≡ self.old.pace }
+        ensures position { OnOk result (self.new.position ≡ position_after self.old.pace.step self.old.position packet.now) }
         ensures frames { OnOk result (self.new.position.frames ≤ self.new.position.packets) }
         ensures reader { OnOk result (self.new.reader ≡ progress_next tables.now self.old packet.now) }
         ensures answers { OnOk result (TellsUnshown self.new.unshown rest.now) }
@@ -112,13 +116,13 @@ impl Checker {
         let Ok(ends) = self.reader.next(tables, place, bytes) else {
             return Err(CheckFault::NoMemory);
         };
-        let cause = self.reader.break_at(place);
+        let read = self.reader.read_at(place, bytes);
         self.unshown = unshown(self.unshown, packet, rest);
         let spot = self.position.spot(packet);
         let all = self
             .position
-            .found(self.step, packet, rest, cause, self.unshown);
-        self.position = self.position.after(self.step, packet);
+            .found(self.pace, packet, rest, read, self.unshown);
+        self.position = self.position.after(self.pace.step, packet);
         match write_all(w, self.form, spot, &ends, all) {
             Ok(tally) => Ok(tally),
             Err(_) => Err(CheckFault::Write),

@@ -14,7 +14,7 @@ use crate::file::{write_cut, write_head};
 use crate::finding::Tally;
 use crate::packets::frames_of;
 use crate::progress::Progress;
-use crate::stamps::median_step;
+use crate::stamps::pace_of;
 use crate::texts::write_end;
 use macroblock_lists::Form;
 use std::alloc::Global;
@@ -32,11 +32,11 @@ fn write_packets<W: Write, G: Progress>(
 ) -> Result<Tally, CheckFault>
     requires few { checker.position.packets + length packets.now ≤ 1048576 }
     requires frames { checker.position.frames ≤ checker.position.packets }
-    requires step { 1 ≤ checker.step }
+    requires step { 1 ≤ checker.pace.step }
     requires answers { TellsUnshown checker.unshown packets.now }
     ensures written { OnOk result (Appends (W.contents w.old) (W.contents w.new) (texts_of checker.form (findings_after tables.now checker packets.now))) }
     ensures counted { IfOk result (λ tally. tally ≡ tally_of (findings_after tables.now checker packets.now)) }
-    ensures few { IfOk result (λ tally. tally.damage + tally.notes ≤ 14680064) }
+    ensures few { IfOk result (λ tally. tally.damage + tally.notes ≤ 17825792) }
     ensures early { IfErr result (IsPacketEnd checker.form (findings_after tables.now checker packets.now) (W.contents w.old) (W.contents w.new)) }
 {
     let mut checker = checker;
@@ -74,13 +74,13 @@ pub fn check<W: Write, G: Progress>(
     ensures early { IfErr result (IsEarlyEnd form tables.now bytes.now file.now (W.contents w.old) (W.contents w.new)) }
 {
     let packets = file.packets.as_slice();
-    let Ok(step) = median_step(alloc, packets) else {
+    let Ok(pace) = pace_of(alloc, packets) else {
         return Err(CheckFault::NoMemory);
     };
     let Ok(at_head) = write_head(w, form, bytes, file) else {
         return Err(CheckFault::Write);
     };
-    let checker = Checker::new(alloc, form, step);
+    let checker = Checker::new(alloc, form, pace);
     let at_packets = match write_packets(w, tables, checker, packets, progress) {
         Ok(tally) => tally,
         Err(fault) => return Err(fault),

@@ -76,6 +76,21 @@ pub enum Trouble {
         stamp: u64,
         before: u64,
     },
+    /// The next packet has the same bytes and the same time stamp: an inter packet of a stream with a constant step, or any other.
+    ComesTwice {
+        breaks_step: bool,
+    },
+    /// The header's `copy_buffer_to_golden` is 3, which names no reference.
+    GoldenCopiesNone,
+    /// The header's `copy_buffer_to_arf` is 3, which names no reference.
+    AltrefCopiesNone,
+    /// The step to a shown inter packet from the shown packet before it is not 0, and not the one that all other steps of the stream
+    /// are, except next to it.
+    BreaksStep {
+        stamp: u64,
+        before: u64,
+        step: u64,
+    },
     /// A key packet has another size than the last key packet with a size.
     SizeChanges {
         before: (u16, u16),
@@ -105,7 +120,9 @@ impl Trouble {
             | Trouble::PastToken { .. }
             | Trouble::UnreadFirst { .. }
             | Trouble::UnreadToken { .. }
+            | Trouble::BreaksStep { .. }
             | Trouble::CutRecord { .. } => true,
+            Trouble::ComesTwice { breaks_step } => breaks_step,
             _ => false,
         }
     }

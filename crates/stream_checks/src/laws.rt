@@ -12,9 +12,11 @@ ghost use Rattle.pixel_planes.specs.Pictures.{PictureSamples};
 ghost use Rattle.stream_files.specs.Y4m.{frame_text};
 ghost use Rattle.stream_checks.specs.ChainEnds.{end_by};
 ghost use Rattle.stream_checks.specs.FirstChains.{AreBytes, FirstEndIsOfChain, FirstIsChain, FirstIsReadSo};
+ghost use Rattle.stream_checks.specs.ModeBits.{ModeBitsAreOfChains, RecordsAreChains};
+ghost use Rattle.stream_checks.specs.TokenBits.{TokenBitsAreOfChains};
 ghost use Rattle.stream_checks.specs.TokenChains.{TokenEndsAreOfChains, TokensAreChains, TokensAreReadSo};
 ghost use Rattle.stream_checks.specs.HashLines.{samples_of};
-ghost use Rattle.stream_checks.specs.Laws.{BreaksAreDecoded, LostAreBroken, WorkedEnds, WorkedOddStamps, WorkedStamps};
+ghost use Rattle.stream_checks.specs.Laws.{BreaksAreDecoded, LostAreBroken, WorkedBreaks, WorkedEnds, WorkedOddStamps, WorkedPaces, WorkedStamps};
 
 use frame_header::{Context, Header};
 use macroblock_lists::Known;
@@ -40,6 +42,17 @@ pub fn worked_stamps()
 /// One odd time stamp is one finding, and so is a gap, or a start from 0.
 pub fn worked_odd_stamps()
     ensures { WorkedOddStamps }
+{}
+
+/// Where the step is constant, an odd step to an inter packet is damage, and so is an inter packet that comes twice; of a key packet
+/// both are notes.
+pub fn worked_breaks()
+    ensures { WorkedBreaks }
+{}
+
+/// A step is constant if it is one of 16 or more, and the others are three in a row at most.
+pub fn worked_paces()
+    ensures { WorkedPaces }
 {}
 
 /// A partition that is read past its end has a finding of its own, and so has one of which more than
@@ -86,12 +99,15 @@ fn prove_known(known: Option<&Known>)
 
 /// What decoding reads of a first partition, the fields of the header and then a record for each
 /// macroblock, is one chain of reads, and decoding ends in the partition where this chain does: the
-/// bytes past the end are the bits that it takes in after the end.
+/// bytes past the end are the bits that it takes in after the end. Up to the record of each macroblock it is a chain too, and the
+/// bits that are listed of the record (`mode_bits`) are those that this chain takes in of the packet's own bytes.
 pub fn first_partitions_are_chains(tables: &Tables, known: Option<&Known>)
     requires bytes { AreProbabilities tables.now.key_subs }
     ensures chain { FirstIsChain tables.now (option_copied known.entry) }
     ensures read { FirstIsReadSo tables.now (option_copied known.entry) }
     ensures end { FirstEndIsOfChain tables.now (option_copied known.entry) }
+    ensures records { RecordsAreChains tables.now (option_copied known.entry) }
+    ensures bits { ModeBitsAreOfChains tables.now (option_copied known.entry) }
 {
     frame_header::laws::headers_are_chains(tables.updates());
     frame_header::laws::headers_are_over_their_own();
@@ -101,11 +117,13 @@ pub fn first_partitions_are_chains(tables: &Tables, known: Option<&Known>)
 
 /// What decoding reads of a token partition, the tokens of the macroblocks whose rows read it, is one
 /// chain of reads, whatever the other partitions hold (RFC 6386, section 9.5). Decoding ends in the
-/// partition where this chain does, if no other one is read past all the zeros that follow it.
+/// partition where this chain does, if no other one is read past all the zeros that follow it. The bits that are listed of the
+/// tokens of a macroblock (`token_bits`) are those that such chains take in of the packet's own bytes.
 pub fn token_partitions_are_chains(header: &Header)
     ensures chain { TokensAreChains header.now }
     ensures read { TokensAreReadSo }
     ensures end { (tables : TableEntries) (known : Option Known) → TokenEndsAreOfChains tables known header.now }
+    ensures bits { (tables : TableEntries) (known : Option Known) → TokenBitsAreOfChains tables known header.now }
 {
     token_parser::laws::tokens_are_chains(&header.context.probabilities.coefficients);
 }

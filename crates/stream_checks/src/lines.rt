@@ -4,7 +4,7 @@ ghost use Rattle.std.specs.Prelude.{◌≡◌, ◌++◌, OnOk, codes};
 ghost use Rattle.std.specs.Fmt.{decimal};
 ghost use Rattle.std.specs.Io.KnownBytes.{Appends};
 ghost use Rattle.stream_facts.specs.Lines.{cause_text};
-ghost use Rattle.stream_checks.specs.Lines.{back_text, change_text, claimed_size_text, claimed_text, count_text, counts_text, cut_start, cut_text, first_text, left_text, line_of, lost_text, partition_text, past_text, rate_text, refused_text, severity_text, size_text, skips_text, spot_text, stamp_text, summary_line, trouble_text, unread_text};
+ghost use Rattle.stream_checks.specs.Lines.{back_text, breaks_text, change_text, claimed_size_text, claimed_text, copy_text, count_text, counts_text, cut_start, cut_text, first_text, left_text, line_of, lost_text, partition_text, past_text, rate_text, refused_text, severity_text, size_text, skips_text, spot_text, stamp_text, summary_line, trouble_text, unread_text};
 
 use crate::finding::{Finding, Spot, Tally, Trouble};
 use frame_header::Cause;
@@ -182,6 +182,24 @@ fn write_skips<W: Write>(w: &mut W, stamp: u64, before: u64) -> Result<(), Write
     write_number(w, before)
 }
 
+fn write_breaks<W: Write>(w: &mut W, stamp: u64, before: u64, step: u64) -> Result<(), WriteFault>
+    ensures { OnOk result (Appends (W.contents w.old) (W.contents w.new) (breaks_text stamp before step)) }
+{
+    write_stamp(w, stamp)?;
+    write_text(w, " follows ")?;
+    write_number(w, before)?;
+    write_text(w, ", all other steps are ")?;
+    write_number(w, step)
+}
+
+/// Writes what is wrong with the number of a copy.
+fn write_copy<W: Write>(w: &mut W, field: &str) -> Result<(), WriteFault>
+    ensures { OnOk result (Appends (W.contents w.old) (W.contents w.new) (copy_text field.now)) }
+{
+    write_text(w, field)?;
+    write_text(w, " 3, at which vpxdec ends")
+}
+
 fn write_change<W: Write>(w: &mut W, before: (u16, u16), size: (u16, u16)) -> Result<(), WriteFault>
     ensures { OnOk result (Appends (W.contents w.old) (W.contents w.new) (change_text before size)) }
 {
@@ -248,9 +266,20 @@ fn write_trouble<W: Write>(w: &mut W, trouble: Trouble) -> Result<(), WriteFault
         } => write_unread_token(w, partition, bytes, size),
         Trouble::EmptyToken { partition } => write_empty_token(w, partition),
         Trouble::NoBytes => write_text(w, "no bytes, at which vpxdec ends"),
+        Trouble::GoldenCopiesNone => write_copy(w, "copy_buffer_to_golden"),
+        Trouble::AltrefCopiesNone => write_copy(w, "copy_buffer_to_arf"),
+        Trouble::ComesTwice { .. } => write_text(
+            w,
+            "the next packet has the same bytes and time stamp",
+        ),
         Trouble::StampRepeats { stamp } => write_repeats(w, stamp),
         Trouble::StampGoesBack { stamp, before } => write_back(w, stamp, before),
         Trouble::StampSkips { stamp, before } => write_skips(w, stamp, before),
+        Trouble::BreaksStep {
+            stamp,
+            before,
+            step,
+        } => write_breaks(w, stamp, before, step),
         Trouble::SizeChanges { before, size } => write_change(w, before, size),
         Trouble::NeverShown => write_text(w, "hidden, never shown"),
         Trouble::CutRecord {

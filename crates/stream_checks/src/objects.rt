@@ -4,7 +4,7 @@ ghost use Rattle.std.specs.Prelude.{◌≡◌, ◌++◌, OnOk, codes};
 ghost use Rattle.std.specs.Io.KnownBytes.{Appends};
 ghost use Rattle.stream_facts.specs.Lines.{cause_text};
 ghost use Rattle.stream_facts.specs.Json.{number_member};
-ghost use Rattle.stream_checks.specs.Objects.{cause_member, cut_members, kind_member, object_of, partition_members, past_members, refused_members, severity_member, size_member, size_members, spot_members, stamp_members, trouble_members, unread_members};
+ghost use Rattle.stream_checks.specs.Objects.{breaks_members, cause_member, copy_members, cut_members, field_member, kind_member, object_of, partition_members, past_members, refused_members, severity_member, size_member, size_members, spot_members, stamp_members, trouble_members, unread_members};
 
 use crate::finding::{Finding, Spot, Trouble};
 use frame_header::Cause;
@@ -111,6 +111,28 @@ fn write_stamps<W: Write>(w: &mut W, kind: &str, stamp: u64, before: u64) -> Res
     write_number(w, "before", before)
 }
 
+fn write_breaks<W: Write>(w: &mut W, stamp: u64, before: u64, step: u64) -> Result<(), WriteFault>
+    ensures { OnOk result (Appends (W.contents w.old) (W.contents w.new) (breaks_members stamp before step)) }
+{
+    write_stamps(w, "breaks_step", stamp, before)?;
+    write_number(w, "step", step)
+}
+
+fn write_field<W: Write>(w: &mut W, field: &str) -> Result<(), WriteFault>
+    ensures { OnOk result (Appends (W.contents w.old) (W.contents w.new) (field_member field.now)) }
+{
+    write_text(w, "\"field\":\"")?;
+    write_text(w, field)?;
+    write_text(w, "\",")
+}
+
+fn write_copy<W: Write>(w: &mut W, field: &str) -> Result<(), WriteFault>
+    ensures { OnOk result (Appends (W.contents w.old) (W.contents w.new) (copy_members field.now)) }
+{
+    write_kind(w, "copies_none")?;
+    write_field(w, field)
+}
+
 fn write_sizes<W: Write>(
     w: &mut W,
     kind: &str,
@@ -195,11 +217,19 @@ fn write_trouble<W: Write>(w: &mut W, trouble: Trouble) -> Result<(), WriteFault
         } => write_unread(w, Some(partition), bytes, size),
         Trouble::EmptyToken { partition } => write_partition(w, "empty", Some(partition)),
         Trouble::NoBytes => write_kind(w, "no_bytes"),
+        Trouble::GoldenCopiesNone => write_copy(w, "copy_buffer_to_golden"),
+        Trouble::AltrefCopiesNone => write_copy(w, "copy_buffer_to_arf"),
+        Trouble::ComesTwice { .. } => write_kind(w, "comes_twice"),
         Trouble::StampRepeats { stamp } => write_repeats(w, stamp),
         Trouble::StampGoesBack { stamp, before } => {
             write_stamps(w, "stamp_goes_back", stamp, before)
         }
         Trouble::StampSkips { stamp, before } => write_stamps(w, "stamp_skips", stamp, before),
+        Trouble::BreaksStep {
+            stamp,
+            before,
+            step,
+        } => write_breaks(w, stamp, before, step),
         Trouble::SizeChanges { before, size } => {
             write_sizes(w, "size_changes", "before", before, size)
         }

@@ -1,12 +1,13 @@
 //! The findings at a packet, by the packets around it.
 
 ghost use Rattle.std.specs.Prelude.{◌≡◌, ◌+◌, ◌<◌, ◌≤◌, ◌^◌, ◌∷◌, IfSome};
-ghost use Rattle.stream_checks.specs.Packets.{emptiness, first_position, found_at, hidden_of, is_unshown, lost_after, newer, position_after, refusal, size_change, spot_of, unshown_at};
+ghost use Rattle.stream_checks.specs.Packets.{emptiness, first_position, found_at, hidden_of, is_same, is_unshown, lost_after, newer, position_after, refusal, repetition, size_change, spot_of, undefined_copy, unshown_at};
 ghost use Rattle.stream_checks.specs.Lines.{frames_of};
 
 use crate::finding::{Spot, Trouble};
-use crate::stamps::{Stamps, stamp_trouble, stamps_after};
+use crate::stamps::{Pace, Stamps, stamp_trouble, stamps_after};
 use frame_header::{Cause, has_key_tag, is_shown, key_size};
+use header_bits::CopyNumbers;
 use stream_files::Packet;
 
 /// What is known of the packets before an index: their number and that of the shown ones, their time
@@ -19,11 +20,21 @@ pub(crate) struct Position {
     pub size: Option<(u16, u16)>,
 }
 
+/// What reading a packet says: the cause, if the stream breaks at it, and the numbers of its copies, 0 if it is not decoded.
+#[derive(Clone, Copy)]
+pub(crate) struct Read {
+    pub cause: Option<Cause>,
+    pub copies: CopyNumbers,
+}
+
 /// What is wrong with a packet by the packets around it.
 #[derive(Clone, Copy)]
 pub(crate) struct Found {
     pub refused: Option<Trouble>,
     pub empty: Option<Trouble>,
+    pub to_golden: Option<Trouble>,
+    pub to_altref: Option<Trouble>,
+    pub twice: Option<Trouble>,
     pub stamp: Option<Trouble>,
     pub size: Option<Trouble>,
     pub hidden: Option<Trouble>,
@@ -122,6 +133,35 @@ fn emptiness(packet: &Packet) -> Option<Trouble>
     }
 }
 
+/// What is wrong with a number that names no reference.
+fn undefined_copy(trouble: Trouble, number: u8) -> Option<Trouble>
+    ensures { result ≡ undefined_copy trouble number }
+{
+    if number == 3 { Some(trouble) } else { None }
+}
+
+/// Whether a packet has the time stamp and the bytes of another one.
+fn is_same(one: &Packet, other: &Packet) -> bool
+    ensures { result ≡ is_same one.now other.now }
+{
+    one.stamp == other.stamp && one.bytes.as_slice() == other.bytes.as_slice()
+}
+
+fn repetition(pace: Pace, packet: &Packet, rest: &[Packet]) -> Option<Trouble>
+    ensures { result ≡ repetition pace packet.now rest.now }
+{
+    let Some((next, _)) = rest.split_first() else {
+        return None;
+    };
+    if is_same(packet, next) && !packet.bytes.as_slice().is_empty() {
+        Some(Trouble::ComesTwice {
+            breaks_step: pace.is_constant && !has_key_tag(packet.bytes.as_slice()),
+        })
+    } else {
+        None
+    }
+}
+
 fn newer(size: Option<(u16, u16)>, before: Option<(u16, u16)>) -> Option<(u16, u16)>
     ensures { result ≡ newer size before }
 {
@@ -175,23 +215,26 @@ impl Position {
         }
     }
 
-    /// What is wrong with the packet after this position, which is refused if there is a cause.
+    /// What is wrong with the packet after this position, of which reading says this.
     pub fn found(
         self,
-        step: u64,
+        pace: Pace,
         packet: &Packet,
         rest: &[Packet],
-        cause: Option<Cause>,
+        read: Read,
         unshown: Option<bool>,
     ) -> Found
-        requires step { 1 ≤ step }
+        requires step { 1 ≤ pace.step }
         requires unshown { unshown ≡ unshown_at packet.now rest.now }
-        ensures { result ≡ found_at step self packet.now rest.now cause }
+        ensures { result ≡ found_at pace self packet.now rest.now read }
     {
         Found {
-            refused: refusal(cause, rest),
+            refused: refusal(read.cause, rest),
             empty: emptiness(packet),
-            stamp: stamp_trouble(step, self.packets, self.stamps, packet),
+            to_golden: undefined_copy(Trouble::GoldenCopiesNone, read.copies.golden),
+            to_altref: undefined_copy(Trouble::AltrefCopiesNone, read.copies.altref),
+            twice: repetition(pace, packet, rest),
+            stamp: stamp_trouble(pace, self.packets, self.stamps, packet),
             size: size_change(self.size, key_size(packet.bytes.as_slice())),
             hidden: hidden_trouble(unshown),
         }

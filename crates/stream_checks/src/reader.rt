@@ -5,8 +5,11 @@ ghost use Rattle.std.specs.Prelude.{◌≡◌, ◌≤◌, Ok, None, IfOk, OnOk, 
 ghost use Rattle.macroblock_lists.specs.Known.{progress_after};
 ghost use Rattle.macroblock_lists.specs.PartitionEnds.{ends_before};
 ghost use Rattle.stream_checks.specs.Breaks.{break_in};
+ghost use Rattle.stream_checks.specs.Packets.{copies_in, read_in};
 
+use crate::packets::Read;
 use frame_header::Cause;
+use header_bits::{CopyNumbers, copy_numbers};
 use macroblock_lists::{PartitionEnds, Progress, read_packet};
 use pixel_planes::NoMemory;
 use std::alloc::Global;
@@ -59,8 +62,31 @@ impl Reader {
         Ok(ends)
     }
 
+    /// The numbers of the copies of a packet, 0 if it was not decoded.
+    fn copies(&self, packet: &[u8]) -> CopyNumbers
+        ensures { result ≡ copies_in self.now packet.now }
+    {
+        match &self.progress {
+            Ok(_) => copy_numbers(packet),
+            Err(_) => CopyNumbers {
+                golden: 0,
+                altref: 0,
+            },
+        }
+    }
+
+    /// What reading the packet at index `place` says, after it was read.
+    pub fn read_at(&self, place: usize, packet: &[u8]) -> Read
+        ensures { result ≡ read_in place self.now packet.now }
+    {
+        Read {
+            cause: self.break_at(place),
+            copies: self.copies(packet),
+        }
+    }
+
     /// The cause, if the stream breaks at this index.
-    pub fn break_at(&self, place: usize) -> Option<Cause>
+    fn break_at(&self, place: usize) -> Option<Cause>
         ensures { result ≡ break_in place self.now }
     {
         match &self.progress {

@@ -1,10 +1,10 @@
 //! Time stamps: the step between frames, and stamps that do not go on by it.
 
 ghost use Rattle.std.specs.Prelude.{◌≡◌, ◌≤◌, ◌++◌, IfOk, OnOk};
-ghost use Rattle.stream_checks.specs.Stamps.{IsMedianStep, first_stamps, goes_on, is_expected, odd_stamp, stamp_after, stamp_trouble, stamp_trouble_in, stamps_after, stamps_by, step_to, steps_of};
+ghost use Rattle.stream_checks.specs.Stamps.{IsMedianStep, IsPace, are_even, are_even_after_two, first_stamps, goes_on, is_break, is_constant, is_expected, is_one_place, is_step, odd_stamp, odd_steps, odd_to, shown_trouble, stamp_after, stamp_trouble, stamp_trouble_in, stamps_after, stamps_by, step_to, steps_of};
 
 use crate::finding::Trouble;
-use frame_header::is_shown;
+use frame_header::{has_key_tag, is_shown};
 use pixel_planes::NoMemory;
 use std::alloc::Global;
 use stream_files::Packet;
@@ -17,6 +17,15 @@ pub(crate) struct Stamps {
     pub last_at: usize,
     pub even: u64,
     pub even_at: usize,
+}
+
+/// How the time stamps of shown packets go on.
+#[derive(Clone, Copy)]
+pub(crate) struct Pace {
+    /// The median of the steps between them, and at least 1.
+    pub step: u64,
+    /// All steps are this one, except at one place.
+    pub is_constant: bool,
 }
 
 fn stamp_after(before: Option<u64>, packet: &Packet) -> Option<u64>
@@ -56,7 +65,7 @@ fn steps_of(alloc: Global, packets: &[Packet]) -> Result<Vec<u64>, NoMemory>
 }
 
 /// The median of the steps between the time stamps of shown packets, and at least 1.
-pub(crate) fn median_step(alloc: Global, packets: &[Packet]) -> Result<u64, NoMemory>
+fn median_step(alloc: Global, packets: &[Packet]) -> Result<u64, NoMemory>
     ensures median { IfOk result (IsMedianStep (steps_of packets.now)) }
     ensures positive { IfOk result (λ step. 1 ≤ step) }
 {
@@ -69,6 +78,95 @@ pub(crate) fn median_step(alloc: Global, packets: &[Packet]) -> Result<u64, NoMe
         0
     };
     Ok(step.max(1))
+}
+
+/// Whether a time stamp is one step above another.
+fn is_step(step: u64, before: u64, stamp: u64) -> bool
+    ensures { result ≡ is_step step before stamp }
+{
+    before < stamp && stamp.saturating_sub(before) == step
+}
+
+/// Appends whether the step to a shown packet from the shown packet before it is odd.
+fn add_odd(
+    odd: &mut Vec<bool>,
+    step: u64,
+    before: Option<u64>,
+    packet: &Packet,
+) -> Result<(), NoMemory>
+    ensures { OnOk result (odd.new.items ≡ odd.old.items ++ odd_to step before packet.now) }
+{
+    let Some(before) = before else {
+        return Ok(());
+    };
+    if is_shown(packet.bytes.as_slice()) {
+        odd.push(!is_step(step, before, packet.stamp))?;
+    }
+    Ok(())
+}
+
+/// Which steps between the time stamps of shown packets in sequence are odd.
+fn odd_steps(alloc: Global, step: u64, packets: &[Packet]) -> Result<Vec<bool>, NoMemory>
+    ensures { IfOk result (λ odd. odd.items ≡ odd_steps step packets.now) }
+{
+    let mut odd = Vec::new(alloc);
+    let mut before = None;
+    for packet in packets {
+        add_odd(&mut odd, step, before, packet)?;
+        before = stamp_after(before, packet);
+    }
+    Ok(odd)
+}
+
+fn are_even(odd: &[bool]) -> bool
+    ensures { result ≡ are_even odd.now }
+{
+    for is_odd in odd {
+        if *is_odd {
+            return false;
+        }
+    }
+    true
+}
+
+fn are_even_after_two(odd: &[bool]) -> bool
+    ensures { result ≡ are_even_after_two odd.now }
+{
+    match odd {
+        [_, _, rest @ ..] => are_even(rest),
+        _ => true,
+    }
+}
+
+/// Whether odd steps are at one place: none comes after the two that follow the first.
+fn is_one_place(odd: &[bool]) -> bool
+    ensures { result ≡ is_one_place odd.now }
+{
+    let mut left = odd;
+    while let [first, rest @ ..] = left {
+        if *first {
+            return are_even_after_two(rest);
+        }
+        left = rest;
+    }
+    true
+}
+
+fn is_constant(odd: &[bool]) -> bool
+    ensures { result ≡ is_constant odd.now }
+{
+    odd.len() >= 16 && is_one_place(odd)
+}
+
+/// How the time stamps of the shown packets of a stream go on.
+pub(crate) fn pace_of(alloc: Global, packets: &[Packet]) -> Result<Pace, NoMemory>
+    ensures pace { IfOk result (IsPace packets.now) }
+    ensures positive { IfOk result (λ pace. 1 ≤ pace.step) }
+{
+    let step = median_step(alloc, packets)?;
+    let odd = odd_steps(alloc, step, packets)?;
+    let is_constant = is_constant(odd.as_slice());
+    Ok(Pace { step, is_constant })
 }
 
 /// Whether a time stamp goes on from that of an earlier packet.
@@ -114,17 +212,41 @@ impl Stamps {
         }
     }
 
-    fn trouble(self, step: u64, place: usize, packet: &Packet) -> Option<Trouble>
-        requires { 1 ≤ step }
-        ensures { result ≡ stamp_trouble step place self packet.now }
+    /// Whether the step to a shown inter packet is odd, but not 0, where the step is constant.
+    fn is_break(self, pace: Pace, packet: &Packet) -> bool
+        ensures { result ≡ is_break pace self packet.now }
+    {
+        pace.is_constant
+            && !has_key_tag(packet.bytes.as_slice())
+            && packet.stamp != self.last
+            && !is_step(pace.step, self.last, packet.stamp)
+    }
+
+    fn shown_trouble(self, pace: Pace, place: usize, packet: &Packet) -> Option<Trouble>
+        requires { 1 ≤ pace.step }
+        ensures { result ≡ shown_trouble pace place self packet.now }
+    {
+        let stamp = packet.stamp;
+        if self.is_break(pace, packet) {
+            Some(Trouble::BreaksStep {
+                stamp,
+                before: self.last,
+                step: pace.step,
+            })
+        } else if self.is_expected(pace.step, place, stamp) {
+            None
+        } else {
+            Some(self.odd(stamp))
+        }
+    }
+
+    fn trouble(self, pace: Pace, place: usize, packet: &Packet) -> Option<Trouble>
+        requires { 1 ≤ pace.step }
+        ensures { result ≡ stamp_trouble pace place self packet.now }
     {
         let stamp = packet.stamp;
         if is_shown(packet.bytes.as_slice()) {
-            if self.is_expected(step, place, stamp) {
-                None
-            } else {
-                Some(self.odd(stamp))
-            }
+            self.shown_trouble(pace, place, packet)
         } else if stamp < self.last {
             Some(Trouble::StampGoesBack {
                 stamp,
@@ -138,17 +260,17 @@ impl Stamps {
 
 /// What is wrong with the time stamp of the packet with this index, after these.
 pub(crate) fn stamp_trouble(
-    step: u64,
+    pace: Pace,
     place: usize,
     stamps: Option<Stamps>,
     packet: &Packet,
 ) -> Option<Trouble>
-    requires { 1 ≤ step }
-    ensures { result ≡ stamp_trouble_in step place stamps packet.now }
+    requires { 1 ≤ pace.step }
+    ensures { result ≡ stamp_trouble_in pace place stamps packet.now }
 {
     match stamps {
         None => None,
-        Some(stamps) => stamps.trouble(step, place, packet),
+        Some(stamps) => stamps.trouble(pace, place, packet),
     }
 }
 

@@ -143,8 +143,9 @@ standard error, and the exit status is 1 then.
 For a time stamp that
 goes back ffmpeg prints the greatest one so far, and vp8list the stamp itself.
 
-With --check every packet is decoded, and there is a line for each finding instead. Damage
-means that samples are lost, or are not those that were coded:
+With --check the headers, modes and tokens of every packet are read, and there is a line for
+each finding instead; no samples are made. Damage means that samples are lost, or are not
+those that were coded:
 
   damage: packet 60: refused ShortPacket, packets lost with it: 12
               why a packet is not decoded, and how many packets before the next
@@ -152,10 +153,15 @@ means that samples are lost, or are not those that were coded:
   damage: packet 12: first partition: 2 bytes read past its end
   damage: packet 12: token partition 0: 5 bytes read past its end
               decoding reads zeros after the end of a partition, as it does if
-              the packet was cut or changed; libvpx calls the frame corrupt
+              the packet was cut or changed; libvpx calls a token partition
+              corrupt then, and reads on after the end of a first partition
   damage: packet 12: token partition 0: 40 of 900 bytes are not read
               decoding ends too early, as it does if the packet was changed; up
               to 3 bytes are left in sound streams
+  damage: packet 31: time stamp 32 follows 30, all other steps are 1
+              an inter packet; packets before it are lost or in another order
+  damage: packet 31: the next packet has the same bytes and time stamp
+              an inter packet, where all other steps are the same; else a note
   damage: record 100 at byte 51234: claims 12 + 900 bytes, 324 are there
               the file ends within a record; 12 bytes are the record's head
 
@@ -167,6 +173,8 @@ Anything else is a note:
               the header of the file is not that of its packets
   note: packet 12: token partition 0: no bytes, which libvpx calls corrupt
   note: packet 12: no bytes, at which vpxdec ends
+  note: packet 12: copy_buffer_to_golden 3, at which vpxdec ends
+              a number that names no reference: nothing is copied
   note: packet 31: time stamp 30 repeats
   note: packet 31: time stamp 28 goes back from 30
               against the shown packet before it
@@ -271,11 +279,11 @@ fn shows_its_version(rt: HostRuntime) {
         &rt,
         "vp8serve --version",
         "frame 0\n",
-        "vp8serve 0.9.0\n",
+        "vp8serve 0.10.0\n",
         "",
         0,
     );
-    expect(&rt, "vp8serve -V", "frame 0\n", "vp8serve 0.9.0\n", "", 0);
+    expect(&rt, "vp8serve -V", "frame 0\n", "vp8serve 0.10.0\n", "", 0);
 }
 
 #[test]
@@ -286,6 +294,6 @@ fn shows_help_of_the_list(rt: HostRuntime) {
 
 #[test]
 fn shows_the_version_of_the_list(rt: HostRuntime) {
-    expect_list(&rt, &["vp8list", "--version"], "vp8list 0.9.0\n");
-    expect_list(&rt, &["vp8list", "-V"], "vp8list 0.9.0\n");
+    expect_list(&rt, &["vp8list", "--version"], "vp8list 0.10.0\n");
+    expect_list(&rt, &["vp8list", "-V"], "vp8list 0.10.0\n");
 }

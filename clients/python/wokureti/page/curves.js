@@ -6,7 +6,7 @@ const find = (id) => document.getElementById(id);
 // Packets that a curve is drawn for, at most, and milliseconds for which nothing changes before they are asked for.
 const MOST_PACKETS = 4000;
 const QUIET = 250;
-// The greatest value of each number.
+// The greatest value of each number; that of others is the greatest one that is seen.
 const MOST = { quantizer: 127, level: 63 };
 
 /** The points of a curve: a packet without a value has none, and ends a line. */
@@ -62,7 +62,9 @@ export class Curves {
     const { kind } = this;
     const answer = await server.members(`packets?from=${first}&count=${end - first}&source=${this.model.source}`);
     if (key !== this.key) return;
-    this.timeline.curve = { lines: linesOf(answer.packets.map((facts) => facts[kind]), first, MOST[kind]), most: MOST[kind] };
+    const values = answer.packets.map((facts) => (kind === "bytes" ? 8 * facts.bytes : facts[kind]));
+    const most = MOST[kind] || values.reduce((one, other) => Math.max(one, other), 1);
+    this.timeline.curve = { lines: linesOf(values, first, most), most };
     this.timeline.redraw();
   }
 }

@@ -123,7 +123,7 @@ export class Cutting {
       { name: "what", label: "What", value: choices[0][1], choices },
       { name: "seconds", label: `Seconds, before frame ${frame}`, value: 1 },
     ];
-    const found = await ask("Frames by the script", "Do it", fields, `Frame ${frame} is at ${timeText(frame, rate)}. No packet is changed. A fade takes the selection.`);
+    const found = await ask("Frames by the script", "Do it", fields, `Frame ${frame} is at ${timeText(frame, rate, model.times)}. No packet is changed. A fade takes the selection.`);
     if (!found) return;
     if (found.what === "in" || found.what === "out") {
       const range = await this.range();

@@ -67,6 +67,11 @@ export async function save(source) {
   return (await (await post("edits", { line: "save", source }, "the packets to be saved")).json()).reply;
 }
 
+/** Opens a stream of the folder as the last source, and returns its number. */
+export async function addSource(file) {
+  return (await (await post("sources", { file }, "the stream to be opened")).json()).source;
+}
+
 /** Inserts remembered packets as one step. */
 export async function paste(members) {
   return (await post("paste", members, "edit")).json();

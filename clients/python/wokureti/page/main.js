@@ -1,6 +1,8 @@
 // Starts the page.
 
 import { Curves } from "./curves.js";
+import { Adding } from "./adding.js";
+import { Cropping } from "./cropping.js";
 import { Cutting } from "./cutting.js";
 import { Editing, savedText } from "./editing.js";
 import { EditList } from "./edit_list.js";
@@ -42,6 +44,8 @@ timeline.ondraw = () => {
   curves.soon();
 };
 const cutting = new Cutting(model, editing, status);
+new Adding(model, status);
+new Cropping(model, cutting, viewer.picture, status);
 editing.viewer = viewer;
 
 // Panels
@@ -98,7 +102,7 @@ function writeFrame() {
   if (document.activeElement !== find("frame")) find("frame").value = model.aside ? "" : model.frame;
   if (!model.session) find("time").textContent = "";
   else if (model.aside) find("time").textContent = `packet ${model.aside.packet}, which no frame shows`;
-  else find("time").textContent = `of ${model.frames.toLocaleString("en")} · ${timeText(model.frame, model.rate)}`;
+  else find("time").textContent = `of ${model.frames.toLocaleString("en")} · ${timeText(model.frame, model.rate, model.times)}`;
 }
 
 function writeSelection() {
@@ -108,7 +112,7 @@ function writeSelection() {
 }
 
 function writeHead() {
-  const { names, rate, script, saved, sources, saves } = model.session;
+  const { names, rate, script, saved, sources, saves, exports, changing } = model.session;
   find("name").textContent = names[0];
   document.title = `${saved ? "" : "• "}${names[0]} – Wokureti`;
   const facts = [`${model.session.packets.toLocaleString("en")} packets`, `${model.frames.toLocaleString("en")} frames`, `${(rate[0] / rate[1]).toFixed(3).replace(/\.?0+$/, "")} frames a second`];
@@ -117,6 +121,9 @@ function writeHead() {
   find("saved").textContent = savedText(model.session);
   find("saved").title = find("saved").textContent;
   find("save").title = `Save the edited packets to ${saves[0].next} (Ctrl+S)`;
+  find("export").hidden = !exports || script === "-";
+  find("export").classList.toggle("off", changing !== null);
+  find("export").title = changing ? `Node ${changing[0]}, ${changing[1]}, changes the picture, and so cannot be exported without coding again` : "The frames that are shown as a file, without coding again";
   const label = find("source-label");
   label.hidden = sources.length < 2;
   find("replace-source").hidden = sources.length < 2;
@@ -135,7 +142,7 @@ model.addEventListener("selection", writeSelection);
 find("source").addEventListener("change", () => model.useSource(Number(find("source").value)).catch(() => {}));
 model.addEventListener("session", () => (find("source").value = model.source));
 find("frame").addEventListener("change", () => {
-  const frame = frameOf(find("frame").value, model.frame, model.rate);
+  const frame = frameOf(find("frame").value, model.frame, model.rate, model.times);
   if (frame === null) status.say("a frame is a number, as 120; a step, as -5; or a time, as 1:02.5 or 12.5");
   else model.go(frame).catch(() => {});
 });

@@ -19,6 +19,9 @@ export class Model extends EventTarget {
     this.isPlaying = false;
     this.selection = null;
     this.blocks = new Map();
+    // The milliseconds of each frame, if the rate varies, and the revision that they are of.
+    this.times = null;
+    this.timed = null;
     this.loading = null;
   }
 
@@ -43,11 +46,27 @@ export class Model extends EventTarget {
       const old = this.session;
       this.session = session;
       if (!old || old.revision !== session.revision || old.instance !== session.instance) this.blocks.clear();
+      this.time().catch(() => {});
       if (this.selection && this.selection.end > this.packets) this.selection = null;
       this.send("session");
       if (old && old.revision !== session.revision && !this.isPlaying) this.stay(old.script !== session.script);
     } while (this.again);
     return this.session;
+  }
+
+  /** Reads the times of the frames, if the rate varies. */
+  async time() {
+    const { revision, instance, varies } = this.session;
+    const key = varies ? `${instance} ${revision}` : null;
+    if (key === this.timed) return;
+    this.timed = key;
+    if (!varies) this.times = null;
+    else {
+      const { times } = await server.members("times");
+      if (this.timed !== key) return;
+      this.times = times;
+    }
+    this.send("frame");
   }
 
   get revision() {

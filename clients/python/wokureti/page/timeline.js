@@ -208,7 +208,7 @@ export class Timeline {
     if (!found) return;
     const { per, first, kind, bytes, frame } = found;
     const end = Math.min(first + per, this.window.count) - 1;
-    tip.textContent = per === 1 ? `packet ${first} · frame ${frame} · ${timeText(frame, this.model.rate)} · ${NAMES[kind]} · ${bytesText(bytes)}` : `packets ${first} to ${end} · ${NAMES[kind]} · up to ${bytesText(bytes)}`;
+    tip.textContent = per === 1 ? `packet ${first} · frame ${frame} · ${timeText(frame, this.model.rate, this.model.times)} · ${NAMES[kind]} · ${bytesText(bytes)}` : `packets ${first} to ${end} · ${NAMES[kind]} · up to ${bytesText(bytes)}`;
     const pixel = this.pixel(event);
     tip.style.left = pixel > this.window.width / 2 ? "" : `${pixel + 12}px`;
     tip.style.right = pixel > this.window.width / 2 ? `${this.window.width - pixel + 12}px` : "";

@@ -3,4 +3,4 @@ use Rattle.std.proofs.lemmas.Result.{on_ok_weaker}
 use Rattle.macroblock_lists.proofs.fields.write_key_fields.Goals as goal
 
 pub returns : goal.returns
-returns g c = on_ok_weaker c.write_flag_field-2.result (λ p. Appends-trans _ _ _ _ _ (Appends-trans _ _ _ _ _ (Appends-trans _ _ _ _ _ (rw c.from.ensures at c.in_ok-write_number_field.ensures) (rw c.from-2.ensures at c.in_ok-write_number_field-2.ensures)) c.in_ok-write_flag_field.ensures) p) (c.write_flag_field-2.ensures)
+returns g c = on_ok_weaker c.write_flag_field-2.result (λ p. Appends-trans _ _ _ _ _ (Appends-trans _ _ _ _ _ c.in_ok-write_size_fields.ensures c.in_ok-write_flag_field.ensures) p) (c.write_flag_field-2.ensures)

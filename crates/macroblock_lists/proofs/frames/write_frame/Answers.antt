@@ -8,8 +8,8 @@ use Rattle.macroblock_lists.proofs.MarkedPartitions.{marked_readers}
 use Rattle.macroblock_lists.specs.Frames.{texts_of}
 use Rattle.macroblock_lists.proofs.frames.write_frame.Goals as goal
 
-pub returns : goal.returns
-returns g c =
+pub returns-clause-written : goal.returns-clause-written
+returns-clause-written g c =
     let places : List Place = c.as_slice-partitions.result.now in
     let own : List Place = c.args.frame.now.header.now.partitions.items in
     let columns = c.args.frame.now.columns in

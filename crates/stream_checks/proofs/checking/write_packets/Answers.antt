@@ -1,4 +1,4 @@
-use Rattle.std.proofs.Common.{rules, ◌≡◌, ◌+◌, ℕ, List, [], ◌∷◌, ◌++◌, length, ap, sym, subst, ◌∙◌, arith, append_assoc, ◌≤◌}
+use Rattle.std.proofs.Common.{rules, ◌≡◌, ◌+◌, List, [], ◌∷◌, ◌++◌, length, ap, sym, subst, ◌∙◌, arith, append_assoc, ◌≤◌}
 use Rattle.std.proofs.KnownBytes.{Appends-nil, Appends-trans}
 use Rattle.std.proofs.lemmas.Grind.{flat_map-append}
 use Rattle.std.specs.Io.KnownBytes.{Appends}
@@ -7,6 +7,7 @@ use Rattle.stream_checks.specs.declared.checker.Checker.{Checker}
 use Rattle.stream_checks.specs.declared.finding.Finding.{Finding}
 use Rattle.stream_checks.specs.declared.finding.Tally.{Tally}
 use Rattle.stream_checks.specs.declared.packets.Position.{Position}
+use Rattle.stream_checks.specs.declared.stamps.Pace.{Pace}
 use Rattle.macroblock_lists.specs.declared.layouts.Form.{Form}
 use Rattle.stream_checks.specs.Checks.{findings_after, findings_next}
 use Rattle.stream_checks.specs.Severity.{plus, tally_of}
@@ -47,7 +48,7 @@ loop-packet-preserved g c =
     record {
       done = met.done ++ found;
       whole = append_assoc met.done found (findings_after tables after following)
-          ∙ ap (λ (more : List Finding). met.done ++ more) (sym (one_more tables before after packet following made.step made.position made.reader))
+          ∙ ap (λ (more : List Finding). met.done ++ more) (sym (one_more tables before after packet following made.pace made.position made.reader))
           ∙ ap (λ (packets : List Packet). met.done ++ findings_after tables before packets) (sym at)
           ∙ met.whole;
       said = rw (flat_map-append (text_of c.args.checker.form) met.done found) (Appends-trans _ _ _ _ _ met.said added);
@@ -56,6 +57,6 @@ loop-packet-preserved g c =
       packets = omega (arith, met.packets, shorter, next);
       frames = made.frames;
       form = made.form ∙ met.form;
-      step = subst (λ (s : ℕ). 1 ≤ s) (sym made.step) met.step;
+      step = subst (λ (p : Pace). 1 ≤ p.step) (sym made.pace) met.step;
       answers = made.answers;
     }

@@ -12,11 +12,11 @@ invariant-loop-packet g l = record {
   whole : done ++ findings_after l.tables l.checker l.rest ≡ findings_after l.tables l.initial.checker l.packets;
   said : Appends (g.W.Write.contents l.fn.w) (g.W.Write.contents l.w) (texts_of l.initial.checker.form done);
   counted : l.tally ≡ tally_of done;
-  few : l.tally.damage + l.tally.notes + 14 * length l.rest ≤ 14680064;
+  few : l.tally.damage + l.tally.notes + 17 * length l.rest ≤ 17825792;
   packets : l.checker.position.packets + length l.rest ≤ 1048576;
   frames : l.checker.position.frames ≤ l.checker.position.packets;
   form : l.checker.form ≡ l.initial.checker.form;
-  step : 1 ≤ l.checker.step;
+  step : 1 ≤ l.checker.pace.step;
   answers : TellsUnshown l.checker.unshown l.rest;
 }
 

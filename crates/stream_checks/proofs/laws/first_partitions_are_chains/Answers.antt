@@ -6,6 +6,7 @@ use Rattle.stream_checks.specs.FirstChains.{AreBytes, context_in}
 use Rattle.stream_checks.proofs.ContextBytes.{first_bytes}
 use Rattle.stream_checks.proofs.FirstChains.{first_is_chain}
 use Rattle.stream_checks.proofs.FirstRead.{AreChains, first_is_read_so, first_end_is_of_chain}
+use Rattle.stream_checks.proofs.ModeBits.{mode_bits_are_of_chains, records_are_chains}
 use Rattle.stream_checks.proofs.laws.first_partitions_are_chains.Goals as goal
 
 pub returns : goal.returns
@@ -23,4 +24,6 @@ returns c =
       chain = first_is_chain c.args.tables.now (option_copied c.args.known) chains.first chains.trailing chains.frames chains.key_subs bytes;
       read = first_is_read_so c.args.tables.now (option_copied c.args.known) chains bytes;
       end = first_end_is_of_chain c.args.tables.now (option_copied c.args.known) chains bytes;
+      records = records_are_chains c.args.tables.now (option_copied c.args.known) chains bytes;
+      bits = mode_bits_are_of_chains c.args.tables.now (option_copied c.args.known) chains bytes;
     }

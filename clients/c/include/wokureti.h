@@ -1,0 +1,110 @@
+/* libwokureti: an edited VP8 stream in the program that opens it.
+ *
+ * A session is held by a handle. Frames of its current script come as three planes, requests as the lines that `vp8serve --live`
+ * takes (docs/requests.md), and the current packets as an IVF file:
+ *
+ *     wk_handle clip = {0};
+ *     wk_fault fault = {0};
+ *     size_t end = size;
+ *     if (wk_open(&clip, file, size, &end, 1, 64, NULL, 0, &fault)) return 1;
+ *     wk_shown shown = {.luma_stride = 640, .chroma_stride = 320};
+ *     static uint8_t y[640 * 360], cb[320 * 180], cr[320 * 180];
+ *     uint32_t status = wk_frame(&clip, 12, y, sizeof y, cb, sizeof cb, cr, sizeof cr, &shown);
+ *     size_t length;
+ *     char reply[4096];
+ *     if (!wk_request(&clip, (const uint8_t *)"delete 3", 8, &length) && length <= sizeof reply)
+ *         wk_text(&clip, (uint8_t *)reply, sizeof reply, &length);     // "ok 299\n"
+ *     wk_close(&clip);
+ *
+ * The caller's part, which nothing checks:
+ * - A handle begins as {0}. It is not copied, written or moved while it holds a session, and each call on it, wk_close too, is
+ *   made on the thread that opened it. Two handles have nothing in common: two threads may have one each.
+ * - A pointer and its size describe memory of the caller's that is there and that nobody else writes during the call. Two parts
+ *   that a call writes do not overlap. A size of 0 may have the pointer NULL, and no other size may.
+ * - No call is made from a signal handler, nor in the child of a fork of a program with several threads.
+ * - malloc, realloc and free are the C library's or behave as those do. 64 KB of stack are left.
+ *
+ * Nothing is kept of the caller's memory after a call. Out of memory is a number, and never ends the program.
+ */
+#ifndef WOKURETI_H
+#define WOKURETI_H
+
+#include <stdbool.h>
+#include <stddef.h>
+#include <stdint.h>
+
+#ifdef __cplusplus
+extern "C" {
+#endif
+
+/* A handle: {0} holds nothing. */
+typedef struct {
+    void *at;
+} wk_handle;
+
+/* A frame: the strides of the caller's rooms in bytes, before the call, and after it the size of the frame in luma samples. A chroma
+ * plane has half of each side, rounded up. Where the status is WK_PACKET, the source and packet that decoding refuses. */
+typedef struct {
+    size_t luma_stride, chroma_stride;
+    uint32_t width, height;
+    uint64_t source, packet;
+} wk_shown;
+
+/* The file that wk_open refuses, counted from 0, and why: a number of WK_FILE_. */
+typedef struct {
+    uint64_t source;
+    uint32_t cause;
+} wk_fault;
+
+enum {
+    WK_OK = 0,
+    WK_ARGUMENT = 1, /* a number is outside its range */
+    WK_FILE = 2,     /* the bytes of a source are not an IVF file of VP8: see wk_fault */
+    WK_MEMORY = 3,   /* out of memory; nothing changed */
+    WK_CLOSED = 4,   /* the handle holds nothing */
+    WK_ROOM = 5,     /* too little room; the size of what was asked for is told */
+    WK_TABLES = 6,   /* the tables do not have 3,012 bytes */
+    WK_LOST = 7,     /* out of memory for a reply; the line may have been answered */
+    /* refusals, as the words of replies */
+    WK_LINE = 16, WK_SOURCE, WK_PLACE, WK_FULL, WK_SPENT, WK_SIZE, WK_TOO_LARGE, WK_NO_SUCH_FRAME, WK_PACKET, WK_CROP_OUTSIDE,
+    WK_SIZE_DIFFERS, WK_SYNTAX, WK_NODES, WK_REFERENCE, WK_NUMBER, WK_NO_MEMORY, WK_NO_BIT
+};
+
+enum { WK_FILE_HEADER = 1, WK_FILE_MAGIC, WK_FILE_FOURCC, WK_FILE_HEADER_LENGTH, WK_FILE_TOO_MANY, WK_FILE_NO_MEMORY };
+
+/* The version of the library: 1000 is 0.10.0, and 10203 is 1.2.3. */
+uint32_t wk_version(void);
+
+/* Opens a session over `sources` IVF files, 1 to 8, which lie one after the other in `files`, each up to its end in `ends`. At most
+ * `states` decoded states are cached, 1 to 4,096. `tables` of size 0 are those of RFC 6386. What the handle held is ended first. */
+uint32_t wk_open(wk_handle *handle, const uint8_t *files, size_t size, const size_t *ends, size_t sources, uint16_t states,
+                 const uint8_t *tables, size_t table_size, wk_fault *fault);
+
+/* Ends the session of a handle, if it holds one. */
+void wk_close(wk_handle *handle);
+
+/* Frame n of the current script, counted from 0, into three rooms. With WK_ROOM nothing is written to them, and `shown` has the size.
+ * Like the request `frame`, the first frame that is served fixes the size of the stream. */
+uint32_t wk_frame(wk_handle *handle, uint64_t n, uint8_t *y, size_t y_size, uint8_t *cb, size_t cb_size, uint8_t *cr, size_t cr_size,
+                  wk_shown *shown);
+
+/* Answers a request line, without its newline, and without a carriage return before that. The reply is the text of the handle
+ * afterwards, and `length` its length: nothing for an empty line or a comment. The bytes of a frame go nowhere. */
+uint32_t wk_request(wk_handle *handle, const uint8_t *line, size_t size, size_t *length);
+
+/* Writes why the last line was refused, as `vp8serve --explain` does, which is the text of the handle afterwards. Its length is 0 if the line was
+ * answered otherwise. */
+uint32_t wk_why(wk_handle *handle, size_t *length);
+
+/* Makes the IVF file of the current packets of source 0, which is the text of the handle afterwards. With `pads` a byte 00 is
+ * added to each packet whose last token partition is empty (players that use libvpx show it then). */
+uint32_t wk_save(wk_handle *handle, bool pads, size_t *length);
+
+/* Copies the text of the handle to the front of a room. With WK_ROOM nothing is written, and `length` is the length of the text. */
+uint32_t wk_text(wk_handle *handle, uint8_t *room, size_t size, size_t *length);
+
+#ifdef __cplusplus
+}
+#endif
+
+#endif

@@ -1,0 +1,273 @@
+"""wokureti cut, join and export."""
+
+import os
+import pathlib
+import unittest
+from unittest import mock
+
+import test_containers
+import test_page
+from support import SMALL, Case, command, packets_of, serve, write_packets
+from test_containers import clip, frames, media, needs_ffmpeg, setUpModule, sound_packets  # noqa: F401
+from wokureti import convert, exports, ivf, opus, programs
+
+MS = 10**6
+REAL = programs.find("vp8serve")
+HERE = pathlib.Path(__file__).resolve().parent
+# The program that is tested, or one that stands for it where it has no --export yet.
+PROGRAM = REAL if exports.has_option(REAL, "--export") else str(HERE / "exporting.py")
+ENV = {"VP8SERVE": PROGRAM, "REAL_VP8SERVE": os.path.abspath(REAL)}
+
+
+def wokureti(*words):
+    """The command, with a program that exports."""
+    with mock.patch.dict(os.environ, ENV):
+        return command(*words)
+
+
+class Places(Case):
+    def frames(self, stream=None):
+        return exports.Frames(self.session(stream or write_packets(self.folder() / "in.ivf", packets_of(SMALL), 25)).edits.contents())
+
+    def test_frames_and_times(self):
+        # 12 frames of 40 ms.
+        found, cases = self.frames(), {"0": (0, 0), "5": (5, 5), "99": (12, 12), "0.0": (0, 0), "0:00.2": (5, 5), "0.21": (5, 6), "0:0:0.239": (5, 6), "00:00:00.240": (6, 6), "0.47": (11, 12), "1:0.0": (12, 12)}
+        self.assertEqual({text: (found.place(text, False), found.place(text, True)) for text in cases}, cases)
+        for text in ("-1", "x", "1:2:3:4", "1:x", "", "3s"):
+            with self.assertRaisesRegex(exports.Failed, "is no frame and no time"):
+                found.place(text, False)
+
+    def test_times_of_a_rate_that_varies(self):
+        packets = [(stamp, data) for stamp, data in zip((0, 40, 200, 240), packets_of(SMALL))]
+        path = self.folder() / "in.ivf"
+        path.write_bytes(b"".join(ivf.pieces(ivf.Head(7, 5, 1000, 1), 4, packets)))
+        found = self.frames(path)
+        self.assertEqual([found.place(text, False) for text in ("0.039", "0.04", "0.199", "0.2", "0.24", "0.279", "0.28")], [0, 1, 1, 2, 3, 3, 4])
+        self.assertEqual([found.place(text, True) for text in ("0.039", "0.04", "0.199", "0.2", "0.24", "0.28")], [1, 1, 2, 2, 3, 4])
+
+    def test_scripts(self):
+        found = self.frames()
+        self.assertEqual(exports.cut_script(found, [("3", "8")]), "trim 0 3 5")
+        self.assertEqual(exports.cut_script(found, [(None, "0.08"), ("5", None), ("0", "1")]), "trim 0 0 2; trim 0 5 7; trim 0 0 1; splice 1 2; splice 4 3")
+        self.assertEqual(len(exports.cut_script(found, [("1", "2")] * 8).split(";")), 15)
+        for parts, why in (([("3", "3")], "there is no frame from 3 to 3"), ([("20", None)], "from 20 to the end: the stream has 12 frames"), ([("1", "2")] * 9, "1 to 8 parts"), ([], "1 to 8 parts")):
+            with self.assertRaisesRegex(exports.Failed, why):
+                exports.cut_script(found, parts)
+        self.assertEqual([exports.join_script(count) for count in (1, 2, 3)], ["-", "source 1; splice 0 1", "source 1; source 2; splice 0 1; splice 3 2"])
+        with self.assertRaisesRegex(exports.Failed, "at most 8 streams"):
+            exports.join_script(9)
+
+    def test_what_is_said(self):
+        told = exports.Told(14_400 * MS, 361, 400, 39, 5000, 50000)
+        self.assertEqual(told.text(), "0:00:14.400, 361 frames, in 400 packets, 39 of them hidden: 5,000 bytes, 10.0 % of the file")
+        self.assertEqual(exports.Told(0, 0, 0, 0, 0, 0).text(), "0:00:00.000, 0 frames, in 0 packets, none of them hidden")
+        self.assertEqual(exports.clock_text(3_723_045_600_000), "1:02:03.046")
+
+    def test_a_program_without_export(self):
+        room = self.folder()
+        old = room / "vp8serve"
+        old.write_text("#!/bin/sh\necho '      --save <FILE>'\n")
+        old.chmod(0o755)
+        with mock.patch.dict(os.environ, {"VP8SERVE": str(old)}):
+            status, out, errors = command("cut", SMALL, room / "out.ivf", "--from", "3")
+        self.assertEqual((status, out, os.listdir(room)), (2, b"", ["vp8serve"]))
+        self.assertIn("has no option --export. Install a newer vp8serve", errors)
+
+
+@unittest.skipUnless(exports.has_option(REAL, "--restamp"), "vp8serve has no --restamp")
+class Stamps(Case):
+    def test_the_program_has_the_same_new_stamps(self):
+        room = self.folder()
+        stream = write_packets(room / "in.ivf", packets_of(SMALL), 25)
+        for lines in ((), ("delete 3", "delete 3"), ("move 9 2", "hold 6", "copy 1 4 4"), ("copy 1 7 0", "replace 4 -", "insert 3 99 -")):
+            with self.session(stream, sources=[stream]) as session:
+                for line in lines:
+                    session.request(line)
+                session.save(room / "client.ivf", restamp=True)
+            serve(stream, lines, "--sources", stream, "--save", room / "program.ivf", "--restamp")
+            self.assertEqual(ivf.read_packets(room / "client.ivf")[1], ivf.read_packets(room / "program.ivf")[1], lines)
+
+
+class Ivf(Case):
+    LIMIT = 60
+
+    def served(self, path):
+        with self.session(path) as session:
+            return [bytes(frame.i420()) for frame in session.frames()]
+
+    def test_a_cut(self):
+        room, whole = self.folder(), self.served(SMALL)
+        status, out, errors = wokureti("cut", SMALL, room / "out.ivf", "--from", "3", "--to", "8")
+        self.assertEqual((status, errors), (0, ""))
+        self.assertEqual(out.decode(), f"0:00:00.167, 5 frames, in 8 packets, 3 of them hidden: {sum(map(len, packets_of(SMALL)[:3])):,} bytes, {100 * sum(map(len, packets_of(SMALL)[:3])) / sum(map(len, packets_of(SMALL)[:8])):.1f} % of the file\n")
+        self.assertEqual(self.served(room / "out.ivf"), whole[3:8])
+
+    def test_several_parts_and_a_join(self):
+        room, whole = self.folder(), self.served(SMALL)
+        self.assertEqual(wokureti("cut", SMALL, room / "one.ivf", "--from", "9", "--to", "11", "--from", "2", "--to", "4")[0], 0)
+        self.assertEqual(self.served(room / "one.ivf"), whole[9:11] + whole[2:4])
+        self.assertEqual(wokureti("join", room / "one.ivf", SMALL, room / "one.ivf", room / "two.ivf")[0], 0)
+        self.assertEqual(self.served(room / "two.ivf"), [*whole[9:11], *whole[2:4], *whole, *whole[9:11], *whole[2:4]])
+
+    def test_a_script_and_edits(self):
+        room, whole = self.folder(), self.served(SMALL)
+        (room / "edits").write_text("delete 11\n")
+        self.assertEqual(wokureti("export", SMALL, room / "out.ivf", "--edits", room / "edits", "--script", "trim 0 4 100")[0], 0)
+        self.assertEqual(self.served(room / "out.ivf"), whole[4:11])
+
+    def test_what_cannot_be_exported(self):
+        room = self.folder()
+        (room / "out.ivf").write_text("before")
+        status, out, errors = wokureti("export", SMALL, room / "out.ivf", "--script", "fade 0 0 5 0 256")
+        self.assertEqual((status, out, (room / "out.ivf").read_text()), (2, b"", "before"))
+        self.assertRegex(errors, "frame 0.*node 1|node 1.*frame 0")
+        for words, why in (
+            (("cut", SMALL, room / "out.ivf"), "each part has a --from and a --to"),
+            (("cut", SMALL, room / "out.ivf", "--from", "1", "--from", "2", "--to", "3"), "each part has a --from and a --to"),
+            (("cut", SMALL, SMALL, "--from", "1"), "the output is"),
+            (("cut", SMALL, room / "out.ivf", "--from", "soon"), "'soon' is no frame and no time"),
+            (("export", SMALL, room / "out.ivf", "--script", "trim 9 0 1"), "refused Reference"),
+            (("join", SMALL, room / "none.ivf", room / "out.ivf"), "none.ivf"),
+        ):
+            status, out, errors = wokureti(*words)
+            self.assertEqual((status, out, (room / "out.ivf").read_text()), (2, b"", "before"))
+            self.assertIn(why, errors)
+
+
+class OnThePage(test_page.PageCase):
+    """The export of the page, and the file that it offers."""
+
+    LIMIT = 60
+
+    def setUp(self):
+        super().setUp()
+        patch = mock.patch.dict(os.environ, ENV)
+        patch.start()
+        self.addCleanup(patch.stop)
+
+    def test_a_script_is_exported(self):
+        self.serve(SMALL)
+        self.assertEqual((self.members("/session")["exports"], self.members("/session")["changing"]), (True, None))
+        self.step("delete 11", "script trim 0 4 100")
+        status, headers, body = self.ask("/exported")
+        self.assertEqual((status, headers["Content-Disposition"]), (200, 'attachment; filename="small-export.ivf"'))
+        path = self.folder() / "out.ivf"
+        path.write_bytes(body)
+        with self.session(SMALL) as one, self.session(path) as other:
+            self.assertEqual([frame.i420() for frame in other.frames()], [one.frame(number).i420() for number in range(4, 11)])
+
+    def test_what_cannot_be_exported(self):
+        self.serve(SMALL)
+        self.step("script trim 0 0 5; fade 1 0 5 0 256; splice 2 1")
+        self.assertEqual(self.members("/session")["changing"], [2, "fade 1 0 5 0 256"])
+        status, _, body = self.ask("/exported")
+        self.assertEqual(status, 409)
+        self.assertIn(b"frame 0", body)
+        self.assertEqual(list(pathlib.Path(self.live.room.name).glob("tmp*")), [])
+
+    @needs_ffmpeg
+    def test_a_webm_file_stays_one(self):
+        source = clip("talk.webm")
+        room = self.folder()
+        self.serve(convert.as_ivf(source, str(room)), stems=[str(room / "talk")])
+        self.assertEqual(self.members("/session")["rate"], [25, 1])
+        self.assertEqual(self.members("/session")["saves"][0]["next"], str(room / "talk-edited.webm"))
+        self.step("delete 60")
+        status, headers, body = self.ask("/download")
+        self.assertEqual((status, headers["Content-Type"], body[:4]), (200, "video/webm", b"\x1a\x45\xdf\xa3"))
+        self.change("save")
+        self.assertEqual((room / "talk-edited.webm").read_bytes(), body)
+        self.assertEqual([saved["saved"] for saved in self.members("/session")["saves"]], [True])
+        self.assertEqual(len(media(room / "talk-edited.webm", self.folder())[0].sounds), 1)
+
+
+    @needs_ffmpeg
+    def test_frames_have_the_times_of_their_blocks(self):
+        room = self.folder()
+        self.serve(convert.as_ivf(clip("varied.webm"), str(room), is_quiet=True))
+        self.assertTrue(self.members("/session")["varies"])
+        stamps = [stamp for stamp, _ in ivf.read_packets(media(clip("varied.webm"), room)[1])[1]]
+        self.assertEqual(self.members("/times")["times"], [stamp - stamps[0] for stamp in stamps])
+        self.step("script trim 0 0 2")
+        self.assertFalse(self.members("/session")["varies"])
+        self.step("script trim 0 2 30")
+        self.assertEqual(self.members("/times")["times"], [stamp - stamps[2] for stamp in stamps[2:32]])
+
+    def test_frames_of_a_rate_have_no_times(self):
+        self.serve(SMALL)
+        self.assertEqual((self.members("/session")["varies"], self.members("/times")["times"]), (False, None))
+
+
+class Scripts(Case):
+    def test_the_node_that_changes_samples(self):
+        cases = {
+            "-": None,
+            "trim 0 0 5; splice 0 1": None,
+            "trim 0 0 5; fade 1 0 5 0 256": (2, "fade 1 0 5 0 256"),
+            "crop 0 0 0 2 2; trim 0 0 5": None,
+            "crop 0 0 0 2 2; trim 0 0 5; splice 1 2": (1, "crop 0 0 0 2 2"),
+            "source 1; fade 1 0 1 0 0; fade 0 0 1 0 0; splice 3 2": (2, "fade 1 0 1 0 0"),
+        }
+        self.assertEqual({script: exports.changing_node(script) for script in cases}, cases)
+
+
+@needs_ffmpeg
+class WithSound(Case):
+    LIMIT = 90
+
+    def test_a_cut_at_any_frame(self):
+        room, source = self.folder(), clip("talk.webm")
+        status, out, errors = wokureti("cut", source, room / "out.webm", "--from", "0:01.32", "--to", "0:02.9")
+        self.assertEqual(status, 0, errors)
+        whole, found = frames(source), frames(room / "out.webm")
+        self.assertEqual(found, whole[33:73])
+        after, path = media(room / "out.webm", room)
+        before, packets = media(source, room)
+        stamps = [(stamp, ivf.is_shown(data)) for stamp, data in ivf.read_packets(path)[1]]
+        # The hidden packets before the cut have the time of its first frame.
+        self.assertEqual([stamp for stamp, is_shown in stamps if is_shown], [40 * turn for turn in range(40)])
+        self.assertEqual({stamp for stamp, is_shown in stamps[: stamps.index((0, True))]}, {0})
+        self.assertFalse(stamps[0][1])
+        first_frame = [stamp for stamp, data in ivf.read_packets(packets)[1] if ivf.is_shown(data)][33]
+        theirs, ours = sound_packets(after.sounds[0]), sound_packets(before.sounds[0])
+        first = ours.index(theirs[0])
+        self.assertEqual(theirs, ours[first : first + len(theirs)])
+        self.assertLessEqual(abs(before.sounds[0].times[first] / MS + 6.5 - first_frame), 11)
+        self.assertLessEqual(abs(20 * len(theirs) - 1600), 20 + 7)
+
+    def test_parts_that_are_joined_keep_picture_and_sound_together(self):
+        room, source = self.folder(), clip("talk.webm")
+        parts = [(70, 80), (12, 31), (50, 51), (52, 60), (3, 9)]
+        words = [word for start, stop in parts for word in ("--from", start, "--to", stop)]
+        self.assertEqual(wokureti("cut", source, room / "out.webm", *words)[0], 0)
+        whole = frames(source)
+        self.assertEqual(frames(room / "out.webm"), [one for start, stop in parts for one in whole[start:stop]])
+        before, packets = media(source, room)
+        starts = [stamp for stamp, data in ivf.read_packets(packets)[1] if ivf.is_shown(data)]
+        ours, theirs = (sound_packets(track) for track in (before.sounds[0], media(room / "out.webm", room)[0].sounds[0]))
+        clock, time = 0, -6.5
+        for start, stop in parts:
+            end = clock + 40 * (stop - start)
+            while theirs and time + 10 <= end:
+                data = theirs.pop(0)
+                there = before.sounds[0].times[ours.index(data)] / MS
+                self.assertLessEqual(abs(there - (starts[start] + time - clock)), 11.5)
+                time += opus.duration(data) / MS
+            clock = end
+        self.assertEqual(theirs, [])
+
+    def test_two_recordings_are_joined(self):
+        room = self.folder()
+        self.assertEqual(wokureti("join", clip("talk.webm"), clip("late.webm"), room / "out.webm")[0], 0)
+        self.assertEqual(frames(room / "out.webm"), frames(clip("talk.webm")) + frames(clip("late.webm")))
+        found, path = media(room / "out.webm", room)
+        self.assertEqual((found.rate, found.tags.get("title"), len(found.sounds)), ((25, 1), "A talk", 1))
+        status, _, errors = wokureti("join", clip("talk.webm"), clip("vorbis.webm"), room / "out.webm", "--sound", "copy")
+        self.assertEqual(status, 2)
+        self.assertIn("sound track 0 cannot be copied: the recordings have sound of different codecs", errors)
+
+
+del test_containers, test_page
+
+if __name__ == "__main__":
+    unittest.main()

@@ -1,0 +1,177 @@
+"""The engine in this process answers as the program does: the tests of sessions again, and what is its own."""
+
+import gc
+import os
+import pathlib
+import subprocess
+import sys
+import threading
+import unittest
+import unittest.mock
+
+import test_session
+from support import CLIP, DATA, SMALL, TOP, Case
+from wokureti import Ended, Refused, Session, library
+
+
+@unittest.skipIf(library.find() is None, "libwokureti.so.0 is not built: ./build.py --library makes it")
+class Library(Case):
+    def session(self, stream=SMALL, **options):
+        return super().session(stream, engine="library", **options)
+
+
+class Requests(Library, test_session.Requests):
+    test_states_are_counted_in_bytes = None
+
+
+class Matched(Library, test_session.Matched):
+    pass
+
+
+class Alike(Library):
+    def test_frames_and_replies_are_those_of_the_program(self):
+        lines = ["delete 3", "hold 5", "blank 2 176 144", "move 1 4", "copy 0 2 7", "script trim 0 1 20", "replace 9 1100", "script -", "use 1"]
+        ours, its = self.session(), Case.session(self, SMALL)
+        for line in lines:
+            for number in (0, 7, 3):
+                self.assertEqual(*(self.shown(session, number) for session in (ours, its)))
+            self.assertEqual(*(self.replied(session, line) for session in (ours, its)))
+        self.assertEqual(ours.header, its.header)
+        self.assertEqual(ours.frame_size, its.frame_size)
+
+    @staticmethod
+    def shown(session, number):
+        try:
+            return session.frame(number).i420()
+        except Refused as refused:
+            return str(refused)
+
+    @staticmethod
+    def replied(session, line):
+        try:
+            return session.request(line)
+        except Refused as refused:
+            return str(refused)
+
+    def test_a_frame_is_the_callers(self):
+        session = self.session(CLIP)
+        first, again = session.frame(0), session.frame(1)
+        before = first.i420()
+        session.frame(2)
+        self.assertEqual(first.i420(), before)
+        self.assertNotEqual(again.i420(), before)
+
+    def test_the_file_of_the_packets(self):
+        folder = self.folder()
+        with Session(SMALL, engine="library", save=folder / "ours.ivf", pad=True) as session:
+            session.hold(3)
+        with Session(SMALL, save=folder / "its.ivf", pad=True) as session:
+            session.hold(3)
+        self.assertEqual((folder / "ours.ivf").read_bytes(), (folder / "its.ivf").read_bytes())
+
+    def test_reasons_are_those_of_the_program(self):
+        ours, its = self.session(explain=True), Case.session(self, SMALL, explain=True)
+        for line in ("delete 99999", "blank 0 0 16", "script trim 0", "frame 123456", "nonsense 1", "insert 0 0 zz", "use 3"):
+            found = []
+            for session in (ours, its):
+                with self.assertRaises(Refused) as caught:
+                    session.request(line)
+                found.append((str(caught.exception), caught.exception.reason))
+            self.assertEqual(*found)
+            self.assertTrue(found[0][1])
+
+    def test_the_version(self):
+        first, second, third = map(int, (TOP / "VERSION").read_text().split("."))
+        self.assertEqual(library.load().wk_version(), 10000 * first + 100 * second + third)
+
+
+class Broken(Library):
+    def test_a_file_that_is_none(self):
+        path = self.folder() / "none.ivf"
+        path.write_bytes(b"no file of packets, but longer than a header\n")
+        with self.assertRaisesRegex(Ended, "source 1: Magic"):
+            Session(SMALL, sources=[path], engine="library")
+
+    def test_tables_that_are_none(self):
+        path = self.folder() / "tables"
+        path.write_bytes(b"too short")
+        with self.assertRaisesRegex(Ended, "3012"):
+            Session(SMALL, tables=path, engine="library")
+
+    def test_what_it_does_not_take(self):
+        for options in ({"cache_bytes": 1 << 20}, {"engine": "none"}):
+            with self.assertRaises(ValueError):
+                Session(SMALL, **{"engine": "library", **options})
+
+    def test_after_close_and_kill(self):
+        session = self.session()
+        session.close()
+        with self.assertRaises(Ended):
+            session.frame(0)
+        session = self.session()
+        session.kill()
+        with self.assertRaises(Ended):
+            session.count()
+
+    def test_a_library_that_is_none(self):
+        path = self.folder() / "none.so"
+        path.write_bytes(b"none")
+        with unittest.mock.patch.dict(os.environ, LIBWOKURETI=str(path)), self.assertRaises(OSError):
+            Session(SMALL, engine="library")
+
+    def test_a_request_that_takes_too_long(self):
+        session = self.session(CLIP)
+        with self.assertRaises(Ended):
+            session.pictures(range(48), timeout=1e-6)
+        with self.assertRaises(Ended):
+            session.count()
+
+    def test_a_session_that_nobody_has_ends_its_thread(self):
+        before = threading.active_count()
+        for _ in range(20):
+            Session(SMALL, engine="library").frame(0)
+        for _ in range(200):
+            gc.collect()
+            if threading.active_count() <= before:
+                break
+            threading.Event().wait(0.02)
+        self.assertLessEqual(threading.active_count(), before)
+
+    def test_python_ends_with_a_session_open(self):
+        code = f"from wokureti import Session\ns = Session({str(SMALL)!r}, engine='library')\nprint(s.count().frames)"
+        done = subprocess.run([sys.executable, "-c", code], cwd=TOP / "clients/python", capture_output=True, text=True, timeout=60, check=False)
+        self.assertEqual((done.returncode, done.stderr), (0, ""))
+
+    def test_a_forked_child_has_no_session(self):
+        session = self.session()
+        child = os.fork()
+        if child == 0:
+            try:
+                session.count()
+            except Ended:
+                os._exit(7)
+            finally:
+                os._exit(1)
+        self.assertEqual(os.waitstatus_to_exitcode(os.waitpid(child, 0)[1]), 7)
+        self.assertEqual(session.count().frames, session.count().frames)
+
+    def test_many_sessions_on_many_threads(self):
+        paths = sorted(DATA.glob("*.ivf"))[:8]
+        found = {}
+
+        def look(path):
+            with Session(path, engine="library") as session:
+                found[path] = session.frame(session.count().frames - 1).i420()
+
+        threads = [threading.Thread(target=look, args=(path,)) for path in paths]
+        for thread in threads:
+            thread.start()
+        for thread in threads:
+            thread.join()
+        for path in paths:
+            with Session(path) as session:
+                self.assertEqual(found[path], session.frame(session.count().frames - 1).i420(), pathlib.Path(path).name)
+
+
+if __name__ == "__main__":
+    unittest.main()

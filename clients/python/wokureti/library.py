@@ -1,0 +1,270 @@
+"""The engine in this process, by the library `libwokureti.so`: the same calls as `pipes.Pipes` has over a program.
+
+A session of the library stays on the thread that opened it, so each has a worker, and callers wait for it.
+"""
+
+import ctypes
+import os
+import queue
+import threading
+import time
+import weakref
+
+from . import ivf, programs
+from .files import write_whole
+from .frames import MARK, size_of
+from .pipes import Gone, Late, Strange
+
+NAME = "libwokureti.so.0"
+CACHE = 32
+V3 = {"avx2", "bmi1", "bmi2", "f16c", "fma", "abm", "movbe"}
+OK, FILE, ROOM, LOST = 0, 2, 5, 7
+FAULTS = {
+    1: "a number is outside its range: 1 to 8 files and 1 to 4096 states",
+    3: "out of memory",
+    6: "the tables do not have 3012 bytes",
+}
+CAUSES = ("", "Header", "Magic", "FourCc", "HeaderLength", "TooMany", "NoMemory")
+
+
+class Shown(ctypes.Structure):
+    """`wk_shown` of the header."""
+
+    _fields_ = [
+        ("luma_stride", ctypes.c_size_t),
+        ("chroma_stride", ctypes.c_size_t),
+        ("width", ctypes.c_uint32),
+        ("height", ctypes.c_uint32),
+        ("source", ctypes.c_uint64),
+        ("packet", ctypes.c_uint64),
+    ]
+
+
+class Fault(ctypes.Structure):
+    """`wk_fault` of the header."""
+
+    _fields_ = [("source", ctypes.c_uint64), ("cause", ctypes.c_uint32)]
+
+
+def processors():
+    """The processors whose programs run here, the best one first."""
+    try:
+        with open("/proc/cpuinfo", encoding="ascii", errors="replace") as file:
+            flags = set(file.read(1 << 14).split())
+    except OSError:
+        flags = set()
+    return (["x86-64-v3"] if V3 <= flags else []) + ["x86-64-v2"]
+
+
+def find():
+    """The path of the library: that of the variable LIBWOKURETI, or installed with this package, or built in this tree; None if it is nowhere."""
+    named = os.environ.get("LIBWOKURETI")
+    if named:
+        return named
+    places = [folder / "lib/wokureti" / cpu / NAME for folder in programs.HERE.parents for cpu in processors()] + [programs.TREE / "bin" / NAME]
+    return next((str(path) for path in places if path.is_file()), None)
+
+
+def load(path=None):
+    """The library. `OSError` if it is nowhere, or is not one."""
+    path = path or find()
+    if path is None:
+        raise OSError(f"{NAME} is not there: ./build.py --library makes it, or name it in the variable LIBWOKURETI")
+    found, size, data, pointer = ctypes.CDLL(path), ctypes.c_size_t, ctypes.c_char_p, ctypes.c_void_p
+    calls = {
+        "wk_version": [],
+        "wk_open": [pointer, data, size, pointer, size, ctypes.c_uint16, data, size, pointer],
+        "wk_close": [pointer],
+        "wk_frame": [pointer, ctypes.c_uint64, pointer, size, pointer, size, pointer, size, pointer],
+        "wk_request": [pointer, data, size, pointer],
+        "wk_why": [pointer, pointer],
+        "wk_save": [pointer, ctypes.c_bool, pointer],
+        "wk_text": [pointer, pointer, size, pointer],
+    }
+    for name, types in calls.items():
+        call = getattr(found, name)
+        call.argtypes, call.restype = types, None if name == "wk_close" else ctypes.c_uint32
+    return found
+
+
+class Engine:
+    """A session of the library. All its calls are made on one thread."""
+
+    def __init__(self, library, files, states, tables, explains):
+        self.library, self.explains, self.reasons = library, explains, []
+        self.handle = (ctypes.c_void_p * 1)()
+        self.shown, self.length = Shown(), ctypes.c_size_t()
+        self.size = (0, 0)
+        ends, total = (ctypes.c_size_t * len(files))(), 0
+        for place, file in enumerate(files):
+            total += len(file)
+            ends[place] = total
+        fault = Fault()
+        status = library.wk_open(self.handle, b"".join(files), total, ends, len(files), states, tables, len(tables), ctypes.byref(fault))
+        self.trouble = None if status == OK else (status, fault.source, fault.cause)
+
+    def text(self):
+        """The text that the last call left."""
+        room = ctypes.create_string_buffer(max(1, self.length.value))
+        self.library.wk_text(self.handle, room, self.length.value, ctypes.byref(self.length))
+        return room.raw[: self.length.value]
+
+    def answer(self, line):
+        """The reply to a line, and the picture if it is served."""
+        # A carriage return before the newline is no part of a line.
+        line = line.removesuffix(b"\n").removesuffix(b"\r")
+        status = self.library.wk_request(self.handle, line, len(line), ctypes.byref(self.length))
+        if status != OK:
+            raise Strange(f"out of memory for a reply ({status})")
+        reply = self.text().decode(errors="replace").rstrip("\n")
+        if self.explains and reply.startswith("refused "):
+            self.reasons.append(self.reason())
+        return reply, self.picture(int(reply.split()[1])) if reply.startswith("served ") else None
+
+    def picture(self, number):
+        """A frame that was just served, into new memory."""
+        while True:
+            width, height = self.size
+            across, down, samples = (width + 1) // 2, (height + 1) // 2, bytearray(max(1, size_of(width, height)))
+            room = (ctypes.c_ubyte * len(samples)).from_buffer(samples)
+            at, luma, chroma = ctypes.addressof(room), width * height, across * down
+            self.shown.luma_stride, self.shown.chroma_stride = width, across
+            status = self.library.wk_frame(
+                self.handle, number, at, luma, at + luma, chroma, at + luma + chroma, chroma, ctypes.byref(self.shown)
+            )
+            del room
+            if status == OK:
+                return width, height, memoryview(samples)
+            if status != ROOM or self.size == (self.shown.width, self.shown.height):
+                raise Strange(f"frame {number} was served, and then not ({status})")
+            self.size = (self.shown.width, self.shown.height)
+
+    def reason(self):
+        """Why the last line was refused, as the program explains it."""
+        if self.library.wk_why(self.handle, ctypes.byref(self.length)) != OK:
+            return ""
+        return self.text().decode(errors="replace").rstrip("\n")
+
+    def saved(self, pads):
+        """The IVF file of the current packets of source 0."""
+        if self.library.wk_save(self.handle, bool(pads), ctypes.byref(self.length)) != OK:
+            raise MemoryError("out of memory for the file of the packets")
+        return self.text()
+
+    def close(self):
+        self.library.wk_close(self.handle)
+
+
+class Header:
+    """The line before the frames, and the size of a frame, as a reader of them knows them."""
+
+    def __init__(self, rate, scale):
+        self.rate = f"{rate}:{scale}" if rate and scale else "30:1"
+        self.size = None
+
+    @property
+    def header(self):
+        return b"" if self.size is None else f"YUV4MPEG2 W{self.size[0]} H{self.size[1]} F{self.rate} Ip C420jpeg\n".encode()
+
+    @property
+    def frame_size(self):
+        return len(MARK) + size_of(*self.size)
+
+
+def work(asked):
+    """Makes the calls that are asked for, one after the other, until it is told to end."""
+    while True:
+        item = asked.get()
+        if item is None:
+            return
+        call, answers = item
+        try:
+            answers.put((call(), None))
+        except BaseException as error:
+            answers.put((None, error))
+        # What the caller holds ends with the caller.
+        del item, call, answers
+
+
+class Library:
+    """A running session. `files` are the bytes of its sources; `save` gets the packets of source 0 when it is finished."""
+
+    def __init__(self, files, states=CACHE, tables=b"", save=None, pad=False, explains=False):
+        library = load()
+        self.owner = os.getpid()
+        self.asked = queue.SimpleQueue()
+        threading.Thread(target=work, args=(self.asked,), name="wokureti", daemon=True).start()
+        self.engine, self.is_over, self.save, self.pad = None, False, save, pad
+        self.finalizer = weakref.finalize(self, self.asked.put, None)
+        self.engine = self.call(lambda: Engine(library, files, states, tables, explains))
+        if self.engine.trouble:
+            status, source, cause = self.engine.trouble
+            self.finalizer()
+            raise Gone(f"source {source}: {CAUSES[cause]}" if status == FILE else FAULTS[status])
+        # The worker closes the session, whatever ends first.
+        self.finalizer.detach()
+        self.finalizer = weakref.finalize(self, end, self.asked, self.engine)
+        head, _ = ivf.parse_head(files[0])
+        self.reader = Header(head.rate, head.scale)
+
+    def call(self, function, deadline=None):
+        """What a call returns that the worker makes. `Late` after the deadline: the worker is left to it, and the session is over."""
+        answers = queue.SimpleQueue()
+        self.asked.put((function, answers))
+        try:
+            result, error = answers.get(timeout=None if deadline is None else max(0.0, deadline - time.monotonic()))
+        except queue.Empty:
+            self.kill()
+            raise Late from None
+        except BaseException:
+            self.kill()
+            raise
+        if error is not None:
+            raise error
+        return result
+
+    def exchange(self, lines, deadline):
+        """The reply to each of these lines, and the picture if the reply is `served`. `Gone` if the session is over."""
+        if self.is_over:
+            raise Gone
+        found = self.call(lambda: [self.engine.answer(line) for line in lines], deadline)
+        for _, picture in found:
+            if picture is not None:
+                self.reader.size = picture[:2]
+        return found
+
+    def explanation(self, number):
+        """The text that explains the refusal of request line `number`; those of earlier lines are dropped."""
+        reasons, self.engine.reasons = self.engine.reasons, []
+        start = f"line {number}: "
+        return next((reason[len(start) :] for reason in reasons if reason.startswith(start)), None)
+
+    def owner_is_here(self):
+        """Whether this is the process that opened the session, and not a forked copy, in which the worker is not."""
+        return os.getpid() == self.owner
+
+    def kill(self):
+        """Ends the session, once the call that it is in the middle of has ended."""
+        self.is_over = True
+        self.finalizer()
+
+    def finish(self, deadline):
+        """Saves the packets, if that was asked for, and ends the session: its status, and what went wrong."""
+        try:
+            if self.save is not None:
+                write_whole(self.save, [self.call(lambda: self.engine.saved(self.pad), deadline)])
+        except (OSError, MemoryError) as error:
+            self.kill()
+            return 1, f"cannot save {self.save}: {error}"
+        self.kill()
+        return 0, ""
+
+    def collect(self):
+        """The status of a session that is over, and what went wrong."""
+        return 0, ""
+
+
+def end(asked, engine):
+    """Tells the worker to close the session, and then to end."""
+    asked.put((engine.close, queue.SimpleQueue()))
+    asked.put(None)

@@ -1,0 +1,50 @@
+"""Streams whose rate varies, as YUV4MPEG2, whose frames all last as long."""
+
+import bisect
+from array import array
+from itertools import accumulate
+
+from . import excerpts, times
+from .exports import Frames
+
+
+def begins(contents, streams=None, script=None):
+    """The time of each frame that is served, in nanoseconds, and the end of the last one."""
+    return list(accumulate((span.length for span in excerpts.of_frames(contents, Frames(contents, streams, script).served())), initial=0))
+
+
+def step_of(rate):
+    return times.NANO * rate[1] / rate[0]
+
+
+def drift(starts, rate):
+    """By how many nanoseconds a frame is at most away from its time, if frames follow each other at a rate."""
+    step = step_of(rate)
+    return max(abs(round(place * step) - start) for place, start in enumerate(starts))
+
+
+def constant(starts, rate):
+    """The frames to show at a rate: at each step the one whose time is nearest."""
+    step, found = step_of(rate), array("I")
+    last = len(starts) - 2
+    for turn in range(round(starts[-1] / step)):
+        time = turn * step
+        place = max(0, min(last, bisect.bisect_right(starts, time) - 1))
+        if place < last and starts[place + 1] - time < time - starts[place]:
+            place += 1
+        found.append(place)
+    return found
+
+
+def warn(contents, is_constant, say):
+    """Says by how much the frames of a YUV4MPEG2 file are away from their times, if that is a frame or more and there is sound; or that they are repeated."""
+    if not is_constant and not any(item.media is not None and item.media.sounds for item in contents.inputs.all):
+        return
+    starts = begins(contents)
+    away = drift(starts, contents.rate)
+    if away < step_of(contents.rate):
+        return
+    if is_constant:
+        say(f"the rate of the frames varies: of {len(starts) - 1:,} frames {len(constant(starts, contents.rate)):,} are made, each at the nearest time")
+    else:
+        say(f"the rate of the frames varies, and a YUV4MPEG2 file has one rate: picture and sound part by up to {away // 10**6} ms. --constant repeats or leaves out frames instead")

@@ -1,0 +1,65 @@
+//! Sessions over a stored clip: the frames of vpxdec, edits, refusals, and the saved file.
+use std::collections::hash_map::DefaultHasher;
+use std::fs;
+use std::hash::{Hash, Hasher};
+use std::path::PathBuf;
+
+use wokureti::{Fault, Frame, Session};
+
+fn clip(name: &str) -> Vec<u8> {
+    let folder = PathBuf::from(env!("CARGO_MANIFEST_DIR")).join("../../../crates/gate_clips/data");
+    fs::read(folder.join(name)).expect("the clip is there")
+}
+
+fn digest(frame: &Frame) -> u64 {
+    let mut hasher = DefaultHasher::new();
+    (&frame.y, &frame.cb, &frame.cr).hash(&mut hasher);
+    hasher.finish()
+}
+
+#[test]
+fn a_deleted_packet_is_not_shown() {
+    let file = clip("small.ivf");
+    let mut session = Session::open(&[&file], 32).expect("an IVF file");
+    let before: Vec<u64> = (0..5).map(|n| digest(&session.frame(n).expect("a frame"))).collect();
+    assert_eq!(session.request("hold 2"), session.request("count").map(|reply| format!("ok {}", reply.split(' ').nth(1).unwrap())));
+    let after: Vec<u64> = (0..5).map(|n| digest(&session.frame(n).expect("a frame"))).collect();
+    assert_eq!(after[..2], before[..2]);
+    assert_eq!(after[2], before[1]);
+    assert_eq!(session.request("delete 2").map(|_| ()), Ok(()));
+    let again: Vec<u64> = (0..5).map(|n| digest(&session.frame(n).expect("a frame"))).collect();
+    assert_eq!(again, before);
+}
+
+#[test]
+fn the_saved_file_is_the_stream() {
+    let file = clip("small.ivf");
+    let mut session = Session::open(&[&file], 1).expect("an IVF file");
+    assert_eq!(session.save(false).expect("memory").len(), file.len());
+}
+
+#[test]
+fn refusals_have_their_words() {
+    let file = clip("small.ivf");
+    let mut session = Session::open(&[&file, &file], 2).expect("two IVF files");
+    assert_eq!(session.request("delete 99999"), Err(Fault::Refused("Place".into())));
+    assert_eq!(session.request("nonsense"), Err(Fault::Refused("Line".into())));
+    assert_eq!(session.frame(1 << 40), Err(Fault::Refused("NoSuchFrame".into())));
+    session.request("replace 0 1100").expect("a packet");
+    assert_eq!(session.frame(3), Err(Fault::Refused("packet 0 ShortPacket".into())));
+    assert!(matches!(Session::open(&[&file, b"no file of packets, but longer than a header"], 2), Err(Fault::File { source: 1, .. })));
+    assert!(matches!(Session::open(&[], 2), Err(Fault::Argument)));
+    assert!(matches!(Session::open(&[&file], 0), Err(Fault::Argument)));
+}
+
+#[test]
+fn a_frame_of_another_size_gets_its_room() {
+    let (small, odd) = (clip("small.ivf"), clip("odd-size.ivf"));
+    let mut frame = Frame::default();
+    for file in [&small, &odd, &small] {
+        let mut session = Session::open(&[file], 4).expect("an IVF file");
+        session.frame_into(0, &mut frame).expect("a frame");
+        assert_eq!(frame.y.len(), (frame.width * frame.height) as usize);
+        assert_eq!(frame, session.frame(0).expect("a frame"));
+    }
+}

@@ -1,0 +1,194 @@
+#!/usr/bin/env python3
+"""Programs that open files by a path read the folder of `wokureti mount`: ffmpeg, mpv, melt and GStreamer, those of them that are here.
+
+    compare/mounted.py [--reads N] [--seed S]
+
+It needs python3-fusepy and fuse3. Each program reads the frames of clip.y4m, and seeks in it, and of a file on the disk with the same bytes: melt
+converts its samples, so those of the clip are compared with ffmpeg's and mpv's only. The files are read at random places and compared with
+what the programs write; edits are made while they are read; the mount and vp8serve are killed. README.md says more.
+"""
+
+import argparse
+import errno
+import json
+import os
+import pathlib
+import random
+import shutil
+import signal
+import subprocess
+import sys
+import tempfile
+import time
+
+TOP = pathlib.Path(__file__).resolve().parent.parent
+sys.path.insert(0, str(TOP / "clients/python"))
+
+from wokureti import Session, ivf, mount, programs  # noqa: E402
+
+RATE, COUNT = 25, 120
+QUIET = {"stdin": subprocess.DEVNULL, "timeout": 300, "check": True, "capture_output": True}
+
+
+def run(*words, **more):
+    return subprocess.run(list(map(str, words)), **{**QUIET, **more}).stdout
+
+
+def md5s(*words):
+    found = run("ffmpeg", "-nostdin", "-v", "error", *words, "-f", "framemd5", "-").decode()
+    return [line.split(",")[-1].strip() for line in found.splitlines() if not line.startswith("#")]
+
+
+def by_ffmpeg(path, start, room):
+    return md5s("-ss", start / RATE, "-i", path)
+
+
+def by_mpv(path, start, room):
+    out = f"{room}/mpv.yuv"
+    run("mpv", "--no-config", "--really-quiet", f"--start={start / RATE}", f"--o={out}", "--ovc=rawvideo", "--of=rawvideo", "--vf=format=yuv420p", path)
+    return md5s("-f", "rawvideo", "-pix_fmt", "yuv420p", "-s", "320x180", "-i", out)
+
+
+def by_melt(path, start, room):
+    out = f"{room}/melt.yuv"
+    # The profile of the clip: else melt scales it.
+    pathlib.Path(room, "profile").write_text(f"description=x\nframe_rate_num={RATE}\nframe_rate_den=1\nwidth=320\nheight=180\nprogressive=1\nsample_aspect_num=1\nsample_aspect_den=1\ndisplay_aspect_num=16\ndisplay_aspect_den=9\ncolorspace=601\n")
+    env = {**os.environ, "SDL_VIDEODRIVER": "dummy", "QT_QPA_PLATFORM": "offscreen"}
+    run("melt", "-silent", "-profile", f"{room}/profile", path, f"in={start}", f"out={COUNT - 1}", "-consumer", f"avformat:{out}", "f=rawvideo", "vcodec=rawvideo", "pix_fmt=yuv420p", "an=1", "real_time=-1", env=env)
+    return md5s("-f", "rawvideo", "-pix_fmt", "yuv420p", "-s", "320x180", "-i", out)
+
+
+def by_gstreamer(path, start, room):
+    if start or subprocess.run(["gst-inspect-1.0", "--exists", "y4mdec"], check=False).returncode:
+        return None
+    out = f"{room}/gst.yuv"
+    run("gst-launch-1.0", "-q", "filesrc", f"location={path}", "!", "y4mdec", "!", "video/x-raw,format=I420", "!", "filesink", f"location={out}")
+    return md5s("-f", "rawvideo", "-pix_fmt", "yuv420p", "-s", "320x180", "-i", out)
+
+
+READERS = {"ffmpeg": by_ffmpeg, "mpv": by_mpv, "melt": by_melt, "gst-launch-1.0": by_gstreamer}
+
+
+class Mounted:
+    """A folder, and the process that has it."""
+
+    def __init__(self, clip, folder):
+        self.folder = folder
+        self.process = subprocess.Popen([sys.executable, "-m", "wokureti", "mount", clip, folder], stdout=subprocess.DEVNULL, stderr=subprocess.DEVNULL)
+        self.wait(True)
+
+    def is_there(self):
+        with open("/proc/mounts", encoding="utf-8", errors="replace") as file:
+            return any(line.split(" ")[1] == str(self.folder) for line in file)
+
+    def wait(self, is_there):
+        limit = time.monotonic() + 60
+        while self.is_there() != is_there:
+            if time.monotonic() > limit:
+                raise SystemExit(f"the folder is {'not ' * is_there}mounted after a minute")
+            time.sleep(0.02)
+
+    def end(self, number=signal.SIGTERM):
+        self.process.send_signal(number)
+        self.process.wait(60)
+        self.wait(False)
+
+
+def texts(clip, *lines):
+    """What the programs write of each file."""
+    with tempfile.TemporaryDirectory() as room:
+        out = f"{room}/out.y4m"
+        with Session(clip) as session:
+            for line in lines:
+                session.request(line)
+            count = session.count().frames
+            facts = session.packets()
+        requests = "".join(f"{line}\n" for line in (*lines, *(f"frame {number}" for number in range(count))))
+        run(programs.find("vp8serve"), clip, "-", out, "--save", f"{room}/out.ivf", input=requests.encode(), stdin=None)
+        packets = ivf.read_packets(f"{room}/out.ivf")[1]
+        return {"clip.y4m": pathlib.Path(out).read_bytes(), "clip.ivf": packets, "packets.jsonl": facts}
+
+
+def read_at_random(dice, folder, clip, count):
+    """Reads the files at random places; returns what is wrong."""
+    wanted, wrong = texts(clip), 0
+    if [data for _, data in ivf.read_packets(folder / "clip.ivf")[1]] != [data for _, data in wanted["clip.ivf"]]:
+        wrong += 1
+        print("clip.ivf has other packets")
+    if list(map(json.loads, (folder / "packets.jsonl").read_text().splitlines())) != wanted["packets.jsonl"]:
+        wrong += 1
+        print("packets.jsonl has other facts")
+    whole = {"clip.y4m": wanted["clip.y4m"], **{name: (folder / name).read_bytes() for name in ("clip.ivf", "clip.webm", "packets.jsonl", "frames/000007.png")}}
+    for _ in range(count):
+        name = dice.choice(list(whole))
+        at, size = dice.randrange(len(whole[name])), dice.choice((1, 100, 4096, 131072, 1 << 20))
+        with open(folder / name, "rb", buffering=0) as file:
+            got = os.pread(file.fileno(), size, at)
+        if got != whole[name][at : at + size]:
+            wrong += 1
+            print(f"{name}: {size} bytes from {at} on are others")
+    return wrong
+
+
+def edit_meanwhile(dice, folder, clip):
+    """Edits while a file is read: its bytes are those of one revision, or the read fails."""
+    wrong, lines = 0, []
+    for _ in range(10):
+        before = texts(clip, *lines)["clip.y4m"]
+        with open(folder / "clip.y4m", "rb", buffering=0) as file:
+            got = os.pread(file.fileno(), 200000, 0)
+            lines = [*lines, f"delete {dice.randrange(1, 60)}"]
+            (folder / "edits.txt").write_text("\n".join(lines) + "\n")
+            try:
+                os.pread(file.fileno(), 100, 0)
+                wrong += 1
+                print("a file of before an edit is read after it")
+            except OSError as error:
+                if error.errno != errno.ESTALE:
+                    raise
+        wrong += got != before[: len(got)]
+    wrong += (folder / "clip.y4m").read_bytes() != texts(clip, *lines)["clip.y4m"]
+    (folder / "edits.txt").write_text("")
+    return wrong
+
+
+def main():
+    words = argparse.ArgumentParser(description=__doc__.splitlines()[0])
+    words.add_argument("--reads", type=int, default=1000)
+    words.add_argument("--seed", type=int, default=1)
+    given = words.parse_args()
+    mount.fuse_module()
+    os.environ["PYTHONPATH"] = str(TOP / "clients/python")
+    dice, wrong, frames, names = random.Random(given.seed), 0, 0, set()
+    with tempfile.TemporaryDirectory() as room:
+        clip, folder = f"{room}/clip.ivf", pathlib.Path(room, "folder")
+        folder.mkdir()
+        run("ffmpeg", "-nostdin", "-v", "error", "-f", "lavfi", "-i", f"testsrc2=size=320x180:rate={RATE}", "-frames:v", COUNT, "-c:v", "libvpx", "-threads", "1", "-g", "30", clip)
+        mounted, whole, disk = Mounted(clip, folder), md5s("-i", clip), f"{room}/disk.y4m"
+        pathlib.Path(disk).write_bytes(texts(clip)["clip.y4m"])
+        try:
+            for name in [one for one in READERS if shutil.which(one)]:
+                for start in (0, *sorted(dice.sample(range(1, COUNT), 4))):
+                    found = READERS[name](str(folder / "clip.y4m"), start, room)
+                    if found is None:
+                        continue
+                    frames, names = frames + len(found), names | {name}
+                    wanted = READERS[name](disk, start, room) if name == "melt" else whole[start:]
+                    if found != wanted or len(found) != COUNT - start:
+                        wrong += 1
+                        first = next((place for place, pair in enumerate(zip(found, wanted)) if pair[0] != pair[1]), min(len(found), COUNT - start))
+                        print(f"{name} from frame {start}: {len(found)} frames, the first other one is {first}")
+            wrong += read_at_random(dice, folder, clip, given.reads) + edit_meanwhile(dice, folder, clip)
+            children = run("pgrep", "-P", mounted.process.pid, "vp8serve").decode().split()
+            for child in children:
+                os.kill(int(child), signal.SIGKILL)
+            wrong += (folder / "clip.y4m").read_bytes() != texts(clip)["clip.y4m"] or not children
+        finally:
+            mounted.end(signal.SIGKILL)
+        wrong += list(folder.iterdir()) != []
+    print(f"{', '.join(sorted(names))}: {frames} frames, {given.reads} reads, 10 edits meanwhile, vp8serve and the mount killed: {wrong} wrong")
+    return 1 if wrong else 0
+
+
+if __name__ == "__main__":
+    sys.exit(main())

@@ -1,0 +1,6 @@
+use Rattle.std.proofs.KnownBytes.{Appends-trans}
+use Rattle.std.proofs.lemmas.Result.{on_ok_weaker}
+use Rattle.macroblock_lists.proofs.fields.write_tag_fields.Goals as goal
+
+pub returns : goal.returns
+returns g c = on_ok_weaker c.write_number_field-2.result (λ p. Appends-trans _ _ _ _ _ (Appends-trans _ _ _ _ _ (Appends-trans _ _ _ _ _ c.in_ok-write_flag_field.ensures (rw c.from.ensures at c.in_ok-write_number_field.ensures)) c.in_ok-write_flag_field-2.ensures) p) (rw c.from-2.ensures at c.write_number_field-2.ensures)

@@ -1,0 +1,5 @@
+pub mod Held
+pub mod Statuses
+pub mod Openings
+pub mod Rooms
+pub mod Calls

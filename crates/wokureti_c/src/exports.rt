@@ -1,0 +1,168 @@
+//! The calls of the library.
+ghost use Rattle.std.specs.Prelude.{◌≡◌, ◌<◌, None, Some, length as count};
+ghost use Rattle.wokureti_c.specs.Calls.{IsAnswered, IsExplained, IsRefused, IsSaved, IsServed, IsTooLarge, Over};
+ghost use Rattle.wokureti_c.specs.Openings.{IsNotOpened, IsOpened, files_in};
+ghost use Rattle.wokureti_c.specs.Rooms.{with_bytes};
+ghost use Rattle.wokureti_c.specs.declared.engine.Engine.{Engine};
+
+use crate::engine::Engine;
+use crate::frames::{Fault, Shown, show};
+use crate::handle::{Handle, put, take};
+use crate::opening::open;
+use crate::requests::{answer, explain, save};
+use crate::rooms::copy;
+use crate::statuses::{CLOSED, MEMORY, OK};
+use std::alloc::Global;
+
+/// The version of the library: 10,000 times the first number, 100 times the second, and the third.
+#[unsafe(no_mangle)]
+pub extern "C" fn wk_version() -> u32 {
+    1000
+}
+
+/// Ends the session of a handle, if it holds one. The handle holds nothing afterwards.
+#[unsafe(no_mangle)]
+pub extern "C" fn wk_close(handle: &mut Handle, alloc: Global)
+    ensures { handle.new.held ≡ None }
+{
+    let engine = take(handle, alloc);
+    drop(engine);
+}
+
+/// Opens a session over one to eight IVF files, which lie one after the other in `files`, each up to its end in
+/// `ends`. `states`, 1 to 4,096, is the most decoded states that are cached. No bytes of tables are those of RFC
+/// 6386. What the handle held is ended first; it holds nothing afterwards unless the result is 0.
+#[unsafe(no_mangle)]
+pub extern "C" fn wk_open(
+    handle: &mut Handle,
+    alloc: Global,
+    files: &[u8],
+    ends: &[usize],
+    states: u16,
+    tables: &[u8],
+    told: &mut Fault,
+) -> u32
+    ensures opened { result ≡ 0 → (engine : Engine) × (handle.new.held ≡ Some engine) × IsOpened (files_in files.now ends.now) states tables.now engine }
+    ensures refused { 0 < result → IsNotOpened files.now ends.now states tables.now result told.new }
+    ensures closed { 0 < result → handle.new.held ≡ None }
+{
+    wk_close(handle, alloc);
+    let session = match open(alloc, files, ends, states, tables) {
+        Ok(session) => session,
+        Err(fault) => return fault.tell(told),
+    };
+    let engine = Engine {
+        session,
+        text: Vec::new(alloc),
+        answered: 0,
+        refused: None,
+    };
+    let Ok(engine) = Box::new(alloc, engine) else {
+        return MEMORY;
+    };
+    put(handle, engine);
+    OK
+}
+
+/// Puts the three planes of frame `n` of the current script into rooms of the caller's, whose rows lie the strides
+/// of `shown` apart. Its size is told, also where there is too little room.
+#[unsafe(no_mangle)]
+pub extern "C" fn wk_frame(
+    handle: &mut Handle,
+    alloc: Global,
+    n: u64,
+    y: &mut [u8],
+    cb: &mut [u8],
+    cr: &mut [u8],
+    shown: &mut Shown,
+) -> u32
+    ensures served { result ≡ 0 → Over handle.old.held handle.new.held (λ old new. IsServed old.session n shown.old shown.new (record { y = y.old; cb = cb.old; cr = cr.old }) (record { y = y.new; cb = cb.new; cr = cr.new }) new.session) }
+    ensures room { result ≡ 5 → Over handle.old.held handle.new.held (λ old new. IsTooLarge old.session n shown.new (record { y = y.old; cb = cb.old; cr = cr.old }) (record { y = y.new; cb = cb.new; cr = cr.new }) new.session) }
+    ensures refused { 15 < result → Over handle.old.held handle.new.held (λ old new. IsRefused old.session n result (record { y = y.old; cb = cb.old; cr = cr.old }) (record { y = y.new; cb = cb.new; cr = cr.new }) new.session) }
+    ensures closed { handle.old.held ≡ None → (result ≡ 4) × (handle.new.held ≡ None) }
+{
+    let Some(mut engine) = take(handle, alloc) else {
+        return CLOSED;
+    };
+    let status = show(&mut engine.session, n, y, cb, cr, shown);
+    put(handle, engine);
+    status
+}
+
+/// Answers a request line. Its reply, as `vp8serve --live` writes it, is the text of the handle afterwards; the bytes of a
+/// frame go nowhere.
+#[unsafe(no_mangle)]
+pub extern "C" fn wk_request(
+    handle: &mut Handle,
+    alloc: Global,
+    line: &[u8],
+    length: &mut usize,
+) -> u32
+    ensures answered { result ≡ 0 → Over handle.old.held handle.new.held (λ old new. IsAnswered old line.now new × (length.new ≡ count new.text.items)) }
+    ensures memory { result ≡ 3 → handle.new.held ≡ handle.old.held }
+    ensures closed { handle.old.held ≡ None → (result ≡ 4) × (handle.new.held ≡ None) }
+{
+    let Some(mut engine) = take(handle, alloc) else {
+        return CLOSED;
+    };
+    let status = answer(alloc, &mut engine, line);
+    *length = engine.text.len();
+    put(handle, engine);
+    status
+}
+
+/// Writes why the last request line was refused, as `vp8serve --explain` does, which is the text of the handle afterwards: nothing if it was
+/// answered otherwise, or if there was no memory to keep the line.
+#[unsafe(no_mangle)]
+pub extern "C" fn wk_why(handle: &mut Handle, alloc: Global, length: &mut usize) -> u32
+    ensures explained { result ≡ 0 → Over handle.old.held handle.new.held (λ old new. IsExplained old new × (length.new ≡ count new.text.items)) }
+    ensures memory { result ≡ 3 → handle.new.held ≡ handle.old.held }
+    ensures closed { handle.old.held ≡ None → (result ≡ 4) × (handle.new.held ≡ None) }
+{
+    let Some(mut engine) = take(handle, alloc) else {
+        return CLOSED;
+    };
+    let status = explain(alloc, &mut engine);
+    *length = engine.text.len();
+    put(handle, engine);
+    status
+}
+
+/// Writes the packets of source 0 as an IVF file, which is the text of the handle afterwards; with `pads` with
+/// a byte 00 after each packet whose last token partition is empty.
+#[unsafe(no_mangle)]
+pub extern "C" fn wk_save(handle: &mut Handle, alloc: Global, pads: bool, length: &mut usize) -> u32
+    ensures saved { result ≡ 0 → Over handle.old.held handle.new.held (λ old new. IsSaved old pads new × (length.new ≡ count new.text.items)) }
+    ensures memory { result ≡ 3 → handle.new.held ≡ handle.old.held }
+    ensures closed { handle.old.held ≡ None → (result ≡ 4) × (handle.new.held ≡ None) }
+{
+    let Some(mut engine) = take(handle, alloc) else {
+        return CLOSED;
+    };
+    let status = save(alloc, &mut engine, pads);
+    *length = engine.text.len();
+    put(handle, engine);
+    status
+}
+
+/// Copies the text that the last request or save left to the front of a room, and tells its length, also where there is
+/// too little room.
+#[unsafe(no_mangle)]
+pub extern "C" fn wk_text(
+    handle: &mut Handle,
+    alloc: Global,
+    room: &mut [u8],
+    length: &mut usize,
+) -> u32
+    ensures text { result ≡ 0 → Over handle.old.held handle.new.held (λ old new. (new ≡ old) × (room.new ≡ with_bytes 0 old.text.items room.old) × (length.new ≡ count old.text.items)) }
+    ensures room { result ≡ 5 → (handle.new.held ≡ handle.old.held) × (room.new ≡ room.old) }
+    ensures closed { handle.old.held ≡ None → (result ≡ 4) × (handle.new.held ≡ None) }
+{
+    let Some(engine) = take(handle, alloc) else {
+        return CLOSED;
+    };
+    *length = engine.text.len();
+    let status = copy(engine.text.as_slice(), room);
+    put(handle, engine);
+    status
+}

@@ -1,0 +1,17 @@
+//! The session as a C library: a handle that C holds, and calls on it.
+#![tactic(auto)]
+
+mod engine;
+mod exports;
+mod frames;
+mod handle;
+mod opening;
+mod requests;
+mod rooms;
+mod statuses;
+mod unboxed;
+
+pub use exports::{wk_close, wk_frame, wk_open, wk_request, wk_save, wk_text, wk_version, wk_why};
+pub use frames::{Fault, Shown};
+pub use handle::Handle;
+pub use unboxed::Unboxed;

@@ -1,0 +1,110 @@
+//! A session over the bytes of files.
+ghost use Rattle.std.specs.Prelude.{◌≡◌, ◌≤◌, IfErr, IfOk, IfSome, None, Some, [], Err, false, length};
+ghost use Rattle.vp8_tables.specs.Tables.{TableEntries, entries_of};
+ghost use Rattle.frame_session.specs.Answers.{Means, texts_of};
+ghost use Rattle.wokureti_c.specs.Openings.{AreTables, OpenRefuses, Tells, are_ends_from, files_in};
+
+use crate::frames::Fault;
+use crate::statuses::{ARGUMENT, FILE, MEMORY, TABLES, number_of_file_fault};
+use arrayvec::ArrayVec;
+use frame_session::{RunFault, Session, run};
+use std::alloc::Global;
+use std::io::sink;
+use stream_files::IvfFault;
+use vp8_tables::{TableFault, Tables};
+
+/// Why no session is opened.
+#[derive(Clone, Copy)]
+pub enum OpenFault {
+    /// A number is outside its range.
+    Argument,
+    /// The tables do not have 3,012 bytes.
+    Tables,
+    /// The bytes of a source are not an IVF file, or there is no memory for its packets.
+    File { source: usize, fault: IvfFault },
+    /// Out of memory.
+    Memory,
+}
+
+impl OpenFault {
+    /// The number of the error. The source of a file and the number of its error are told.
+    pub fn tell(self, told: &mut Fault) -> u32
+        ensures { Tells self result told.new }
+    {
+        match self {
+            OpenFault::Argument => ARGUMENT,
+            OpenFault::Tables => TABLES,
+            OpenFault::Memory => MEMORY,
+            OpenFault::File { source, fault } => {
+                told.source = source as u64;
+                told.cause = number_of_file_fault(fault);
+                FILE
+            }
+        }
+    }
+}
+
+/// The tables that these bytes are; no bytes are the tables of RFC 6386.
+fn tables_of(bytes: &[u8]) -> Result<Tables, TableFault>
+    ensures tables { IfOk result (AreTables bytes.now) }
+    ensures refused { IfErr result (λ fault. entries_of bytes.now ≡ Err fault) }
+{
+    if bytes.is_empty() {
+        return Ok(Tables::rfc());
+    }
+    Tables::read(bytes)
+}
+
+/// The files that lie one after the other in these bytes. `None` if an end is before the one before it or past the
+/// end of the bytes.
+fn files_in<'a>(bytes: &'a [u8], ends: &[usize]) -> Option<ArrayVec<&'a [u8], 8>>
+    requires { length ends.now ≤ 8 }
+    ensures files { IfSome result (λ files. texts_of files.items ≡ files_in bytes.now ends.now) }
+    ensures count { IfSome result (λ files. length files.items ≡ length ends.now) }
+    ensures refused { result ≡ None → are_ends_from 0 bytes.now ends.now ≡ false }
+{
+    let mut files = ArrayVec::new();
+    let mut start = 0;
+    for end in ends {
+        if *end < start || *end > bytes.len() {
+            return None;
+        }
+        files.push(&bytes[start..*end]);
+        start = *end;
+    }
+    Some(files)
+}
+
+/// A session over files that lie one after the other, with no request answered.
+pub fn open(
+    alloc: Global,
+    bytes: &[u8],
+    ends: &[usize],
+    states: u16,
+    tables: &[u8],
+) -> Result<Session, OpenFault>
+    ensures opened { IfOk result (λ session. (entries : TableEntries) × AreTables tables.now entries × Means entries (files_in bytes.now ends.now) [] None None None None session.now) }
+    ensures capacity { IfOk result (λ session. session.cache.capacity ≡ states) }
+    ensures refused { IfErr result (OpenRefuses bytes.now ends.now states tables.now) }
+{
+    if ends.is_empty() || ends.len() > 8 || states == 0 || states > 4096 {
+        return Err(OpenFault::Argument);
+    }
+    let tables = tables_of(tables).map_err(|_| OpenFault::Tables)?;
+    let Some(files) = files_in(bytes, ends) else {
+        return Err(OpenFault::Argument);
+    };
+    match run(
+        alloc,
+        tables,
+        states,
+        files.as_slice(),
+        b"",
+        &mut sink(),
+        &mut sink(),
+    ) {
+        Ok(session) => Ok(session),
+        Err(RunFault::Ivf { source, fault }) => Err(OpenFault::File { source, fault }),
+        Err(_) => Err(OpenFault::Memory),
+    }
+}

@@ -1,0 +1,69 @@
+//! The numbers that calls return.
+ghost use Rattle.std.specs.Prelude.{◌≡◌};
+ghost use Rattle.wokureti_c.specs.Statuses.{number_of_file_fault, number_of_refusal};
+
+use frame_session::Refusal;
+use stream_files::IvfFault;
+
+/// The call did what it says.
+pub const OK: u32 = 0;
+
+/// An argument is outside its range.
+pub const ARGUMENT: u32 = 1;
+
+/// The bytes of a source are not an IVF file of VP8.
+pub const FILE: u32 = 2;
+
+/// Out of memory.
+pub const MEMORY: u32 = 3;
+
+/// The handle holds nothing.
+pub const CLOSED: u32 = 4;
+
+/// There is too little room for what was asked for.
+pub const ROOM: u32 = 5;
+
+/// The tables do not have 3,012 bytes.
+pub const TABLES: u32 = 6;
+
+/// Out of memory for a reply: the line may have been answered.
+pub const LOST: u32 = 7;
+
+/// The number of a refusal, 16 or above.
+pub fn number_of_refusal(refusal: Refusal) -> u32
+    ensures { result ≡ number_of_refusal refusal }
+{
+    match refusal {
+        Refusal::Line => 16,
+        Refusal::Source => 17,
+        Refusal::Place => 18,
+        Refusal::Full => 19,
+        Refusal::Spent => 20,
+        Refusal::Size => 21,
+        Refusal::TooLarge => 22,
+        Refusal::NoSuchFrame => 23,
+        Refusal::Packet { .. } => 24,
+        Refusal::CropOutside => 25,
+        Refusal::SizeDiffers => 26,
+        Refusal::Syntax => 27,
+        Refusal::Nodes => 28,
+        Refusal::Reference => 29,
+        Refusal::Number => 30,
+        Refusal::NoMemory => 31,
+        Refusal::NoBit => 32,
+    }
+}
+
+/// The number of the error of an IVF file, 1 or above.
+pub fn number_of_file_fault(fault: IvfFault) -> u32
+    ensures { result ≡ number_of_file_fault fault }
+{
+    match fault {
+        IvfFault::Header => 1,
+        IvfFault::Magic => 2,
+        IvfFault::FourCc => 3,
+        IvfFault::HeaderLength => 4,
+        IvfFault::TooMany => 5,
+        IvfFault::NoMemory => 6,
+    }
+}

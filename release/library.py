@@ -1,0 +1,89 @@
+"""Builds the C library of the crate wokureti_c: the archive that rt makes, and the shared library that gcc links of it."""
+
+import os
+import pathlib
+import shutil
+import subprocess
+import sys
+
+from . import proving
+from .sources import TOP, Failed, kit_folder, needed, version
+
+CRATE = "wokureti_c"
+SHARED, ARCHIVE = "libwokureti.so.0", "libwokureti.a"
+HEADER, SYMBOLS = TOP / "clients/c/include/wokureti.h", TOP / "clients/c/wokureti.map"
+PC = """prefix=${{pcfiledir}}
+Name: wokureti
+Description: Edited VP8 streams, frame by frame
+Version: {version}
+Libs: -L${{prefix}} -lwokureti
+Cflags: -I${{prefix}}
+"""
+
+
+def archive(room, cpu, is_proved, say):
+    """The archive of the library for a processor. If `is_proved`, rt ci has proved the crates below it in this checkout."""
+    crates = needed((CRATE,))
+    folder = room / "library"
+    proving.copy_files(crates, folder)
+    with open(room / "library.log", "w", encoding="utf-8") as log:
+        try:
+            if is_proved:
+                proving.take_libraries(set(crates) - {CRATE}, TOP, folder)
+                proving.run([sys.executable, TOP / "release/stamps.py", kit_folder() / "bin/rt", folder], folder, log)
+            else:
+                say(f"proving {len(crates)} crates: allow 40 minutes on 4 idle processors. rt's output goes to {room / 'library.log'}")
+                for made in (room / "common", room / "vp8serve"):
+                    proving.take_libraries(set(crates) - {CRATE}, made, folder)
+                proving.run(["rt", "all", "check", "--jobs", str(proving.jobs())], folder, log)
+            proving.run(["rt", "lib", "--cpu", cpu], folder / "crates" / CRATE, log)
+        except Failed as failed:
+            text = (room / "library.log").read_text(encoding="utf-8", errors="replace")
+            raise Failed(f"{text[-2000:]}no library was built: {failed}") from None
+    return folder / "crates" / CRATE / "out" / f"lib{CRATE}.a"
+
+
+def ran(*words):
+    done = subprocess.run(list(map(str, words)), capture_output=True, text=True, check=False)
+    if done.returncode != 0:
+        raise Failed(f"{words[0]} could not make the library: {done.stderr.strip()}")
+
+
+def link(made, out):
+    """Links the shared library of an archive."""
+    heap = kit_folder() / "c/liblibc_c.a"
+    options = ["-shared", "-s", "-Wl,--build-id=none", f"-Wl,-soname,{SHARED}", f"-Wl,--version-script={SYMBOLS}", "-Wl,-z,defs,-z,relro,-z,now,--gc-sections"]
+    ran("gcc", *options, "-o", out, "-Wl,--whole-archive", made, "-Wl,--no-whole-archive", heap)
+
+
+def shared(room, cpus, is_proved, say):
+    """The shared library for each processor, by its name and processor."""
+    found = {}
+    for cpu in cpus:
+        say(f"building {SHARED} for {cpu}")
+        found[SHARED, cpu] = pathlib.Path(room) / f"{SHARED}-{cpu}"
+        link(archive(pathlib.Path(room), cpu, is_proved, say), found[SHARED, cpu])
+    return found
+
+
+def build(room, folder, cpu, is_proved, say):
+    """Puts the shared library, the archive, the header and the file for pkg-config into a folder."""
+    for program in ("gcc", "ar"):
+        if shutil.which(program) is None:
+            raise Failed(f"the library is linked with {program}: install gcc and binutils")
+    made, heap = archive(room, cpu, is_proved, say), kit_folder() / "c/liblibc_c.a"
+    fresh = pathlib.Path(room) / "linked"
+    shutil.rmtree(fresh, ignore_errors=True)
+    fresh.mkdir()
+    link(made, fresh / SHARED)
+    script = f"create {fresh / ARCHIVE}\\naddlib {made}\\naddlib {heap}\\nsave\\nend\\n"
+    ran("sh", "-c", f"printf '{script}' | ar -M")
+    shutil.copyfile(HEADER, fresh / HEADER.name)
+    (fresh / "wokureti.pc").write_text(PC.format(version=version()), encoding="ascii")
+    folder.mkdir(exist_ok=True)
+    for path in fresh.iterdir():
+        os.replace(path, folder / path.name)
+    link = folder / "libwokureti.so"
+    link.unlink(missing_ok=True)
+    link.symlink_to(SHARED)
+    say(f"the library is in {folder}: {SHARED}, {ARCHIVE}, {HEADER.name} and wokureti.pc")
