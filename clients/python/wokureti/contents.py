@@ -88,6 +88,11 @@ class Contents:
         if word == "copy":
             source, index, at = numbers
             return self.perform(Operation("insert", (at,), self.make(self.stamp(self.streams[source][index]), self.root(self.streams[source][index]))))
+        if word in ("hide", "show"):
+            packet = self.streams[self.current][numbers[0]]
+            first, *rest = self.bytes(packet)
+            data = bytes((first | 16 if word == "show" else first & ~16, *rest))
+            return self.perform(Operation("replace", numbers, self.make(self.stamp(packet), data)))
         if word in ("blank", "hold"):
             at, *size = numbers
             return self.perform(Operation("insert", (at,), self.forge_at(word, at, size)))
