@@ -3,7 +3,8 @@
 
     compare/edits.py [LISTS [LONG_LISTS]]
 
-LONG_LISTS are lists of 60 edits of streams of 1,000 to 5,000 packets, whose packets are saved and compared too.
+Each list is run once more with questions at random places between its lines: the other replies, those of `stats` too, and the frames must be
+the same. LONG_LISTS are lists of 60 edits of streams of 1,000 to 5,000 packets, whose packets are saved and compared too.
 README.md says more.
 """
 import pathlib
@@ -54,10 +55,11 @@ def cause(packet, has_state):
 
 
 class Model:
-    """A session: the packets, and the size that the first frame served has fixed."""
+    """A session: the packets with their time stamps, and the size that the first frame served has fixed."""
 
     def __init__(self, packets):
         self.packets = list(packets)
+        self.stamps = list(range(len(packets)))
         self.size = None
 
     def frame(self, n):
@@ -94,18 +96,29 @@ class Model:
             return f"packets {count} frames {sum(len(p) < 3 or p[0] & 0x10 != 0 for p in self.packets)}"
         if command == "stats":
             return "decoded"
+        if command == "script":
+            return "script -"
         if command == "insert":
             if numbers[0] > count:
                 return "refused Place"
             self.packets.insert(numbers[0], bytes.fromhex(words[3].replace("-", "")))
+            self.stamps.insert(numbers[0], numbers[1])
         elif numbers[0] >= count or (command == "move" and numbers[1] >= count):
             return "refused Place"
+        elif command == "packet":
+            return f"packet {self.stamps[numbers[0]]} {self.packets[numbers[0]].hex() or '-'}"
+        elif command in ("hide", "show"):
+            if len(self.packets[numbers[0]]) < 3:
+                return "refused NoBit"
+            first, rest = self.packets[numbers[0]][0] & 0xEF, self.packets[numbers[0]][1:]
+            self.packets[numbers[0]] = bytes([first + 16 * (command == "show")]) + rest
         elif command == "replace":
             self.packets[numbers[0]] = bytes.fromhex(words[2].replace("-", ""))
         elif command == "delete":
-            del self.packets[numbers[0]]
+            del self.packets[numbers[0]], self.stamps[numbers[0]]
         else:
-            self.packets.insert(numbers[1], self.packets.pop(numbers[0]))
+            for listed in (self.packets, self.stamps):
+                listed.insert(numbers[1], listed.pop(numbers[0]))
         return f"ok {len(self.packets)}"
 
 
@@ -117,7 +130,27 @@ def random_line(most):
         [f"frame {place()}"] * 6
         + [f"insert {place()} {random.randrange(TOP)} {hex}"] * 2
         + [f"replace {place()} {hex}", f"delete {place()}", f"move {place()} {place()}", f"  move   {place()}  {place()} ", "count", "stats"]
+        + [f"hide {place()}", f"show {place()}", f"packet {place()}", "script"]
     )
+
+
+def with_questions(lines):
+    """The lines with questions between them, and the places of the lines."""
+    asked, places = [], []
+    for line in lines:
+        while random.random() < 0.4:
+            asked.append(random.choice(["count", "stats", "script", "packet", f"packet {random.randrange(12)}"]))
+        places.append(len(asked))
+        asked.append(line)
+    return asked, places
+
+
+def served(room, lines):
+    """The replies to lines over the stream of a room, and the frames."""
+    pathlib.Path(f"{room}/requests").write_text("\n".join(lines))
+    words = [VP8SERVE, f"{room}/in.ivf", f"{room}/requests", f"{room}/out.y4m"]
+    ran = subprocess.run(words, check=True, capture_output=True, text=True)
+    return ran.stdout.splitlines(), pathlib.Path(f"{room}/out.y4m").read_bytes()
 
 
 def compare(room, seed):
@@ -125,15 +158,18 @@ def compare(room, seed):
     packets = [random.choice(PACKETS) for _ in range(random.randrange(9))]
     lines = [random_line(10) for _ in range(60)]
     pathlib.Path(f"{room}/in.ivf").write_bytes(ivf(16, 16, packets))
-    pathlib.Path(f"{room}/requests").write_text("\n".join(lines))
-    ran = subprocess.run([VP8SERVE, f"{room}/in.ivf", f"{room}/requests"], check=True, capture_output=True, text=True)
+    replies, frames = served(room, lines)
     model = Model(packets)
     wanted = [model.answer(line) for line in lines]
-    told = ["decoded" if reply.startswith("decoded ") else reply for reply in ran.stdout.splitlines()]
-    steps = [int(reply.split()[1]) for reply in ran.stdout.splitlines() if reply.startswith("decoded ")]
+    told = ["decoded" if reply.startswith("decoded ") else reply for reply in replies]
+    steps = [int(reply.split()[1]) for reply in replies if reply.startswith("decoded ")]
     if told != wanted or steps != sorted(steps):
         row = next((i for i, pair in enumerate(zip(told, wanted)) if pair[0] != pair[1]), min(len(told), len(wanted)))
         sys.exit(f"list {seed}, line {row}: {lines[row : row + 1]}: told {told[row : row + 1]}, wanted {wanted[row : row + 1]}")
+    asked, places = with_questions(lines)
+    more, same_frames = served(room, asked)
+    if [more[place] for place in places] != replies or same_frames != frames:
+        sys.exit(f"list {seed}: questions between its lines change a reply or a frame")
     return wanted
 
 
@@ -145,6 +181,7 @@ def long_line(count):
     return random.choice(
         [f"insert {place()} {random.randrange(2**32)} {hex}", f"delete {place()}"] * 2
         + [f"replace {place()} {hex}", f"move {place()} {place()}", f"move {place()} {place()}", "count"]
+        + [f"hide {place()}", f"show {place()}", f"packet {place()}"]
     )
 
 
@@ -158,26 +195,6 @@ def saved_packets(path):
     return packets
 
 
-class LongModel(Model):
-    """The same, with the time stamps of the packets."""
-
-    def __init__(self, packets):
-        super().__init__(packets)
-        self.stamps = list(range(len(packets)))
-
-    def answer(self, line):
-        reply = super().answer(line)
-        words = line.split()
-        if reply.startswith("ok"):
-            if words[0] == "insert":
-                self.stamps.insert(int(words[1]), int(words[2]))
-            elif words[0] == "delete":
-                del self.stamps[int(words[1])]
-            elif words[0] == "move":
-                self.stamps.insert(int(words[2]), self.stamps.pop(int(words[1])))
-        return reply
-
-
 def compare_long(room, seed):
     random.seed(f"long {seed}")
     packets = [random.choice(PACKETS) for _ in range(random.randrange(1000, 5001))]
@@ -187,7 +204,7 @@ def compare_long(room, seed):
     pathlib.Path(f"{room}/requests").write_text("\n".join(lines))
     words = [VP8SERVE, "--save", f"{room}/saved.ivf", f"{room}/in.ivf", f"{room}/requests"]
     ran = subprocess.run(words, check=True, capture_output=True, text=True)
-    model = LongModel(packets)
+    model = Model(packets)
     wanted = [model.answer(line) for line in lines]
     told = ran.stdout.splitlines()[: len(lines)]
     if told != wanted:

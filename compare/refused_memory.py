@@ -26,7 +26,7 @@ from library.traced import Program, traced
 WIDTH, HEIGHT, FRAMES, CLIPS = 48, 32, 10, 4
 KEY = bytes.fromhex("1000009D012A10001000")
 INTER = bytes.fromhex("110000")
-EDITS = ("use", "insert", "replace", "delete", "move", "copy", "blank", "hold", "script")
+EDITS = ("use", "insert", "replace", "delete", "move", "copy", "blank", "hold", "hide", "show", "script")
 NO_MEMORY = {"vp8serve: no memory\n", "vp8serve: input NoMemory\n", "vp8serve: source 1 NoMemory\n", "vp8serve: source 2 NoMemory\n"}
 
 
@@ -69,7 +69,8 @@ class Result:
 
 
 def is_edit(line):
-    return line.split()[0] in EDITS
+    words = line.split()
+    return words[0] in EDITS and words != ["script"]
 
 
 def clip_packets(room, choose):
@@ -108,6 +109,7 @@ def worked_lists(clip, other):
     spliced = ["frame 1", "use 1", "copy 0 2 1", "copy 1 0 0", "script source 1; splice 0 1", *frames(1, 12, 13), "delete 1", "use 2", "copy 1 0 0", "use 0", "copy 1 3 4", *frames(4, 13), "use 9", "copy 9 0 0", "stats"]
     yield RequestList("sources", real, spliced, ["--sources", "other.ivf:-", "--cache", "3"], ivf(WIDTH, HEIGHT, other))
     yield RequestList("40 insertions and 14 frames", ivf(16, 16, [KEY]), many)
+    yield RequestList("hidden packets", real, ["frame 2", "hide 2", *frames(1, 2), "packet 2", "show 2", "script trim 0 1 2", "script", "hide 99", *frames(0, 1), "hide 0", "stats"])
     yield RequestList("broken packets", bad, [*frames(0, 1, 2, 3, 4), "hold 1", "delete 2", *frames(1, 2, 4), "play", "frame", "stats"])
     yield RequestList("a file that is cut off", real[:-3], [*frames(0, 8), "stats"])
     yield RequestList("tables", real, [*frames(0, 4), "hold 2", "frame 4"], ["--tables", "tables.bin"])
@@ -116,7 +118,7 @@ def worked_lists(clip, other):
 def random_line(choose, count, clip, other):
     """A random line, mostly one that is not refused, and the number of packets after it."""
     at = choose.randrange(count + 1)
-    kind = choose.choice(["frame"] * 8 + ["insert", "replace", "delete", "move", "blank", "hold", "script", "stats"])
+    kind = choose.choice(["frame"] * 8 + ["insert", "replace", "delete", "move", "blank", "hold", "hide", "show", "script", "stats"])
     packet = hex_of(choose.choice(clip + other + [b"", KEY, INTER]))
     if kind == "insert":
         return f"insert {at} {choose.randrange(99)} {packet}", count + 1
@@ -130,6 +132,8 @@ def random_line(choose, count, clip, other):
         return f"blank {at} {choose.choice([WIDTH, 16])} {choose.choice([HEIGHT, 16])}", count + 1
     if kind == "hold":
         return f"hold {at}", count + 1
+    if kind in ("hide", "show"):
+        return f"{kind} {at}", count
     if kind == "script":
         first, number, level = choose.randrange(4), choose.randrange(1, 9), choose.randrange(257)
         return choose.choice(["script -", f"script fade 0 {first} {number} {level} 256", f"script trim 0 {first} {number}; splice 1 0", "script crop 0 2 2 12 10"]), count

@@ -33,6 +33,8 @@ def random_edit(choose, stream, sources):
             lambda: stream.copy(choose.randrange(sources + 1), choose.randrange(14), at),
             lambda: stream.blank(at, choose.randrange(34), 17),
             lambda: stream.hold(at),
+            lambda: stream.hide(at),
+            lambda: stream.show(at),
             lambda: stream.use(choose.randrange(sources + 1)),
             lambda: stream.script(Script().trim(0, choose.randrange(5), 100)),
         ]
@@ -55,6 +57,27 @@ def state(stream, sources):
 
 class Undo(Case):
     LIMIT = 40
+
+    def test_a_packet_is_hidden_and_shown(self):
+        packets = packets_of(SMALL)
+        with self.session() as stream:
+            pictures = [stream.frame(n).i420() for n in range(12)]
+            self.assertEqual(stream.hide(3), 12)
+            hidden = bytes([packets[3][0] & 0xEF]) + packets[3][1:]
+            self.assertEqual(stream.packet(3), hidden)
+            self.assertEqual(stream.request("packet 3").split()[2], hidden.hex())
+            self.assertEqual([stream.frame(n).i420() for n in range(stream.count().frames)], pictures[:3] + pictures[4:])
+            self.assertEqual(stream.undo(), ["hide 3"])
+            self.assertEqual([stream.frame(n).i420() for n in range(12)], pictures)
+            self.assertEqual(stream.redo(), ["hide 3"])
+            self.assertEqual(stream.show(3), 12)
+            self.assertEqual([stream.packet(n) for n in range(12)], packets)
+            self.assertEqual(stream.request("script"), "script -")
+            self.assertEqual(list(stream.edits), ["hide 3", "show 3"])
+            stream.replace(0, b"\1")
+            with self.assertRaises(Refused) as refused:
+                stream.hide(0)
+            self.assertEqual(refused.exception.word, "NoBit")
 
     def test_an_edit_is_taken_back_and_made_again(self):
         packets = packets_of(SMALL)

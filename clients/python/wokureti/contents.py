@@ -91,6 +91,11 @@ class Contents:
             source, index, at = numbers
             copied = self.streams[source][index]
             return self.perform(Operation("insert", (at,), self.make(self.stamp(copied), self.root(copied), copied)))
+        if word in ("hide", "show"):
+            packet = self.streams[self.current][numbers[0]]
+            first, *rest = self.bytes(packet)
+            data = bytes((first | 16 if word == "show" else first & ~16, *rest))
+            return self.perform(Operation("replace", numbers, self.make(self.stamp(packet), data, packet)))
         if word in ("blank", "hold"):
             at, *size = numbers
             return self.perform(Operation("insert", (at,), self.forge_at(word, at, size)))

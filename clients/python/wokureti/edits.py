@@ -19,7 +19,7 @@ from .errors import OtherStream, Refused, sentence
 from .files import write_whole
 
 # The requests that are not edits, and the first word of their replies. The reply to an edit begins with `ok`.
-REPLIES = {"frame": "served", "count": "packets", "stats": "decoded"}
+REPLIES = {"frame": "served", "count": "packets", "stats": "decoded", "packet": "packet"}
 STEP = re.compile(r"# step (\d{1,9})(?: (.*))?")
 STREAM = re.compile(r"# wokureti: edits of (\d+) packets, (\d+) bytes, sha256 ([0-9a-f]{64})")
 # Characters of the title of a step.
@@ -33,8 +33,15 @@ def words_of(line):
 
 def is_edit(line):
     """Whether a line of a list is an edit, and not a comment or another request."""
-    word = words_of(line).split(" ")[0]
-    return bool(word) and not word.startswith("#") and word not in REPLIES
+    words = words_of(line)
+    word = words.split(" ")[0]
+    return bool(word) and not word.startswith("#") and word not in REPLIES and words != "script"
+
+
+def begins_reply(line):
+    """The first word of the reply to a line, if it is not refused. `script` alone asks for the script."""
+    words = words_of(line)
+    return "script" if words == "script" else REPLIES.get(words.split(" ")[0], "ok")
 
 
 class Entry:

@@ -11,6 +11,7 @@ import time
 
 from . import adding, exports, ivf, muxing, records, repair
 from .clipboard import Clipboard, Gone, numbers_of, runs_of
+from .edits import is_edit
 from .errors import Ended, Refused
 from .frames import MARK
 from .proposals import Proposals
@@ -661,7 +662,7 @@ def checked_lines(members):
     if len(lines) > MOST_LINES:
         raise Refuse(400, f"a step has at most {MOST_LINES} edits")
     for line in lines:
-        if not isinstance(line, str) or "\n" in line or "\r" in line or line.strip(" ").split(" ")[0] not in EDITS:
+        if not isinstance(line, str) or "\n" in line or "\r" in line or line.strip(" ").split(" ")[0] not in EDITS or not is_edit(line):
             raise Refuse(400, "lines are edits")
     return lines
 

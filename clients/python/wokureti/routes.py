@@ -6,6 +6,7 @@ import re
 import time
 
 from . import png, ranges
+from .edits import is_edit
 from .errors import Ended, Lost, Refused, sentence
 from .frames import frame_of
 from .outcomes import TooMany
@@ -252,7 +253,7 @@ def parse_change(body):
         raise Refuse(400, "revision is a number")
     line = members["line"]
     word = line.strip(" ").split(" ")[0]
-    if word not in (*EDITS, *WORDS) or (word in WORDS and line != word):
+    if word not in (*EDITS, *WORDS) or (word in WORDS and line != word) or (word in EDITS and not is_edit(line)):
         raise Refuse(400, f"the line is an edit, or {', '.join(WORDS)}")
     return line, revision
 

@@ -9,7 +9,7 @@ import time
 from typing import Any, Callable, Iterable, Iterator, NamedTuple, Optional, Union
 
 from . import checks, muxing, programs
-from .edits import REPLIES, EditList, words_of
+from .edits import EditList, begins_reply, is_edit, words_of
 from .errors import Ended, Refused
 from .frames import Frame, frame_of
 from .inputs import Inputs
@@ -19,7 +19,7 @@ from .scripts import Script
 
 AnyPath = Union[str, bytes, "os.PathLike[str]", "os.PathLike[bytes]"]
 AnyBytes = Union[bytes, bytearray, memoryview]
-EDITS = frozenset(("use", "insert", "replace", "delete", "move", "copy", "blank", "hold", "script"))
+EDITS = frozenset(("use", "insert", "replace", "delete", "move", "copy", "blank", "hold", "hide", "show", "script"))
 # Lines and bytes that are sent at a time, at most.
 MOST_LINES, MOST_BYTES = 500, 1 << 18
 # Bytes of pictures that the program caches where nothing else is said.
@@ -238,7 +238,7 @@ class Session:
             [(reply, picture)] = self._exchange(text, deadline=deadline)
             if reply.startswith("refused "):
                 raise self._refused(reply, self._lines, deadline)
-            if line.split()[0] in EDITS:
+            if is_edit(line) and line.split()[0] in EDITS:
                 if self.on_edit is not None:
                     self.on_edit(line)
                 if listed:
@@ -354,6 +354,14 @@ class Session:
         """Inserts a packet that shows the last picture again."""
         return self._number(f"hold {checks.number(at)}", timeout)
 
+    def hide(self, at: int, timeout: Optional[float] = None) -> int:
+        """Clears the show bit of a packet: it is decoded as before, and no frame shows it."""
+        return self._number(f"hide {checks.number(at)}", timeout)
+
+    def show(self, at: int, timeout: Optional[float] = None) -> int:
+        """Sets the show bit of a packet: a frame shows it."""
+        return self._number(f"show {checks.number(at)}", timeout)
+
     def script(self, *nodes: Union[str, Script], timeout: Optional[float] = None) -> int:
         """Sets the script: a `Script`, or a text for each node, as `script("trim 0 0 50", "fade 1 25 25 256 0")`; none: no script."""
         return self._number("script " + ("; ".join(map(checks.node, nodes)) or "-"), timeout)
@@ -465,8 +473,7 @@ def batches(lines):
 
 def is_reply(reply, line):
     """Whether a reply may be that of a line: a refusal, or one that begins as this request's does."""
-    word = line.strip(b" \r").split(b" ")[0].decode(errors="replace")
-    return reply.split(" ")[0] in ("refused", REPLIES.get(word, "ok"))
+    return reply.split(" ")[0] in ("refused", begins_reply(line.decode(errors="replace")))
 
 
 def _shown(text):
