@@ -20,12 +20,17 @@ import tempfile
 
 from library.corrupt import padded, verdicts
 from library.damage import damage
-from library.headers import facts
+from library.headers import copies_of, facts
 from library.ivf import has_key_tag, is_shown, records, size_of
 from library.programs import VP8LIST, real_streams
 
-# Findings that are damage begin with one of these after their place; all others are notes.
-DAMAGE = ("refused", "first partition", "token partition", "record")
+# Findings that are damage begin so after their place; all others are notes.
+DAMAGE = re.compile(r"refused|first partition|token partition|record|time stamp \d+ follows")
+
+
+class Damage(str):
+    """A finding that is damage in its stream, and may be a note in another."""
+
 
 
 def run_before_key(packets):
@@ -48,11 +53,19 @@ def refusals(packets):
     return found
 
 
+def pace_of(rows):
+    """The median step between shown packets, and whether it is constant: 16 steps or more, which are all this one except for up to three in a row."""
+    shown = [stamp for stamp, packet in rows if is_shown(packet)]
+    steps = [after - before for before, after in zip(shown, shown[1:])]
+    forward = sorted(step for step in steps if step > 0)
+    step = forward[(len(forward) - 1) // 2] if forward else 1
+    odd = [place for place, own in enumerate(steps) if own != step]
+    return step, len(steps) >= 16 and (not odd or odd[-1] - odd[0] <= 2)
+
+
 def stamp_lines(rows):
     """The findings about time stamps, by index."""
-    shown = [stamp for stamp, packet in rows if is_shown(packet)]
-    steps = sorted(after - before for before, after in zip(shown, shown[1:]) if after > before)
-    step = steps[(len(steps) - 1) // 2] if steps else 1
+    step, is_constant = pace_of(rows)
     last = even = None
     found = {}
     for place, (stamp, packet) in enumerate(rows):
@@ -60,8 +73,10 @@ def stamp_lines(rows):
             if last and stamp < last[0]:
                 found[place] = f"time stamp {stamp} goes back from {last[0]}"
             continue
+        if is_constant and last and not has_key_tag(packet) and stamp not in (last[0], last[0] + step):
+            found[place] = f"time stamp {stamp} follows {last[0]}, all other steps are {step}"
         expected = last is None or any(0 < stamp - before < (place - at + 1) * step for before, at in (last, even))
-        if not expected:
+        if not expected and place not in found:
             if stamp == last[0]:
                 found[place] = f"time stamp {stamp} repeats"
             else:
@@ -81,7 +96,27 @@ def first_size(packets):
 
 def line_of(found):
     """The line of a finding: damage, or a note."""
-    return ("damage: " if re.sub(r"^packet \d+: ", "", found).startswith(DAMAGE) else "note: ") + found
+    is_damage = isinstance(found, Damage) or DAMAGE.match(re.sub(r"^packet \d+: ", "", found))
+    return ("damage: " if is_damage else "note: ") + found
+
+
+def copy_lines(packets, lost):
+    """The findings about copies of no reference, by index: those of golden, and those of altref."""
+    numbers = {place: copies_of(packet) for place, packet in enumerate(packets) if place not in lost}
+    return [
+        {place: f"{field} 3, at which vpxdec ends" for place, found in numbers.items() if found[which] == 3}
+        for which, field in enumerate(("copy_buffer_to_golden", "copy_buffer_to_arf"))
+    ]
+
+
+TWICE = "the next packet has the same bytes and time stamp"
+
+
+def repeated(rows):
+    """The findings about packets that come twice, by index of the first."""
+    is_constant = pace_of(rows)[1]
+    pairs = enumerate(zip(rows, rows[1:]))
+    return {place: (Damage if is_constant and not has_key_tag(one[1]) else str)(TWICE) for place, (one, other) in pairs if one == other and one[1]}
 
 
 def size_lines(packets):
@@ -115,16 +150,18 @@ def findings(text):
     rate, scale = struct.unpack_from("<II", text, 16)
     if not rate or not scale:
         yield f"header: rate {rate}, scale {scale}"
-    refused, stamps, sizes = refusals(packets), stamp_lines(rows), size_lines(packets)
+    refused = refusals(packets)
+    lost = {n for place in refused for n in range(place, place + 1 + len(run_before_key(packets[place + 1 :])))}
+    around = [*copy_lines(packets, lost), repeated(rows), stamp_lines(rows), size_lines(packets)]
     for place, packet in enumerate(packets):
         rest = run_before_key(packets[place + 1 :])
         if place in refused:
             yield f"packet {place}: refused {refused[place]}, packets lost with it: {len(rest)}"
         if not packet:
             yield f"packet {place}: no bytes, at which vpxdec ends"
-        for found in stamps, sizes:
+        for found in around:
             if place in found:
-                yield f"packet {place}: {found[place]}"
+                yield type(found[place])(f"packet {place}: {found[place]}")
         if not is_shown(packet) and not any(map(is_shown, rest)):
             yield f"packet {place}: hidden, never shown"
     begins = struct.unpack_from("<H", text, 6)[0] + sum(12 + len(packet) for packet in packets)

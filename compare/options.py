@@ -207,6 +207,22 @@ def check_full():
             expect(f"a full disk, vp8serve {words}", (done.returncode, done.stderr.decode()), (1, "vp8serve: cannot write\n"))
 
 
+def check_lines_of_messages():
+    """A newline of a path or of a file is no line of a message."""
+    name = "..\nline 9: x"
+    expect("a path of two lines", ran(name), (2, "", "vp8list: cannot read ..?line 9: x\n"))
+    with tempfile.TemporaryDirectory() as folder:
+        texts = {"a\nb.webm": b"\x1a\x45\xdf\xa3" + bytes(40), "c\nd.ivf": b"DKIF\0\0\x20\0V\nX8\x10\0\x10\0\x1e\0\0\0\x01" + bytes(11)}
+        for name, text in texts.items():
+            (pathlib.Path(folder) / name).write_bytes(text)
+        done = subprocess.run([LIST, "a\nb.webm"], cwd=folder, capture_output=True, timeout=60, check=False)
+        said = "vp8list: input Magic\na?b.webm is a WebM or Matroska file: ffmpeg -i a?b.webm -an -c copy -copyts out.ivf\n"
+        expect("a WebM file of two lines", (done.returncode, done.stdout, done.stderr.decode()), (2, b"", said))
+        done = subprocess.run([SERVE, "c\nd.ivf", "--explain"], cwd=folder, input=b"", capture_output=True, timeout=60, check=False)
+        said = "c?d.ivf has the codec V?X8, not VP80, and has to be coded again, which changes each frame: ffmpeg -i c?d.ivf -an -c:v libvpx out.ivf"
+        expect("a codec of two lines", (done.returncode, done.stderr.decode().splitlines()), (1, ["vp8serve: input FourCc", said]))
+
+
 def check_help():
     status, text, errors = ran("--help")
     expect("--help", (status, errors, "--macroblocks" in text, "Exit status" in text), (0, "", True, True))
@@ -223,6 +239,7 @@ def main():
     check_help()
     check_errors()
     check_full()
+    check_lines_of_messages()
     print(*wrong, sep="\n", end="\n" if wrong else "")
     return 1 if wrong else 0
 

@@ -20,8 +20,8 @@ PROBABILITIES = (("coeff_prob", "coefficients"), ("y_mode_prob", "y"), ("uv_mode
 def bits_of(frame):
     """The bits of each field: those of the tag and the size by section 9.1, and of each other how many booleans it takes."""
     header = frame.header
-    bits = {"key_frame": 1, "version": 3, "show_frame": 1}
-    bits |= {"width": 14, "height": 14} if header.is_key else {}
+    bits = {"key_frame": 1, "version": 3, "show_frame": 1, "first_part_size": 19}
+    bits |= {"width": 14, "horizontal_scale": 2, "height": 14, "vertical_scale": 2} if header.is_key else {}
     if header.loop_filter_adj_enable:
         bits |= {name: [0] * 4 for name in ("ref_frame_delta", "mb_mode_delta")}
     for (name, *place), count in frame.asked:
@@ -36,9 +36,9 @@ def bits_of(frame):
 def header_of(packet, frame):
     """The fields of a header by their names in RFC 6386, section 19.2."""
     header = frame.header
-    fields = {"packet": packet, "key_frame": int(header.is_key), "version": header.version, "show_frame": header.show_frame}
+    fields = {"packet": packet, "key_frame": int(header.is_key), "version": header.version, "show_frame": header.show_frame, "first_part_size": header.first_size}
     if header.is_key:
-        fields |= {name: getattr(header, name) for name in ("width", "height", "color_space", "clamping_type")}
+        fields |= {name: getattr(header, name) for name in ("width", "horizontal_scale", "height", "vertical_scale", "color_space", "clamping_type")}
     fields["segmentation_enabled"] = header.segmentation_enabled
     if header.segmentation_enabled:
         fields |= {name: getattr(header, name) for name in ("update_mb_segmentation_map", "update_segment_feature_data")}
@@ -55,8 +55,8 @@ def header_of(packet, frame):
     fields |= dict(zip(("y_ac_qi", "y_dc_delta", "y2_dc_delta", "y2_ac_delta", "uv_dc_delta", "uv_ac_delta"), (header.y_ac_qi, *header.deltas)))
     if not header.is_key:
         fields |= {"refresh_golden_frame": header.refresh_golden, "refresh_alternate_frame": header.refresh_altref}
-        fields |= {} if header.refresh_golden else {"copy_buffer_to_golden": header.copy_to_golden % 3}
-        fields |= {} if header.refresh_altref else {"copy_buffer_to_arf": header.copy_to_altref % 3}
+        fields |= {} if header.refresh_golden else {"copy_buffer_to_golden": header.copy_to_golden}
+        fields |= {} if header.refresh_altref else {"copy_buffer_to_arf": header.copy_to_altref}
         fields |= {"sign_bias_golden": frame.context.sign_biases[2], "sign_bias_alternate": frame.context.sign_biases[3]}
     fields["refresh_entropy_probs"] = header.refresh_entropy_probs
     if not header.is_key:

@@ -843,7 +843,7 @@ class Checks(PageCase):
         with open(path, "wb") as file:
             file.writelines(ivf.pieces(ivf.Head(16, 16, 30, 1), len(packets) - 3, packets[:7] + packets[10:]))
         self.serve(path, sources=[SCENES])
-        repairs = self.repairs("stamp_skips")
+        repairs = self.repairs("breaks_step")
         self.assertEqual([repair["name"] for repair in repairs], ["second", "drop", "keep"])
         self.assertEqual(len(repairs[1]["lines"]), 3)
         self.step(*repairs[0]["lines"])
@@ -858,7 +858,7 @@ class Checks(PageCase):
             with open(path, "wb") as file:
                 file.writelines(ivf.pieces(ivf.Head(16, 16, 30, 1), len(others), others))
             self.serve(path)
-            repairs = self.repairs("stamp_repeats" if len(others) > len(packets) else "stamp_skips")
+            repairs = self.repairs("comes_twice" if len(others) > len(packets) else "breaks_step")
             self.step(*repairs[0]["lines"])
             room = self.folder()
             (room / "out.ivf").write_bytes(self.ask("/stream.ivf")[2])

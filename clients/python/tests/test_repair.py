@@ -143,7 +143,9 @@ class Order(RepairCase):
         # One packet with another's time stamp, and repeats with the same one.
         packets = list(self.packets)
         packets[20] = (5, packets[20][1])
-        self.assertEqual(self.run_it(text_of(packets)), (0, ["packet 20: time stamp 5 is another packet's too: it stays"], packets))
+        lines = ["packet 20: time stamp 5 is another packet's too: it stays"]
+        lines += ["packet 20: time stamp 5 follows 19: not mended", "packet 21: time stamp 21 follows 5: not mended"]
+        self.assertEqual(self.run_it(text_of(packets)), (2, lines, packets))
         hold = serve_hold(32, 32)
         packets = self.packets[:50] + 5 * [(49, hold)] + 3 * [(49, b"")] + self.packets[50:]
         self.assertEqual(self.run_it(text_of(packets)), (0, [], packets))

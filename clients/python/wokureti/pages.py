@@ -424,7 +424,7 @@ class PageRoutes(Routes):
         finding["kind"] = request.query.get("kind")
         if finding["packet"] is not None and finding["packet"] >= len(view.streams[0]):
             raise Refuse(404, "there is no such packet")
-        if finding["kind"] == "stamp_skips" and None in finding.values():
+        if finding["kind"] in ("stamp_skips", "breaks_step") and None in finding.values():
             raise Refuse(400, "time stamps that skip have packet, before and stamp")
         found = Proposals(view, self.titles).of(finding)
         return as_json({"revision": view.revision, "repairs": [proposal.members() for proposal in found]})

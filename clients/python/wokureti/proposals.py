@@ -42,10 +42,12 @@ class Proposals:
         elif packet is not None and packet < len(self.stream):
             if kind in BROKEN:
                 found += [*self.seconds(packet), *self.holds(packet, kind), *self.drops(packet), *self.removals(packet)]
-            elif kind == "stamp_skips":
+            elif kind == "stamp_skips" or kind == "breaks_step" and finding["before"] < finding["stamp"]:
                 found += self.of_hole(packet, finding["before"], finding["stamp"])
-            elif kind in ("stamp_repeats", "stamp_goes_back"):
+            elif kind in ("stamp_repeats", "stamp_goes_back", "breaks_step"):
                 found += self.of_doubles(packet)
+            elif kind == "comes_twice" and packet + 1 < len(self.stream):
+                found += self.of_doubles(packet + 1)
         found = [proposal for proposal in found if len(proposal.lines) <= MOST_EDITS]
         return [*found, Proposal("keep", "Keep it as it is", [], packet or 0)]
 

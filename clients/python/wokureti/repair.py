@@ -21,6 +21,8 @@ CONSTANT = 0.8
 MOST_GUESSES = 30
 # What a kind of finding means.
 DAMAGE = {"past_end": "read past its end", "unread": "not read to its end"}
+# What a kind of finding says of the packets around one.
+AROUND = {"breaks_step": "time stamp {stamp} follows {before}", "comes_twice": "the next packet is the same again"}
 
 
 class NoKeyFrame(ValueError):
@@ -101,8 +103,8 @@ class Repair:
             return {}
         found = {}
         for finding in self.findings():
-            if finding["severity"] == "damage" and finding["packet"] is not None and finding["kind"] != "refused":
-                found.setdefault(finding["packet"], DAMAGE.get(finding["kind"], "damaged"))
+            if finding["packet"] is not None and finding["kind"] in DAMAGE:
+                found.setdefault(finding["packet"], DAMAGE[finding["kind"]])
         return found
 
     def findings(self):
@@ -402,12 +404,14 @@ class Repair:
 
     def check(self):
         """What is still wrong, as vp8list --check says of the packets that are written. Notes do not count."""
-        refused, inside = {}, set()
+        refused, inside, around = {}, set(), {}
         for finding in self.findings():
             if finding["severity"] != "damage" or finding["packet"] is None:
                 continue
             if finding["kind"] == "refused":
                 refused[finding["packet"]] = finding["cause"]
+            elif finding["kind"] in AROUND:
+                around[finding["packet"]] = AROUND[finding["kind"]].format(**finding)
             else:
                 inside.add(finding["packet"])
         for place, cause in sorted(refused.items()):
@@ -416,7 +420,9 @@ class Repair:
         if past:
             names = f"packet {past[0]}" if len(past) == 1 else f"packet {past[0]} and {len(past) - 1} more"
             self.say(f"{names}: damaged inside, so the pictures up to the next key frame are not right: not mended", False)
-        self.left = len(refused) + len(past)
+        for place, text in sorted(around.items()):
+            self.say(f"packet {place}: {text}: not mended", False)
+        self.left = len(refused) + len(past) + len(around)
 
     def need_key(self, second):
         """`NoKeyFrame` if nothing can be decoded: there is nothing to mend from."""

@@ -4,7 +4,7 @@ ghost use Rattle.serve_arguments.specs.Statuses.{argument_fault, fault_of, file_
 
 use crate::files::SameFile;
 use output_files::Unsaved;
-use program_parts::{ArgumentFault, Ending, FileFault};
+use program_parts::{ArgumentFault, Ending, FileFault, InLine};
 use std::fmt;
 use stream_files::IvfFault;
 use thiserror::Error;
@@ -33,10 +33,10 @@ pub enum Fault<'a> {
     #[error("command line: {0}")]
     NamedTwice(SameFile<'a>),
     /// A file cannot be opened, or reading it failed.
-    #[error("cannot read {0}")]
+    #[error("cannot read {path}", path = InLine(*.0))]
     CannotRead(&'a str),
     /// A file has more bytes than are allowed.
-    #[error("{0} is too long")]
+    #[error("{path} is too long", path = InLine(*.0))]
     TooLong(&'a str),
     /// The file of the tables does not have 3012 bytes.
     #[error("tables are not 3012 bytes")]

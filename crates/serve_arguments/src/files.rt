@@ -4,7 +4,7 @@ ghost use Rattle.serve_arguments.specs.CommandLines.{AreApart, argument_name, Is
 
 use crate::fault::Fault;
 use crate::words::Words;
-use program_parts::NO_FILE;
+use program_parts::{InLine, NO_FILE};
 use std::alloc::{AllocError, Global};
 use std::fmt;
 
@@ -80,7 +80,7 @@ impl fmt::Display for SameFile<'_> {
     fn fmt<W: fmt::Write>(&self, f: &mut fmt::Formatter<W>) -> fmt::Result {
         let written = self.written.name();
         let other = self.other.name();
-        let path = self.path;
+        let path = InLine(self.path);
         let content = self.written.content();
         match self.other {
             Argument::Replies => write!(

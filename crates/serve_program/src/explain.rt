@@ -7,7 +7,7 @@ ghost use Rattle.std.specs.List.{list_any};
 use crate::messages::Messages;
 use explanations::{CutRecord, StreamReason, cut_record, stream_reason};
 use output_files::{Taken, Unsaved};
-use program_parts::{Format, NO_FILE, write_format};
+use program_parts::{Format, InLine, NO_FILE, write_format};
 use serve_arguments::{Fault, Words, parse};
 use std::convert::AsStr;
 use std::fs::{self, File};
@@ -120,15 +120,16 @@ fn explain_unread<R: Files + AllocGlobal, E: Write>(
     path: &str,
     messages: &mut Messages<'_, E>,
 ) -> io::Result<()> {
+    let shown = InLine(path);
     if path != NO_FILE && !is_read_once(rt, path) {
         if let Err(error) = probe(rt, path) {
-            return writeln!(messages.errors, "{path}: {error}");
+            return writeln!(messages.errors, "{shown}: {error}");
         }
     }
     if is_live(words, path) {
         return explain_unanswered("reading it failed", messages);
     }
-    writeln!(messages.errors, "{path}: reading it failed")
+    writeln!(messages.errors, "{shown}: reading it failed")
 }
 
 /// Whether this is a pipe or a device: its bytes may be gone, and opening a pipe may wait for a writer.
@@ -141,9 +142,10 @@ fn is_read_once<R: Files>(rt: &R, path: &str) -> bool {
 
 /// Says that a pipe or a device is not looked at.
 fn explain_read_once<E: Write>(path: &str, errors: &mut E) -> io::Result<()> {
+    let shown = InLine(path);
     writeln!(
         errors,
-        "{path} is a pipe or a device and is not read again: copy it to a file, and try that"
+        "{shown} is a pipe or a device and is not read again: copy it to a file, and try that"
     )
 }
 
@@ -172,7 +174,8 @@ fn explain_long<E: Write>(
     if is_live(words, path) {
         return explain_unanswered("it has more than 1073741824 bytes", messages);
     }
-    writeln!(messages.errors, "{path} has more than 1073741824 bytes")
+    let shown = InLine(path);
+    writeln!(messages.errors, "{shown} has more than 1073741824 bytes")
 }
 
 /// Explains what the file of the tables is.
@@ -187,13 +190,14 @@ fn explain_tables<R: Files + AllocGlobal, E: Write>(
     if is_read_once(rt, path) {
         return explain_read_once(path, messages.errors);
     }
+    let shown = InLine(path);
     let mut file = File::open(rt, path)?;
     match read_all(rt.alloc(), &mut file, 1_073_741_824) {
         Ok(bytes) => {
             let count = bytes.len();
-            writeln!(messages.errors, "{path} has {count} bytes")
+            writeln!(messages.errors, "{shown} has {count} bytes")
         }
-        Err(_) => writeln!(messages.errors, "{path} has too many bytes"),
+        Err(_) => writeln!(messages.errors, "{shown} has too many bytes"),
     }
 }
 
@@ -233,35 +237,36 @@ fn explain_head<E: Write>(
     fault: IvfFault,
     messages: &mut Messages<'_, E>,
 ) -> io::Result<()> {
+    let shown = InLine(path);
     match stream_reason(head, fault) {
         StreamReason::Other(format) => explain_format(path, format, messages.errors),
         StreamReason::Gzip => writeln!(
             messages.errors,
-            "{path} is compressed by gzip: gzip -dc {path} > out.ivf"
+            "{shown} is compressed by gzip: gzip -dc {shown} > out.ivf"
         ),
         StreamReason::Zeros => writeln!(
             messages.errors,
-            "{path} begins with zeros: its first bytes, where an IVF file says DKIF, are lost or were never written"
+            "{shown} begins with zeros: its first bytes, where an IVF file says DKIF, are lost or were never written"
         ),
         StreamReason::Text => writeln!(
             messages.errors,
-            "{path} begins as a text: IN, the IVF file, is the first argument, REQUESTS the second"
+            "{shown} begins as a text: IN, the IVF file, is the first argument, REQUESTS the second"
         ),
         StreamReason::Codec => explain_codec(path, head, messages),
         StreamReason::Short => writeln!(
             messages.errors,
-            "{path} has {} bytes, an IVF header 32",
+            "{shown} has {} bytes, an IVF header 32",
             head.len()
         ),
         StreamReason::NoIvf => explain_unknown(path, messages.errors),
         StreamReason::HeaderLength(length) => writeln!(
             messages.errors,
-            "{path} claims a header of {length} bytes, not 32 to the length of the file"
+            "{shown} claims a header of {length} bytes, not 32 to the length of the file"
         ),
-        StreamReason::TooMany => writeln!(messages.errors, "{path} has more than 1048576 packets"),
+        StreamReason::TooMany => writeln!(messages.errors, "{shown} has more than 1048576 packets"),
         StreamReason::NoMemory => writeln!(
             messages.errors,
-            "{path}: out of memory for its packets"
+            "{shown}: out of memory for its packets"
         ),
     }
 }
@@ -280,13 +285,14 @@ fn explain_format<E: Write>(path: &str, format: Format, errors: &mut E) -> io::R
 
 /// Explains how the packets of a file of an unknown format become an IVF file.
 fn explain_unknown<E: Write>(path: &str, errors: &mut E) -> io::Result<()> {
+    let shown = InLine(path);
     writeln!(
         errors,
-        "{path} is not an IVF file, it does not begin with DKIF; if its video is VP8: ffmpeg -i {path} -an -c copy out.ivf"
+        "{shown} is not an IVF file, it does not begin with DKIF; if its video is VP8: ffmpeg -i {shown} -an -c copy out.ivf"
     )?;
     writeln!(
         errors,
-        "any other video has to be coded again, which changes each frame: ffmpeg -i {path} -an -c:v libvpx out.ivf"
+        "any other video has to be coded again, which changes each frame: ffmpeg -i {shown} -an -c:v libvpx out.ivf"
     )
 }
 
@@ -297,10 +303,11 @@ fn explain_codec<E: Write>(
     messages: &mut Messages<'_, E>,
 ) -> io::Result<()> {
     let codec = head.get(8..12).unwrap_or(b"");
-    let codec = str::from_utf8(codec).unwrap_or("unknown");
+    let codec = InLine(str::from_utf8(codec).unwrap_or("unknown"));
+    let shown = InLine(path);
     writeln!(
         messages.errors,
-        "{path} has the codec {codec}, not VP80, and has to be coded again, which changes each frame: ffmpeg -i {path} -an -c:v libvpx out.ivf"
+        "{shown} has the codec {codec}, not VP80, and has to be coded again, which changes each frame: ffmpeg -i {shown} -an -c:v libvpx out.ivf"
     )
 }
 
@@ -310,12 +317,13 @@ fn explain_unwritten<E: Write>(words: Words<'_>, messages: &mut Messages<'_, E>)
         return explain_unsaved_file(words.saved.unwrap_or(NO_FILE), why, messages.errors);
     }
     let path = words.frames;
+    let shown = InLine(path);
     if let Some(error) = messages.refused {
-        return writeln!(messages.errors, "OUT {path} cannot be created: {error}");
+        return writeln!(messages.errors, "OUT {shown} cannot be created: {error}");
     }
     writeln!(
         messages.errors,
-        "standard output or OUT {path} takes no more bytes: its reader has gone, or the disk is full"
+        "standard output or OUT {shown} takes no more bytes: its reader has gone, or the disk is full"
     )?;
     match messages.taken {
         Some(taken) => explain_taken(path, taken, messages),
@@ -329,11 +337,12 @@ fn explain_taken<E: Write>(
     taken: Taken,
     messages: &mut Messages<'_, E>,
 ) -> io::Result<()> {
+    let shown = InLine(path);
     match messages.whole_frames(taken) {
-        Some(count) => writeln!(messages.errors, "OUT {path} took {count} whole frames"),
+        Some(count) => writeln!(messages.errors, "OUT {shown} took {count} whole frames"),
         None => writeln!(
             messages.errors,
-            "OUT {path} took {} bytes, at most one frame",
+            "OUT {shown} took {} bytes, at most one frame",
             taken.bytes
         ),
     }
@@ -341,15 +350,16 @@ fn explain_taken<E: Write>(
 
 /// Explains why the packets were not saved.
 fn explain_unsaved_file<E: Write>(path: &str, why: Unsaved, errors: &mut E) -> io::Result<()> {
+    let shown = InLine(path);
     match why {
-        Unsaved::Make(error) => writeln!(errors, "--save {path} cannot be created: {error}"),
+        Unsaved::Make(error) => writeln!(errors, "--save {shown} cannot be created: {error}"),
         Unsaved::Write | Unsaved::NoMemory => writeln!(
             errors,
-            "--save {path} was not written: the disk may be full. A file that was there is as it was"
+            "--save {shown} was not written: the disk may be full. A file that was there is as it was"
         ),
         Unsaved::Sync(error) | Unsaved::Rename(error) => writeln!(
             errors,
-            "--save {path} was not written: {error}. A file that was there is as it was"
+            "--save {shown} was not written: {error}. A file that was there is as it was"
         ),
     }
 }
@@ -412,14 +422,15 @@ fn write_cut<E: Write>(
         size,
     } = cut;
     let left = length.saturating_sub(begins);
+    let shown = InLine(path);
     match size {
         Some(size) => writeln!(
             errors,
-            "{path}: record {number} begins at byte {begins} and claims 12 + {size} bytes, {left} are left"
+            "{shown}: record {number} begins at byte {begins} and claims 12 + {size} bytes, {left} are left"
         ),
         None => writeln!(
             errors,
-            "{path}: record {number} begins at byte {begins}, {left} bytes are left"
+            "{shown}: record {number} begins at byte {begins}, {left} bytes are left"
         ),
     }
 }

@@ -33,6 +33,12 @@ export function sentence(finding) {
       return `${where}: no bytes, which libvpx calls corrupt`;
     case "no_bytes":
       return "no bytes, at which vpxdec ends";
+    case "comes_twice":
+      return "the next packet has the same bytes and time stamp";
+    case "copies_none":
+      return `${finding.field} 3, at which vpxdec ends`;
+    case "breaks_step":
+      return `time stamp ${finding.stamp} follows ${finding.before}, all other steps are ${finding.step}`;
     case "stamp_repeats":
       return `time stamp ${finding.stamp} repeats`;
     case "stamp_goes_back":
