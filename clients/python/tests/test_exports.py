@@ -169,7 +169,7 @@ class OnThePage(test_page.PageCase):
     def test_a_webm_file_stays_one(self):
         source = clip("talk.webm")
         room = self.folder()
-        self.serve(convert.as_ivf(source, str(room)), stems=[str(room / "talk")])
+        self.serve(convert.as_ivf(source, str(room), is_quiet=True), stems=[str(room / "talk")])
         self.assertEqual(self.members("/session")["rate"], [25, 1])
         self.assertEqual(self.members("/session")["saves"][0]["next"], str(room / "talk-edited.webm"))
         self.step("delete 60")
