@@ -146,7 +146,15 @@ pub fn insert_hold(session: &mut Session, at: u64) -> Result<u64, Refusal> {
     }
 }
 
-/// Inserts a packet and two forged ones.
+/// Sets a show bit, or clears it.
+fn set_show_bit(session: &mut Session, at: u64, shown: bool) -> Result<u64, Refusal> {
+    match session.edit(Edit::ShowBit { at, shown }) {
+        Err(Refusal::NoMemory) => session.edit(Edit::ShowBit { at, shown }),
+        set => set,
+    }
+}
+
+/// Inserts a packet and two forged ones, and hides one.
 pub fn insert_all<O: Write>(
     alloc: Global,
     session: &mut Session,
@@ -159,7 +167,12 @@ pub fn insert_all<O: Write>(
     print_count(output, "a blank frame inserted", session)?;
     insert_hold(session, 6)?;
     print_count(output, "a repeat inserted", session)?;
-    print_frame(output, "frame 6", session, 6)
+    print_frame(output, "frame 6", session, 6)?;
+    set_show_bit(session, 1, false)?;
+    print_count(output, "a packet hidden", session)?;
+    print_frame(output, "frame 5", session, 5)?;
+    set_show_bit(session, 1, true)?;
+    print_count(output, "a packet shown", session)
 }
 
 /// Sets a script.
