@@ -217,7 +217,7 @@ def verify(is_proved):
             if sum_of(objects[name, cpu]) != dist[f"object file of {name} for {cpu}"]:
                 raise Failed(f"the object file of {name} for {cpu} is not the one of dist/")
         if linked.c_library() != dist["C library"]:
-            say("the four object files are those of dist/, byte for byte; the programs are not linked again, since this machine's C library is another one")
+            say("the four object files are those of dist/, byte for byte; the programs and the library are not linked again, since this machine's C library is another one")
             return 0
         programs = link_all(objects, room)
         for name, cpu in programs:

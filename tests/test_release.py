@@ -103,10 +103,12 @@ def check_pip(folder, wheel):
         print("skipped: pip install of the wheel: there is no venv with pip")
         return
     expect("pip install", ran(prefix / "bin/pip", "install", "-q", "--no-index", "--disable-pip-version-check", wheel)[0], 0)
-    environment = {name: value for name, value in os.environ.items() if name not in ("VP8SERVE", "VP8LIST", "PYTHONPATH")}
+    environment = {name: value for name, value in os.environ.items() if name not in ("VP8SERVE", "VP8LIST", "LIBWOKURETI", "PYTHONPATH")}
     check_installed(prefix, environment)
     check_launcher(prefix)
     expect("a session of the installed client", ran(prefix / "bin/python", "-c", SESSION, env=environment, cwd=folder)[:2], (0, f"{VERSION} 48 320 180\n"))
+    within = SESSION.replace("Session(", "Session(engine='library', stream=", 1)
+    expect("a session by the installed library", ran(prefix / "bin/python", "-c", within, env=environment, cwd=folder)[:2], (0, f"{VERSION} 48 320 180\n"))
     expect("pip uninstall", ran(prefix / "bin/pip", "uninstall", "-q", "-y", "wokureti")[0], 0)
     expect("what is left", [path.name for path in (prefix / "bin").iterdir() if path.name in COMMANDS], [])
 
