@@ -5,7 +5,7 @@ Without an option it proves the crates that the two programs need, builds both f
 bin/wokureti, which starts the Python client. It works on a copy of these crates outside the checkout, so it can be interrupted: what was
 proved by then is kept. If nothing has changed since the last time, it does nothing.
 
-  --ready   puts the programs of dist/ into bin/, if no newer ones are there, and says which ones bin/ has; only without dist/ it builds.
+  --ready   puts the programs and the library of dist/ into bin/, if no newer ones are there, and says which ones bin/ has; only without dist/ it builds.
             Its messages name SCRIPT, which called it
   --verify  builds both programs for both processors, and compares them with those of dist/ byte for byte, if dist/ is of these sources.
             With --built they are taken from crates/, where `rt ci` has proved them
@@ -135,7 +135,7 @@ def ready(cpu):
             return build(cpu)
         is_newer = dist and dist["sources"] == sources
         if is_newer or not there or (there["origin"] == "dist" and (there["version"], there["processor"]) != (dist.get("version"), cpu)):
-            files = {name: wheel.program(dist["version"], name, cpu) for name in PROGRAMS}
+            files = {name: wheel.program(dist["version"], name, cpu) for name in (*PROGRAMS, wheel.LIBRARY)}
             there = {"sources": dist["sources"], "version": dist["version"], "date": dist["date"], "origin": "dist"}
             place(files, cpu, there)
     how = "as it was proved and built on" if there["origin"] == "dist" else "as it was proved and built here on"
