@@ -1,5 +1,5 @@
 -- Each request list has a meaning in which nothing is out of memory.
-use Rattle.std.proofs.Common.{◌≡◌, ◌≢◌, All, ℕ, zero, suc, List, [], ◌∷◌, Bool, true, false, cond, Option, Some, None, Result, Ok, Err, get_or, length, option_map, slice_get, refl, ap, arith}
+use Rattle.std.proofs.Common.{◌≡◌, ◌≢◌, All, ℕ, zero, suc, ◌-◌, List, [], ◌∷◌, Bool, true, false, cond, Option, Some, None, Result, Ok, Err, get_or, length, option_map, slice_get, refl, ap, arith}
 use Rattle.std.specs.Option.{option_map_or}
 use Rattle.std.proofs.lemmas.List.Elements.{All-head, All-tail}
 use Rattle.script_nodes.specs.declared.faults.ScriptFault.TheVariants as scripts
@@ -30,6 +30,7 @@ use Rattle.show_bits.specs.ShowBits.{has_show_bit}
 use Rattle.vp8_tables.specs.declared.tables.Tables.{Tables}
 use Rattle.frame_session.proofs.Forging.{blank_lacks_none, held_lacks_none}
 use Rattle.frame_session.specs.Edits.{WrittenAnswers, edit_of, hold_bytes_at, refusal_by, refused_forged, count_unless}
+use Rattle.frame_session.specs.Origins.{lines_reply, origins_from}
 use Rattle.frame_session.specs.Questions.{answer_to}
 use Rattle.frame_session.specs.Replies.{refused_line, served_line, ok_line, edit_line, count_line, packet_line, script_line, stats_line}
 use Rattle.frame_session.specs.Scripts.{script_reported}
@@ -215,6 +216,11 @@ packet_told (Some entry) e = begins_otherwise (packet_line entry.stamp entry.byt
 question_told : (old : Now) (question : Question) → answer_to old question ≡ refused_line refusals.NoMemory → ⊥
 question_told old (questions.Packet at) e = packet_told (slice_get (current_list old).entries at) e
 question_told old questions.Script e = begins_otherwise (script_line old.script) refusals.NoMemory (λ h. omega (arith, h)) e
+question_told old (questions.Origins first count) e = by_count (nat_lt (frame_count old) first) e
+  where
+    by_count : (past : Bool) → cond past (refused_line refusals.NoSuchFrame) (lines_reply (origins_from old first (min count (frame_count old - first)))) ≡ refused_line refusals.NoMemory → ⊥
+    by_count true same = refusal_told refusals.NoSuchFrame (λ h. cc) same
+    by_count false same = begins_otherwise (lines_reply (origins_from old first (min count (frame_count old - first)))) refusals.NoMemory (λ h. omega (arith, h)) same
 
 -- an answer to one line, other than `refused NoMemory`, and the state after it
 pub record HasAnswer (old : Now) (line : Line) : Type 0 where

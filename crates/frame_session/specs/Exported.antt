@@ -1,5 +1,5 @@
 -- The frames of a session as packets.
-use Rattle.std.specs.Prelude.{◌≡◌, ℕ, ◌+◌, ◌==◌, ◌&&◌, Bool, true, List, [], ◌∷◌, map, length, slice_get, Some, None, Ok}
+use Rattle.std.specs.Prelude.{◌≡◌, ℕ, ◌+◌, true, List, [], ◌∷◌, map, length, slice_get, Some, None, Ok}
 use Rattle.std.specs.List.{list_all}
 use Rattle.pixel_planes.specs.Pictures.{PictureSamples}
 use Rattle.vp8_tables.specs.declared.tables.Tables.{Tables}
@@ -8,16 +8,10 @@ use Rattle.lossless_cuts.specs.Exports.{IsDecoded, ShowsExactly}
 use Rattle.lossless_cuts.specs.Plans.{exported}
 use Rattle.lossless_cuts.specs.declared.targets.Target.{Target}
 use Rattle.script_nodes.specs.Frames.{Origin, traced}
+pub use Rattle.script_nodes.specs.NodeSteps.{keeps_samples}
 use Rattle.script_nodes.specs.Shown.{Shown, Shows}
-use Rattle.script_nodes.specs.declared.traces.Step.{Step}
-use Rattle.script_nodes.specs.declared.traces.Step.TheVariants.{Cut, Weigh}
 use Rattle.frame_session.specs.Edits.{list_at}
 use Rattle.frame_session.specs.Sessions.{Now, frame_count, frame_of, shown_counts}
-
--- whether a step changes no sample of a picture of this size: it cuts the whole picture out, or has the whole weight
-abbrev pub keeps_samples : ℕ → ℕ → Step → Bool
-keeps_samples width height (Cut area) = (area.x == 0) && (area.y == 0) && (area.width == width) && (area.height == height)
-keeps_samples width height (Weigh weight) = weight == 256
 
 -- the packets of each source
 abbrev pub streams_in : Now → List (List (List ℕ))

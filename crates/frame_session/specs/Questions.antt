@@ -7,6 +7,7 @@ use Rattle.request_lines.specs.declared.lines.Line.TheVariants as requests
 use Rattle.request_lines.specs.declared.question.Question.{Question}
 use Rattle.request_lines.specs.declared.question.Question.TheVariants as questions
 use Rattle.frame_session.specs.declared.refusal.Refusal.TheVariants as refusals
+use Rattle.frame_session.specs.Origins.{origins_answer}
 use Rattle.frame_session.specs.Replies.{packet_line, refused_line, script_line}
 use Rattle.frame_session.specs.Sessions.{Now, current_list}
 
@@ -18,6 +19,7 @@ packet_answer list at = option_map_or (λ entry. packet_line entry.stamp entry.b
 abbrev pub answer_to : Now → Question → List ℕ
 answer_to now (questions.Packet at) = packet_answer (current_list now) at
 answer_to now questions.Script = script_line now.script
+answer_to now (questions.Origins first count) = origins_answer now first count
 
 -- whether a line only asks: nothing of a session changes, neither packets and marks, nor the script, nor cached outcomes, nor the
 -- number of steps

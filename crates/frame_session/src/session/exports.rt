@@ -10,7 +10,7 @@ use super::Session;
 use crate::refusal::Refusal;
 use lossless_cuts::laws::exports_show_their_frames;
 use lossless_cuts::{CutFault, Target, export_packets, prove_bytes};
-use script_nodes::{Step, Trace};
+use script_nodes::{Trace, keeps_samples};
 use stream_files::{Bytes, MAX_PACKETS};
 use thiserror::Error;
 
@@ -33,21 +33,6 @@ pub enum ExportFault {
 struct Origin {
     target: Target,
     keeps: bool,
-}
-
-/// Whether a step changes no sample of a picture of this size.
-fn keeps_samples(step: &Step, width: u16, height: u16) -> bool
-    ensures { result ≡ keeps_samples width height step.now }
-{
-    match step {
-        Step::Cut(area) => {
-            area.x == 0
-                && area.y == 0
-                && area.width == u64::from(width)
-                && area.height == u64::from(height)
-        }
-        Step::Weigh(weight) => *weight == 256,
-    }
 }
 
 /// Whether no step of a trace does.

@@ -42,6 +42,7 @@ impl Session {
         match question {
             Question::Packet { at } => write_packet_at(w, &self.stores[self.current], at),
             Question::Script => write_script(w, &self.script),
+            Question::Origins { first, count } => self.write_origins(w, first, count),
         }
     }
 }
