@@ -150,6 +150,14 @@ const REFUSED: &[Case] = &[
         answer: Err(ExportFault::Changed { frame: 3 }),
     },
     Case {
+        packets: SIX,
+        script: b"crop 0 8 0 10 4",
+        answer: Err(ExportFault::Frame {
+            frame: 0,
+            refusal: Refusal::CropOutside,
+        }),
+    },
+    Case {
         packets: &[KEY, &[0x11, 0], INTER],
         script: b"trim 0 2 1",
         answer: Err(ExportFault::Frame {

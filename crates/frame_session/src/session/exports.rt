@@ -103,6 +103,9 @@ impl Session {
         prove_bytes(&picture);
         let width = picture.width();
         let height = picture.height();
+        if trace.size(width, height).is_err() {
+            return Err(Refusal::CropOutside);
+        }
         let keeps = keeps_all(&trace, width, height);
         let target = Target {
             source,
