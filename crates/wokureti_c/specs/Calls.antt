@@ -65,9 +65,9 @@ pub record IsRefused (old : SessionValue) (n status : ℕ) (rooms rooms' : Plane
   pub untouched : rooms' ≡ rooms
 
 -- a line is kept with its number and the refusal that its reply reports
-pub record IsKept (number : ℕ) (line reply : List ℕ) (kept : RefusedLine) : Type 0 where
-  pub number : kept.number ≡ number
-  pub line : kept.line.items ≡ line
+pub record IsKept (count : ℕ) (asked reply : List ℕ) (kept : RefusedLine) : Type 0 where
+  pub number : kept.number ≡ count
+  pub line : kept.line.items ≡ asked
   pub told : Tells (Some []) (Some reply) (Some kept.refusal)
 
 -- a request line was answered over a session: its reply is the text that is left, and the bytes of frames that it wrote are given to nobody; the line
