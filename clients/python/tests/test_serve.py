@@ -307,7 +307,7 @@ class Prediction(Case):
     def test_outcomes_are_those_of_the_program(self):
         choose = random.Random(1956)
         compared = refused = 0
-        for turn in range(25):
+        for turn in range(45):
             stream = self.session(choose.choice([SMALL, "-"]), sources=[SMALL, ODD])
             for _ in range(8):
                 edit(choose, stream, 2)
