@@ -135,7 +135,8 @@ def ready(cpu):
             return build(cpu)
         is_newer = dist and dist["sources"] == sources
         if is_newer or not there or (there["origin"] == "dist" and (there["version"], there["processor"]) != (dist.get("version"), cpu)):
-            files = {name: wheel.program(dist["version"], name, cpu) for name in (*PROGRAMS, wheel.LIBRARY)}
+            names = [*PROGRAMS, *([wheel.LIBRARY] if f"{wheel.LIBRARY} for {cpu}" in dist else [])]
+            files = {name: wheel.program(dist["version"], name, cpu) for name in names}
             there = {"sources": dist["sources"], "version": dist["version"], "date": dist["date"], "origin": "dist"}
             place(files, cpu, there)
     how = "as it was proved and built on" if there["origin"] == "dist" else "as it was proved and built here on"
