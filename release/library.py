@@ -83,7 +83,7 @@ def build(room, folder, cpu, is_proved, say):
     folder.mkdir(exist_ok=True)
     for path in fresh.iterdir():
         os.replace(path, folder / path.name)
-    link = folder / "libwokureti.so"
-    link.unlink(missing_ok=True)
-    link.symlink_to(SHARED)
+    name = folder / "libwokureti.so"
+    name.unlink(missing_ok=True)
+    name.symlink_to(SHARED)
     say(f"the library is in {folder}: {SHARED}, {ARCHIVE}, {HEADER.name} and wokureti.pc")
