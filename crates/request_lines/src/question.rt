@@ -5,4 +5,6 @@ pub enum Question {
     Packet { at: u64 },
     /// The current script.
     Script,
+    /// The origins of at most `count` frames of the current script, starting at frame `first`.
+    Origins { first: u64, count: u64 },
 }

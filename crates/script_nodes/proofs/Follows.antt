@@ -56,7 +56,7 @@ lengths_at counts nodes clip e uses some within =
     ∙ built_at (node_length counts) (lengths_local counts) (slice_index counts 0 ∷ []) nodes (clip - 1) 0 e uses (omega arith)
 
 -- a node uses only clips below it
-uses_from : (own : ℕ) (nodes : List Node) (k : ℕ) (e : Node) → all_use_below own nodes ≡ true → k < length nodes → uses_below (own + k) (get_or nodes k e) ≡ true
+pub uses_from : (own : ℕ) (nodes : List Node) (k : ℕ) (e : Node) → all_use_below own nodes ≡ true → k < length nodes → uses_below (own + k) (get_or nodes k e) ≡ true
 uses_from own [] k e uses within = absurd (omega arith)
 uses_from own (node ∷ nodes) zero e uses within = let same : own + 0 ≡ own = omega arith in rw same (both _ _ uses).0
 uses_from own (node ∷ nodes) (suc k) e uses within =

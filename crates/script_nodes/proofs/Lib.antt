@@ -13,3 +13,4 @@ pub mod Applied
 pub mod Followed
 pub mod SameShown
 pub mod ReadBack
+pub mod NodeSteps

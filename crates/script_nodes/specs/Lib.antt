@@ -10,3 +10,5 @@ pub mod Rows
 pub mod Planes
 pub mod Laws
 pub mod Written
+pub mod NodeSteps
+pub mod OriginTexts

@@ -3,6 +3,7 @@
 ghost use Rattle.std.specs.Prelude.{◌≡◌, [], ◌∷◌, codes};
 ghost use Rattle.script_nodes.specs.declared.nodes.Node.TheVariants as nodes;
 ghost use Rattle.script_nodes.specs.Laws.{TracesAreFollowed, WorkedSplice, WorkedFaults, WorkedWeights, RampsMeetTheirEnds, ShownSamplesAreSame};
+ghost use Rattle.script_nodes.specs.NodeSteps.{StepsAreOfNodes};
 ghost use Rattle.script_nodes.specs.Written.{TextsAreReadBack, script_text};
 
 /// A frame of a script is the frame that its trace names, with the steps of the trace applied.
@@ -45,4 +46,9 @@ pub fn ramps_meet_their_ends()
 /// Pictures that show the same have the same shown samples, row by row.
 pub fn shown_samples_are_same()
     ensures { ShownSamplesAreSame }
+{}
+
+/// The steps of the nodes of a frame are the steps of its origin.
+pub fn steps_are_of_nodes()
+    ensures { StepsAreOfNodes }
 {}

@@ -4,7 +4,9 @@
 
 mod faults;
 pub mod laws;
+mod node_steps;
 mod nodes;
+mod origins;
 mod parts;
 mod pictures;
 mod planes;
@@ -15,7 +17,9 @@ mod traces;
 mod writing;
 
 pub use faults::{ApplyFault, CropOutside, ScriptFault};
+pub use node_steps::NodeStep;
 pub use nodes::{Area, Node, Ramp};
+pub use origins::{FrameOrigin, changed_nodes, keeps_samples, write_origin};
 pub use pictures::apply;
 pub use scripts::Script;
 pub use traces::{Step, Trace};

@@ -8,9 +8,11 @@ ghost use Rattle.script_nodes.specs.Frames.{frames, with_step, origin, traced};
 ghost use Rattle.script_nodes.specs.Shown.{IsFollowed};
 ghost use Rattle.script_nodes.specs.Traces.{IsStep};
 ghost use Rattle.script_nodes.specs.Scripts.{IsScript, Given, origin_of};
+ghost use Rattle.script_nodes.specs.NodeSteps.{IsNodeStep, node_steps};
 ghost use Rattle.script_nodes.specs.Written.{script_text};
 
 use crate::faults::ScriptFault;
+use crate::node_steps::{NodeStep, steps_of_clip};
 use crate::nodes::{Node, count_of};
 use crate::reading::read_script;
 use crate::traces::{Step, Trace};
@@ -180,5 +182,23 @@ impl Script {
         }
         let found = found_in(&self.nodes, &lengths, last as u64, frame);
         Some((found.source as usize, found.frame, Trace::new(found.steps)))
+    }
+    /// The steps of a frame of the script, in order, with the numbers of their nodes: 1 for the first one. They are the steps of its
+    /// trace (law `steps_are_of_nodes`). `counts` is as for [`trace`](Script::trace).
+    ///
+    /// `None` if the script serves at most `frame` frames.
+    pub fn node_steps(&self, counts: &[u64], frame: u64) -> Option<ArrayVec<NodeStep, 16>>
+        requires { All (λ count. count ≤ 1048576) counts.now }
+        ensures none { IfNone result (script_length counts.now self.now ≤ frame) }
+        ensures some { IfSome result (λ steps. steps.items ≡ node_steps counts.now self.now frame) }
+        ensures few { IfSome result (λ steps. length steps.items ≤ 16) }
+        ensures allowed { IfSome result (λ steps. All IsNodeStep steps.items) }
+    {
+        let lengths = lengths_of(&self.nodes, counts);
+        let last = self.nodes.len();
+        if frame >= lengths[last] {
+            return None;
+        }
+        Some(steps_of_clip(last as u64, &self.nodes, &lengths, last as u64, frame))
     }
 }

@@ -48,7 +48,7 @@ impl Model for Trace {
 
 impl Step {
     /// The size after the step, or `CropOutside` if its area reaches past this one.
-    fn size(&self, width: u16, height: u16) -> Result<(u16, u16), CropOutside>
+    pub(crate) fn size(&self, width: u16, height: u16) -> Result<(u16, u16), CropOutside>
         requires { IsStep self.now }
         ensures { result_ok result ≡ step_size self.now (width, height) }
     {
