@@ -107,8 +107,10 @@ PLAY = """
     video.src = address; video.muted = true; video.preload = 'auto';
     video.onerror = () => done({error: video.error.message});
     video.onloadeddata = () => { if (first === null) { first = gray(); video.playbackRate = 4; video.play().catch(error => done({error: String(error)})); } };
-    video.onended = () => { const last = gray(), frames = video.getVideoPlaybackQuality().totalVideoFrames, time = video.currentTime;
-        sound().catch(() => 0).then((length) => done({time, duration: video.duration, frames, sound: length, first, last})); };"""
+    // Pictures of less than a refresh of the screen are not all painted.
+    video.ontimeupdate = () => { if (video.duration - video.currentTime < 1.5) video.playbackRate = 1; };
+    video.onended = () => setTimeout(() => { const last = gray(), frames = video.getVideoPlaybackQuality().totalVideoFrames, time = video.currentTime;
+        sound().catch(() => 0).then((length) => done({time, duration: video.duration, frames, sound: length, first, last})); }, 500);"""
 
 
 class Chromium:

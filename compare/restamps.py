@@ -1,10 +1,11 @@
 #!/usr/bin/env python3
-"""Compares the time stamps of `vp8serve --restamp` with those of a plain model of durations, over random edits of random streams.
+"""Compares the time stamps of `vp8serve --restamp`, and those of the Python client, with those of a plain model of durations, over random edits of random streams.
 
     compare/restamps.py [--lists N] [--seed S]
 
 Each list edits one or two streams of random rates and time stamps (with gaps, repeats and jumps back) by insert, replace, delete, move, copy, blank, hold,
-hide, show and use. The packets of source 0 that the program saves must have the time stamps and bytes of the model; without --restamp they have their own.
+hide, show and use. The packets of source 0 that the program saves must have the time stamps and bytes of the model, and so must those that a session of the
+client saves; without --restamp they have their own.
 """
 
 import argparse
@@ -15,7 +16,11 @@ import sys
 import tempfile
 
 from library.ivf import HEAD, RECORD, is_shown, records
-from library.programs import VP8SERVE
+from library.programs import TOP, VP8SERVE
+
+sys.path.insert(0, str(TOP / "clients/python"))
+
+from wokureti import Session  # noqa: E402
 
 PACKETS = [bytes([0x11, 0, 0]), bytes([0x01, 0, 0]), b"", bytes([0x11, 0]), bytes.fromhex("10 00 00 9D 01 2A 10 00 10 00"), bytes([0x11, 0, 0, 7])]
 MOST = 2**64 - 1
@@ -105,7 +110,7 @@ def random_edit(dice, streams, current):
 
 
 def run_list(dice, room):
-    """Makes a list of edits, and returns what the program saved and what the model has."""
+    """Makes a list of edits, and returns what the program and the client saved and what the model has."""
     streams = [Stream(dice) for _ in range(dice.choice([1, 2, 2]))]
     for number, stream in enumerate(streams):
         with open(f"{room}/{number}.ivf", "wb") as file:
@@ -124,8 +129,16 @@ def run_list(dice, room):
     refused = [reply for reply in ran.stdout.splitlines() if not reply.startswith("ok")]
     if ran.returncode or refused:
         raise SystemExit(f"status {ran.returncode}: {ran.stderr}{refused[:2]}: {lines}")
-    with open(f"{room}/out.ivf", "rb") as file:
-        return lines, list(records(file.read())), streams[0].restamped()
+    with Session(f"{room}/0.ivf", sources=more[1:]) as session:
+        for line in lines:
+            session.request(line)
+        session.save(f"{room}/client.ivf", restamp=True)
+    return lines, [saved_in(f"{room}/{name}.ivf") for name in ("out", "client")], streams[0].restamped()
+
+
+def saved_in(path):
+    with open(path, "rb") as file:
+        return list(records(file.read()))
 
 
 def main():
@@ -137,10 +150,11 @@ def main():
     with tempfile.TemporaryDirectory() as room:
         for number in range(args.lists):
             lines, saved, model = run_list(dice, room)
-            packets += len(saved)
-            if saved != model:
-                wrong += 1
-                print(f"list {number}: {lines}: saved {saved}, and the model has {model}")
+            packets += len(model)
+            for who, found in zip(("vp8serve", "the client"), saved):
+                if found != model:
+                    wrong += 1
+                    print(f"list {number}: {lines}: {who} saved {found}, and the model has {model}")
     print(f"{args.lists} lists, {packets} packets: {wrong} wrong")
     return 1 if wrong else 0
 

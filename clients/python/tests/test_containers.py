@@ -276,14 +276,24 @@ class Spans(Case):
         stamps, end = contents.stamps(0, contents.streams[0])
         self.assertEqual((list(stamps), end), (list(range(13)), 13))
 
-    def test_a_packet_lasts_until_the_one_that_fills_the_hole_after_it(self):
+    def test_a_packet_keeps_its_duration(self):
         holed = self.folder() / "holed.ivf"
         packets = list(enumerate(packets_of(SMALL)))
         holed.write_bytes(b"".join(ivf.pieces(ivf.Head(7, 5, 25, 1), 9, packets[:4] + packets[7:])))
         contents = self.contents(stream=holed)
         self.assertEqual(list(contents.stamps(0, contents.streams[0])[0]), [0, 1, 2, 3, *range(7, 12)])
-        contents = self.contents("insert 4 4 -", "insert 5 5 -", "insert 6 6 -", stream=holed)
-        self.assertEqual(list(contents.stamps(0, contents.streams[0])[0]), list(range(12)))
+        # What fills the hole after one comes after it.
+        contents = self.contents("insert 4 4 -", stream=holed)
+        self.assertEqual(list(contents.stamps(0, contents.streams[0])[0]), [0, 1, 2, 3, 7, *range(8, 13)])
+        contents = self.contents("move 3 0", stream=holed)
+        self.assertEqual(list(contents.stamps(0, contents.streams[0])[0]), [0, 4, 5, 6, *range(7, 12)])
+
+    def test_the_median_step_is_the_lower_one_of_two(self):
+        path = self.folder() / "in.ivf"
+        stamps = (0, 10, 20, 40, 60)
+        path.write_bytes(b"".join(ivf.pieces(ivf.Head(7, 5, 1000, 1), 5, list(zip(stamps, packets_of(SMALL))))))
+        contents = self.contents("hold 5", stream=path)
+        self.assertEqual((list(contents.stamps(0, contents.streams[0])[0]), contents.stamps(0, contents.streams[0])[1], contents.rate), ([0, 10, 20, 40, 60, 70], 80, (100, 1)))
 
 
 @needs_ffmpeg

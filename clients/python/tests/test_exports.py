@@ -7,11 +7,12 @@ from unittest import mock
 
 import test_containers
 import test_page
-from support import SMALL, Case, command, packets_of, serve, write_packets
+from support import DATA, SMALL, Case, command, packets_of, serve, write_packets
 from test_containers import clip, frames, media, needs_ffmpeg, setUpModule, sound_packets  # noqa: F401
 from wokureti import convert, exports, ivf, opus, programs
 
 MS = 10**6
+SCENES = DATA / "scene-cuts.ivf"
 REAL = programs.find("vp8serve")
 HERE = pathlib.Path(__file__).resolve().parent
 # The program that is tested, or one that stands for it where it has no --export yet.
@@ -86,6 +87,34 @@ class Stamps(Case):
                 session.save(room / "client.ivf", restamp=True)
             serve(stream, lines, "--sources", stream, "--save", room / "program.ivf", "--restamp")
             self.assertEqual(ivf.read_packets(room / "client.ivf")[1], ivf.read_packets(room / "program.ivf")[1], lines)
+
+    def test_a_repair_of_a_hole_or_of_an_order_takes_no_time(self):
+        """The list of `wokureti repair`, run by vp8serve: the new time stamps are those of the stream before the damage."""
+        room, packets = self.folder(), list(enumerate(packets_of(SCENES)))
+        whole = room / "whole.ivf"
+        whole.write_bytes(b"".join(ivf.pieces(ivf.Head(16, 16, 30, 1), len(packets), packets)))
+        damaged = {
+            "hole": packets[:7] + packets[10:],
+            "two holes": packets[:5] + packets[6:20] + packets[24:],
+            "late": packets[:5] + [packets[7], packets[5], packets[6]] + packets[8:],
+            "twice": packets[:9] + packets[6:],
+        }
+        for name, found in damaged.items():
+            path, edits = room / "damaged.ivf", room / "list"
+            # The header counts more packets than there are: the sign that some were lost.
+            path.write_bytes(b"".join(ivf.pieces(ivf.Head(16, 16, 30, 1), len(packets), found)))
+            for second in ((), ("--second", whole)):
+                self.assertIn(command("repair", path, room / "out.ivf", *second, "--edits", edits)[0], (1, 2))
+                sources = ("--sources", whole) if second else ()
+                serve(path, edits.read_text().splitlines(), *sources, "--save", room / "program.ivf", "--restamp")
+                mended = ivf.read_packets(room / "program.ivf")[1]
+                with self.session(path, sources=[whole] if second else []) as session:
+                    for line in edits.read_text().splitlines():
+                        session.request(line)
+                    session.save(room / "client.ivf", restamp=True)
+                self.assertEqual(ivf.read_packets(room / "client.ivf")[1], mended, (name, second))
+                self.assertEqual([stamp for stamp, _ in mended], list(range(len(packets))), (name, second))
+                self.assertEqual([data for _, data in mended] == [data for _, data in packets], bool(second) or name in ("late", "twice"), (name, second))
 
 
 class Ivf(Case):

@@ -845,9 +845,15 @@ class Checks(PageCase):
         self.serve(path, sources=[SCENES])
         repairs = self.repairs("breaks_step")
         self.assertEqual([repair["name"] for repair in repairs], ["second", "drop", "keep"])
-        self.assertEqual(len(repairs[1]["lines"]), 3)
-        self.step(*repairs[0]["lines"])
+        # Three packets, and the one before the hole, which lasted as long as the hole.
+        self.assertEqual([line.split(" ")[:2] for line in repairs[1]["lines"]], [["insert", "7"], ["insert", "8"], ["insert", "9"], ["insert", "6"], ["delete", "7"]])
         room = self.folder()
+        self.step(*repairs[1]["lines"])
+        (room / "out.ivf").write_bytes(self.ask("/stream.ivf")[2])
+        self.assertEqual([stamp for stamp, _ in ivf.read_packets(room / "out.ivf")[1]], list(range(len(packets))))
+        self.change("undo")
+        self.assertEqual(repairs[0]["lines"], ["copy 1 7 7", "copy 1 8 8", "copy 1 9 9", "copy 1 6 6", "delete 7"])
+        self.step(*repairs[0]["lines"])
         (room / "out.ivf").write_bytes(self.ask("/stream.ivf")[2])
         self.assertEqual(ivf.read_packets(room / "out.ivf")[1], packets)
 

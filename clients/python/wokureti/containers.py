@@ -12,7 +12,7 @@ import subprocess
 from array import array
 from typing import NamedTuple
 
-from . import checks, ivf
+from . import checks, ivf, times
 
 MOST_TIME = 3600
 NANO = 10**9
@@ -108,11 +108,10 @@ def rate_of(path, named):
     there is no step, the named one."""
     with open(path, "rb") as file:
         head, index = ivf.read_index(file.fileno())
-    stamps = [stamp for stamp, tags in zip(index.stamps, index.tags) if tags & ivf.SHOWN]
-    steps = [after - before for before, after in zip(stamps, stamps[1:]) if after > before]
+    steps = times.steps_of(index.stamps, index.tags)
     if not steps:
         return named
-    step = statistics.median_high(steps)
+    step = statistics.median_low(steps)
     if named is not None and abs(named[1] / named[0] - step * head.scale / head.rate) <= ROUNDED:
         return named
     common = math.gcd(head.rate, head.scale * step)

@@ -69,7 +69,7 @@ class Contents:
         self.of_files = count
         self.file_sizes = None
         # Of the packets that edits made: the time stamp; the bytes, or what the program makes them of, or the number of the packet that a
-        # copy was made of; and the number of the packet whose time it has, or None.
+        # copy was made of; the number of the packet whose time it has, or None; and the source that it was made in.
         self.made = []
         self.forged, self.key_sizes = {}, {}
         self.listed = Facts(self)
@@ -141,7 +141,7 @@ class Contents:
 
     def make(self, stamp, data, timed=None):
         """The number of a new packet."""
-        self.made.append((stamp, data, timed))
+        self.made.append((stamp, data, timed, self.current))
         return self.of_files + len(self.made) - 1
 
     def forge_at(self, word, at, size):
@@ -179,12 +179,12 @@ class Contents:
         return number
 
     def duration(self, number, source):
-        """The duration of a packet in the time base of a source: that of its file; the median step for one that has no time."""
-        number, base = self.timed(number), self.inputs.all[source]
-        if number is None:
-            return base.step()
-        item, index = self.where(number)
-        return times.scaled(item.durations()[index], item.head, base.head)
+        """The duration of a packet in the time base of a source: that of its file; for one that has no time the median step of the source that it was made in."""
+        made_in = None
+        while number is not None and number >= self.of_files:
+            _, _, number, made_in = self.made[number - self.of_files]
+        item, index = (self.inputs.all[made_in], None) if number is None else self.where(number)
+        return times.scaled(item.step() if index is None else item.durations()[index], item.head, self.inputs.all[source].head)
 
     def is_shown(self, number):
         """Whether a packet is shown as a frame."""
@@ -196,15 +196,8 @@ class Contents:
         return not isinstance(data, bytes) or ivf.is_shown(data)
 
     def durations(self, source, stream):
-        """The durations of packets in the order of a source. A packet with a hole after it, into which a repair put others, lasts until the next one."""
-        found, step, after = array("Q", (self.duration(number, source) for number in stream)), self.inputs.all[source].step(), None
-        for place in range(len(stream) - 1, -1, -1):
-            stamp = self.stamp(stream[place])
-            if after is not None and step <= after - stamp < found[place]:
-                found[place] = after - stamp
-            if self.is_shown(stream[place]):
-                after = stamp
-        return found
+        """The durations of packets in the time base of a source."""
+        return array("Q", (self.duration(number, source) for number in stream))
 
     def stamps(self, source, stream):
         """New time stamps for packets in the order of a source, and the end of the last one."""

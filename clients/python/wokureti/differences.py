@@ -2,6 +2,9 @@
 
 import bisect
 import collections
+from typing import NamedTuple
+
+from . import ivf
 
 
 def common(one, other):
@@ -30,35 +33,73 @@ def common(one, other):
 LEAST_COPY = 16
 
 
-def edits_between(one, other, theirs=None):
+class Lasting(NamedTuple):
+    """How long packets are shown: those of a stream, those of another source, and one that is inserted."""
+
+    durations: object
+    theirs: object
+    usual: int
+
+    def is_wrong(self, duration, wanted):
+        """Whether an inserted packet lasts about as long as is wanted, and one of this duration does not."""
+        return abs(duration - wanted) > abs(self.usual - wanted) + self.usual // 2
+
+
+def edits_between(one, other, theirs=None, lasting=None):
     """The request lines that make the packets `other` of the packets `one`, pairs of a time stamp and bytes. `theirs` has the indexes of packets
-    of source 1, which are copied."""
-    kept = common(one, other)
-    lines, place, index = [], 0, 0
+    of source 1, which are copied. With `lasting` a packet that would be shown until packets that are after its end now is inserted again: a packet keeps
+    its duration, and the one before a hole has that of the hole, which others fill."""
+    kept, theirs = common(one, other), theirs or {}
+    lines, place, index, lasts = [], 0, 0, []
     for stop, end in [*kept, (len(one), len(other))]:
         # Packets place to stop of the first list become packets index to end of the second, which begin at `index`.
-        old, new = one[place:stop], other[index:end]
-        at = index
-        while old and new and old[0][0] == new[0][0]:
-            lines += replacement(at, new[0], theirs or {})
-            old, new, at = old[1:], new[1:], at + 1
-        lines += [f"delete {at}"] * len(old)
-        for offset, packet in enumerate(new):
-            lines.append(insertion(at + offset, packet, theirs or {}))
+        old, new = list(range(place, stop)), list(range(index, end))
+        while old and new and one[old[0]][0] == other[new[0]][0]:
+            packet = other[new[0]]
+            lasts.append((None if is_copied(packet, theirs) else old[0], theirs.get(packet)))
+            lines += replacement(new[0], packet, theirs)
+            old, new = old[1:], new[1:]
+        lines += [f"delete {new[0] if new else end}"] * len(old)
+        for at in new:
+            lasts.append((None, theirs.get(other[at]) if is_copied(other[at], theirs) else None))
+            lines.append(insertion(at, other[at], theirs))
+        if stop < len(one):
+            lasts.append((stop, None))
         place, index = stop + 1, end + 1
-    return lines
+    return lines + (renewals(other, theirs, lasts, lasting) if lasting else [])
 
 
-def insertion(at, packet, theirs):
+def renewals(packets, theirs, lasts, lasting, first=0, source=1):
+    """The lines that insert packets again whose duration is not that of their time stamps. For each packet `lasts` has which one of the stream it was, and
+    which one of another source. The packets begin at index `first`."""
+    found, after = [], None
+    for at in reversed(range(len(packets))):
+        stamp, data = packets[at]
+        if not ivf.is_shown(data):
+            continue
+        mine, other = lasts[at]
+        duration = lasting.durations[mine] if mine is not None else lasting.theirs[other] if other is not None else lasting.usual
+        if after is not None and stamp < after and lasting.is_wrong(duration, after - stamp):
+            is_right = is_copied(packets[at], theirs) and not lasting.is_wrong(lasting.theirs[theirs[packets[at]]], after - stamp)
+            found += [insertion(first + at, packets[at], theirs if is_right else {}, source), f"delete {first + at + 1}"]
+        after = stamp
+    return found
+
+
+def is_copied(packet, theirs):
+    return packet in theirs and len(packet[1]) >= LEAST_COPY
+
+
+def insertion(at, packet, theirs, source=1):
     """The line that inserts a packet."""
     stamp, data = packet
-    if packet in theirs and len(data) >= LEAST_COPY:
-        return f"copy 1 {theirs[packet]} {at}"
+    if is_copied(packet, theirs):
+        return f"copy {source} {theirs[packet]} {at}"
     return f"insert {at} {stamp} {data.hex() or '-'}"
 
 
 def replacement(at, packet, theirs):
-    """The lines that give a packet other bytes. It keeps its time stamp."""
-    if packet in theirs and len(packet[1]) >= LEAST_COPY:
+    """The lines that give a packet other bytes. It keeps its time stamp and its duration."""
+    if is_copied(packet, theirs):
         return [insertion(at, packet, theirs), f"delete {at + 1}"]
     return [f"replace {at} {packet[1].hex() or '-'}"]

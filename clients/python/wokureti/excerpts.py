@@ -31,9 +31,7 @@ def spans_of(contents, frames):
         item, index = contents.where(timed)
         stamp = item.index.stamps[index]
         start = times.nano(stamp, item.head)
-        is_whole = duration == contents.duration(number, source)
-        end = times.nano(stamp + item.durations()[index], item.head) if is_whole else start + times.nano(duration, head)
-        yield sounds.Span(item.media, start, end - start)
+        yield sounds.Span(item.media, start, times.nano(stamp + item.durations()[index], item.head) - start)
 
 
 def joined_made(spans):
@@ -66,8 +64,7 @@ def filled(before, lengths, after):
 def of_packets(packets, head, media):
     """The spans of the packets of a file, pairs of a time stamp and bytes, by their time stamps; and the same packets with new ones."""
     stamps, tags = zip(*((stamp, ivf.tag_of(len(data), data[0] if data else 0)) for stamp, data in packets))
-    steps = sorted(after - before for before, after in zip(stamps, stamps[1:]) if after > before)
-    durations = times.durations(stamps, tags, steps[len(steps) // 2] if steps else 1)
+    durations = times.durations(stamps, tags, times.median_step(stamps, tags))
     shown = [bool(one & ivf.SHOWN) for one in tags]
     spans = [sounds.Span(media, times.nano(stamp, head), times.nano(stamp + duration, head) - times.nano(stamp, head)) for stamp, duration, is_shown in zip(stamps, durations, shown) if is_shown]
     restamped, _ = times.stamps_of(zip(shown, durations))

@@ -86,9 +86,7 @@ class Input:
         """The median of the steps between the time stamps of shown packets: the time of a frame. 1 if there is none."""
         if self.found_step is None:
             index = self.records()
-            stamps = [stamp for stamp, tags in zip(index.stamps, index.tags) if tags & ivf.SHOWN]
-            steps = sorted(after - before for before, after in zip(stamps, stamps[1:]) if after > before)
-            self.found_step = steps[len(steps) // 2] if steps else 1
+            self.found_step = times.median_step(index.stamps, index.tags)
         return self.found_step
 
     def durations(self):

@@ -11,6 +11,7 @@ import time
 
 from . import adding, exports, ivf, muxing, records, repair
 from .clipboard import Clipboard, Gone, numbers_of, runs_of
+from .differences import Lasting
 from .edits import is_edit
 from .errors import Ended, Refused
 from .frames import MARK
@@ -446,7 +447,9 @@ class PageRoutes(Routes):
                 found = repair.repair(data, *given, tables=contents.tables, steps=STEPS)
         except (ivf.NotIvf, repair.NoKeyFrame) as error:
             raise Refuse(409, str(error)) from None
-        lines = repair.edits_of(data, found, *others)
+        durations = [contents.durations(0, stream) for stream in view.streams[:2]]
+        lasting = Lasting(durations[0], durations[-1] if others else (), contents.inputs.all[0].step())
+        lines = repair.edits_of(data, found, *others, lasting=lasting)
         return as_json({"revision": view.revision, "lines": lines, "said": found.lines, "left": found.left})
 
     def text(self, view, source):

@@ -3,6 +3,8 @@
 import collections
 from typing import NamedTuple
 
+from .differences import Lasting, renewals
+
 # The edits of a proposal, at most.
 MOST_EDITS = 10000
 # Packets on each side of a finding, and of the second recording, that are compared to find by how much its time stamps differ.
@@ -110,18 +112,52 @@ class Proposals:
         if late:
             names = f"packet {late[0]}" if len(late) == 1 else f"{len(late)} packets that come later"
             lines = [f"move {index} {packet + turn}" for turn, index in enumerate(late)]
-            yield Proposal("move", f"Move {names} to {packet}, where the time stamps belong", lines, packet)
+            yield Proposal("move", f"Move {names} to {packet}, where the time stamps belong", self.timed(packet, lines), packet)
             return
         for source, shift, stamps in self.others(packet):
             group = [index for other in sorted(stamps) if before < other + shift < stamp for index in stamps[other]]
             if group:
                 lines = [f"copy {source} {index} {packet + turn}" for turn, index in enumerate(group)]
-                yield Proposal("second", f"Insert the {len(group)} missing packets of {self.names[source]}", lines, packet)
+                title = f"Insert the {len(group)} missing packets of {self.names[source]}"
+                yield Proposal("second", title, self.timed(packet, lines, source, shift, stamps), packet)
         step = self.step()
         missing = range(before + step, stamp, step) if step else ()
         if missing:
             lines = [f"insert {packet + turn} {value} -" for turn, value in enumerate(missing[: MOST_EDITS + 1])]
-            yield Proposal("drop", f"Insert {len(missing)} dropped frames: the picture before is shown", lines, packet)
+            title = f"Insert {len(missing)} dropped frames: the picture before is shown"
+            yield Proposal("drop", title, self.timed(packet, lines), packet)
+
+    def timed(self, packet, lines, source=0, shift=0, stamps=None):
+        """Lines that fill the hole before a packet, and those that insert packets next to it again: the packet before a hole lasts as long as the hole.
+        They are copied from another source, if that has them: `stamps` has its packets, whose time stamps differ by `shift`."""
+        first = packet - 1
+        while first > 0 and not self.contents.is_shown(self.stream[first]):
+            first -= 1
+        numbers = list(self.stream[first : packet + NEAR_BY])
+        packets = [(self.contents.stamp(number), self.contents.bytes(number)) for number in numbers]
+        lasts = [(index, None) for index in range(len(packets))]
+        known = [(stamp, data, index) for stamp, data in packets for index in (stamps or {}).get(stamp - shift, ())]
+        theirs = {(stamp, data): index for stamp, data, index in known if self.contents.bytes(self.view.streams[source][index]) == data}
+        durations, other = list(self.contents.durations(0, numbers)), {}
+        for index in theirs.values():
+            other[index] = self.contents.duration(self.view.streams[source][index], 0)
+        for line in lines:
+            word, *rest = line.split(" ")
+            at = int(rest[0 if word == "insert" else -1]) - first
+            if word == "move":
+                start = int(rest[0]) - first
+                packets.insert(at, packets.pop(start))
+                lasts.insert(at, lasts.pop(start))
+            elif word == "insert":
+                packets.insert(at, (int(rest[1]), b""))
+                lasts.insert(at, (None, None))
+            else:
+                number = self.view.streams[source][int(rest[1])]
+                packets.insert(at, (self.contents.stamp(number) + shift, self.contents.bytes(number)))
+                lasts.insert(at, (None, int(rest[1])))
+                other[int(rest[1])] = self.contents.duration(number, 0)
+        lasting = Lasting(durations, other, self.contents.inputs.all[0].step())
+        return lines + renewals(packets, theirs, lasts, lasting, first, source)
 
     def of_tail(self):
         """The packets of a second recording after the last one."""

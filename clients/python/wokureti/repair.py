@@ -6,8 +6,8 @@ import fractions
 import json
 from typing import NamedTuple
 
-from . import facts, ivf, runs, salvage
-from .differences import edits_between
+from . import facts, ivf, runs, salvage, times
+from .differences import Lasting, edits_between
 
 # A packet is sorted back over at most so many others: if it is further away, the time stamps begin again, as in clips that were joined.
 MOST_MOVE = 64
@@ -554,12 +554,25 @@ def repair(data, program, lister, second=None, tables=None, steps=frozenset(("sc
     return found
 
 
-def edits_of(data, found, second=None):
+def edits_of(data, found, second=None, lasting=None):
     """The edits that make the mended stream of the file, or None if vp8serve does not read the file. Packets of a second recording that is
-    source 1 are copied from it."""
+    source 1 are copied from it. `lasting` says how long packets are shown, if edits of the file were made before."""
     before = salvage.plain(data)
     if before is None:
         return None
     other = salvage.plain(second) if second is not None else None
-    theirs = {(packet.stamp, packet.data): index for index, packet in enumerate(other[1])} if other else {}
-    return edits_between([(packet.stamp, packet.data) for packet in before[1]], [(packet.stamp, packet.data) for packet in found.packets], theirs)
+    one, two = ([(packet.stamp, packet.data) for packet in (read[1] if read else ())] for read in (before, other))
+    theirs = {packet: index for index, packet in enumerate(two)}
+    lasting = lasting or Lasting(durations_of(one), durations_of(two), times.median_step(*columns(one)))
+    return edits_between(one, [(packet.stamp, packet.data) for packet in found.packets], theirs, lasting)
+
+
+def columns(packets):
+    """The time stamps and the tags of packets."""
+    return [stamp for stamp, _ in packets], [ivf.tag_of(len(data), data[0] if data else 0) for _, data in packets]
+
+
+def durations_of(packets):
+    """The durations of the packets of a file."""
+    stamps, tags = columns(packets)
+    return times.durations(stamps, tags, times.median_step(stamps, tags))

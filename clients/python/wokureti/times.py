@@ -1,10 +1,25 @@
 """When packets are shown, and for how long: `vp8serve --restamp` has the same notion."""
 
+import statistics
 from array import array
 
 from . import ivf
 
 NANO = 10**9
+# The greatest time stamp.
+MOST = 2**64 - 1
+
+
+def steps_of(stamps, tags):
+    """The steps between the time stamps of shown packets that go forward."""
+    shown = [stamp for stamp, tag in zip(stamps, tags) if tag & ivf.SHOWN]
+    return [after - before for before, after in zip(shown, shown[1:]) if after > before]
+
+
+def median_step(stamps, tags):
+    """The median of these steps, the lower one of two: the time of a frame. 1 if there is none."""
+    steps = steps_of(stamps, tags)
+    return statistics.median_low(steps) if steps else 1
 
 
 def durations(stamps, tags, step):
@@ -24,7 +39,7 @@ def scaled(duration, one, other):
     (rate, scale), (to_rate, to_scale) = (base_of(head) for head in (one, other))
     if (rate, scale) == (to_rate, to_scale):
         return duration
-    return max(1, duration * scale * to_rate // (rate * to_scale))
+    return max(1, min(MOST, duration * scale * to_rate // (rate * to_scale)))
 
 
 def base_of(head):
@@ -38,7 +53,7 @@ def stamps_of(packets):
     found, clock = array("Q"), 0
     for is_shown, duration in packets:
         found.append(clock)
-        clock += duration if is_shown else 0
+        clock = min(MOST, clock + (duration if is_shown else 0))
     return found, clock
 
 
