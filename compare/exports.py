@@ -1,13 +1,14 @@
 #!/usr/bin/env python3
-"""Packets that show the frames of random scripts again, by a plain model of lossless_cuts' definition.
+"""Packets that show the frames of random scripts again: those of `vp8serve --export`, and those of a plain model of lossless_cuts' definition.
 
-    compare/exports.py [--scripts N] [--seed S] [--ffmpeg] [FILE ..]
+    compare/exports.py [--scripts N] [--seed S] [--no-ffmpeg] [--model] [FILE ..]
 
 Each script trims and splices one or two clips of one size, with repeated frames and frames in reverse order. Each clip is taken once as it is
 and once with packets of no bytes among its packets, as an encoder that drops frames writes them. The packets of a script are those of the
 definition: a lead of hidden packets from the packet after the last one, or from the last key packet, and then the frame's own packet, or a
-hold packet. vpxdec (and ffmpeg, with --ffmpeg) decode them. Their frames must be the frames that vp8serve serves for the script, byte for
-byte, and their number too.
+hold packet. The program must write exactly these, with the time stamps of their durations. vpxdec and ffmpeg decode what it wrote: their frames must be
+the frames that vp8serve serves for the script, byte for byte, and their number too. An export of the export has the same frames, and one of a
+clip without a script the clip's. With --model nothing is exported: the decoders read the packets of the model.
 """
 
 import argparse
@@ -19,12 +20,17 @@ import sys
 import tempfile
 
 from library.ivf import has_key_tag, is_shown
-from library.programs import VP8LIST, VP8SERVE, real_streams
+from library.programs import TOP, VP8LIST, VP8SERVE, real_streams
+
+sys.path.insert(0, str(TOP / "clients/python"))
+
+from wokureti import ivf as files  # noqa: E402
+from wokureti import times  # noqa: E402
 
 
 def run(words, text=None):
-    """Runs a program, and returns its output; a time limit of a minute."""
-    ran = subprocess.run([str(word) for word in words], input=text, stdout=subprocess.PIPE, stderr=subprocess.PIPE, timeout=60)
+    """Runs a program, and returns its output; a time limit of ten minutes."""
+    ran = subprocess.run([str(word) for word in words], input=text, stdout=subprocess.PIPE, stderr=subprocess.PIPE, timeout=600)
     if ran.returncode:
         raise SystemExit(f"{' '.join(map(str, words))}: status {ran.returncode}: {ran.stderr.decode(errors='replace')[-300:]}")
     return ran.stdout
@@ -37,15 +43,19 @@ class Clip:
         self.path = path
         with open(path, "rb") as file:
             data = file.read()
-        self.head, self.packets, at = data[:32], [], int.from_bytes(data[6:8], "little")
+        self.head, self.packets, self.stamps, at = data[:32], [], [], int.from_bytes(data[6:8], "little")
         while at + 12 <= len(data):
             size = int.from_bytes(data[at : at + 4], "little")
             self.packets.append(data[at + 12 : at + 12 + size])
+            self.stamps.append(int.from_bytes(data[at + 4 : at + 12], "little"))
             at += 12 + size
         self.facts = [json.loads(line) for line in run([VP8LIST, "--json", path]).splitlines()]
         self.shown = [at for at, packet in enumerate(self.packets) if is_shown(packet)]
         self.sizes = {it["size"] for it in self.facts if it["size"]}
         self.size = min(self.sizes)
+        tags = [files.tag_of(len(packet), packet[0] if packet else 0) for packet in self.packets]
+        self.rate = files.Head(0, 0, int.from_bytes(data[16:20], "little"), int.from_bytes(data[20:24], "little"))
+        self.durations = times.durations(self.stamps, tags, times.median_step(self.stamps, tags))
 
     def key_place(self, at):
         return next(k for k in range(at, -1, -1) if has_key_tag(self.packets[k]))
@@ -80,6 +90,13 @@ def exported(clips, targets, held):
         packets += frame_packets(clips[target[0]], before, target, held)
         before = target
     return packets
+
+
+def stamps(clips, targets, packets):
+    """The time stamps of the packets of targets, in the time base of the first clip."""
+    lasting = [times.scaled(clips[source].durations[place], clips[source].rate, clips[0].rate) for source, place in targets]
+    lasts = iter(lasting)
+    return list(times.stamps_of((shown, next(lasts) if shown else 0) for shown, _ in packets)[0])
 
 
 def hold_packet(size, room):
@@ -153,13 +170,46 @@ def served(clips, script, count, room):
     return b"".join(data[at + n * (size + 6) + 6 : at + (n + 1) * (size + 6)] for n in range(count)), size
 
 
+def export(clips, script, out):
+    """The packets that the program exports of a script, with their time stamps."""
+    more = ["--sources", ":".join(str(it.path) for it in clips[1:])] if len(clips) > 1 else []
+    run([VP8SERVE, clips[0].path, "-", "-", *more, "--export", out, "--pad"], f"script {script}\n".encode() if script else b"")
+    _, packets = files.read_packets(out)
+    return packets
+
+
+def check_export(clips, targets, packets, wrote):
+    """What is wrong with the packets that the program wrote."""
+    if [data for _, data in wrote] != [data for _, data in packets]:
+        return [f"{len(wrote)} packets are written, and not the {len(packets)} of the definition"]
+    if [stamp for stamp, _ in wrote] != stamps(clips, targets, packets):
+        return ["other time stamps than those of the durations"]
+    return []
+
+
+def decoded(name, path, room):
+    """The frames of a file by a decoder."""
+    lines = {
+        "vpxdec": ["vpxdec", "--i420", "-o", f"{room}/frames.yuv", path],
+        "ffmpeg": ["ffmpeg", "-v", "error", "-y", "-i", path, "-fps_mode", "passthrough", "-f", "rawvideo", "-pix_fmt", "yuv420p", f"{room}/frames.yuv"],
+    }
+    run(lines[name])
+    with open(f"{room}/frames.yuv", "rb") as file:
+        return file.read()
+
+
 def main():
     words = argparse.ArgumentParser(description=__doc__.splitlines()[0])
     words.add_argument("clips", nargs="*", default=real_streams())
     words.add_argument("--scripts", type=int, default=100)
     words.add_argument("--seed", type=int, default=1)
-    words.add_argument("--ffmpeg", action="store_true")
+    words.add_argument("--no-ffmpeg", action="store_true")
+    words.add_argument("--model", action="store_true")
     args = words.parse_args()
+    is_there = b"--export" in run([VP8SERVE, "--help"])
+    if not is_there and not args.model:
+        raise SystemExit(f"{VP8SERVE} has no --export: compare/exports.py --model compares the packets of the definition")
+    decoders = ["vpxdec"] + ["ffmpeg"] * (not args.no_ffmpeg)
     dice, clips, wrong, frames, leads, written = random.Random(args.seed), [it for it in map(Clip, args.clips) if len(it.sizes) == 1], 0, 0, 0, 0
     with tempfile.TemporaryDirectory() as room:
         clips += [with_drops(dice, clip, f"{room}/drops-{number}.ivf") for number, clip in enumerate(clips)]
@@ -168,22 +218,29 @@ def main():
             others = [it for it in clips if it.size == one.size and it is not one]
             mine = [one] + ([dice.choice(others)] if others and dice.random() < 0.6 else [])
             script, origins = random_script(dice, mine)
+            if dice.random() < 0.02:
+                # Without a script: the clip's own packets, but for those that change nothing.
+                mine, script, origins = [one], "", [(0, n) for n in range(len(one.shown))]
             targets = [(source, mine[source].shown[n]) for source, n in origins]
             packets = exported(mine, targets, hold_packet(one.size, room))
-            with open(f"{room}/export.ivf", "wb") as file:
-                file.write(ivf(one.head, packets))
-            want, size = served(mine, script, len(targets), room)
-            decoders = {"vpxdec": ["vpxdec", "--i420", "-o", f"{room}/vpxdec.yuv", f"{room}/export.ivf"]}
-            if args.ffmpeg:
-                decoders["ffmpeg"] = ["ffmpeg", "-v", "error", "-y", "-i", f"{room}/export.ivf", "-fps_mode", "passthrough", "-f", "rawvideo", "-pix_fmt", "yuv420p", f"{room}/ffmpeg.yuv"]
-            for name, line in decoders.items():
-                run(line)
-                with open(f"{room}/{name}.yuv", "rb") as file:
-                    got = file.read()
-                if got != want:
-                    wrong += 1
-                    first = next((n for n in range(len(targets)) if got[n * size : (n + 1) * size] != want[n * size : (n + 1) * size]), len(targets))
-                    print(f"script {number} of {[os.path.basename(it.path) for it in mine]}: {name}: {len(got) / size:g} of {len(targets)} frames, the first wrong one {first}: {script}")
+            want, size = served(mine, script or "-", len(targets), room)
+            out, said = f"{room}/export.ivf", []
+            if args.model:
+                with open(out, "wb") as file:
+                    file.write(ivf(one.head, packets))
+            else:
+                said += check_export(mine, targets, packets, export(mine, script, out))
+            got = {name: decoded(name, out, room) for name in decoders}
+            if not args.model:
+                export([Clip(out)], "", f"{room}/again.ivf")
+                got["the export of the export"] = decoded("vpxdec", f"{room}/again.ivf", room)
+            for name, data in got.items():
+                if data != want:
+                    first = next((n for n in range(len(targets)) if data[n * size : (n + 1) * size] != want[n * size : (n + 1) * size]), len(targets))
+                    said.append(f"{name}: {len(data) / size:g} of {len(targets)} frames, the first wrong one {first}")
+            for text in said:
+                print(f"script {number} of {[os.path.basename(it.path) for it in mine]}: {script}: {text}", flush=True)
+            wrong += len(said)
             frames, leads, written = frames + len(targets), leads + sum(not shown for shown, _ in packets), written + len(packets)
     print(f"{args.scripts} scripts, {frames} frames, {written} packets, {leads} of them hidden: {wrong} wrong")
     return 1 if wrong else 0

@@ -184,10 +184,19 @@ def colours(browser, room):
 # What the functions of the modules return, for arguments whose results are known.
 FUNCTIONS = """
     const modules = {};
-    for (const name of ["steps", "player", "script", "window", "fragment", "colours", "timeline", "tiles", "findings", "keys", "interface", "loupe"]) {
+    for (const name of ["steps", "player", "script", "window", "fragment", "colours", "timeline", "tiles", "findings", "keys", "interface", "loupe", "shots", "strip", "curves", "cutting"]) {
       modules[name] = await import(new URL(`${name}.js`, document.baseURI));
     }
-    const { steps, player, script, window: part, fragment, colours, timeline, tiles, findings, keys, interface: server, loupe } = modules;
+    const { steps, player, script, window: part, fragment, colours, timeline, tiles, findings, keys, interface: server, loupe, shots, strip, curves, cutting } = modules;
+    const anew = (script, frames = [100, 40]) => {
+      const { shots: found, isAll } = shots.shotsOf(script, frames);
+      return [shots.nodesFor(found, frames).join("; "), isAll];
+    };
+    const after = (change, script = "-", frames = [100, 40]) => {
+      const found = change(shots.shotsOf(script, frames).shots);
+      return found && shots.nodesFor(found, frames).join("; ");
+    };
+    const block = { shot: { count: 50, fadeIn: 10, fadeOut: 0 }, left: 100, right: 200 };
     const made = (lines) => {
       const list = [..."abcdefghij"];
       for (const line of lines) {
@@ -224,6 +233,15 @@ FUNCTIONS = """
       [2, 3, 9].map((value) => timeline.firstAt([1, 3, 5], value)), [1, 0.5, 0.3, 0.001].map(tiles.perOf),
       findings.ordered([{ severity: "note" }, { severity: "damage" }]).map(({ place }) => place), keys.nameOf({ key: "Z", ctrlKey: true, shiftKey: true }), keys.nameOf({ key: "?", shiftKey: true }),
       server.sizeOf(175, 143), loupe.textAt(frame, other, 1, 1),
+      anew("-"), anew("trim 0 10 20; trim 1 5 100"), anew("source 1; splice 0 1; trim 2 90 20; trim 2 110 20; splice 3 4"), anew("trim 0 0 50; fade 1 40 10 256 0; trim 0 50 50; fade 3 0 5 0 256; splice 2 4"),
+      anew("crop 0 0 0 2 2; trim 1 0 5"), anew("fade 0 10 10 256 0"), anew("fade 0 0 10 0 256; trim 1 5 20"), anew("trim 0 0 0"), anew("trim 0 0 5; splice 1 1"), anew("source 1; splice 0 1; trim 2 0 0; splice 2 0"),
+      after((found) => shots.kept(found, { first: 5, end: 9 })), after((found) => shots.without(found, { first: 5, end: 9 })), after((found) => shots.moved(found, { first: 5, end: 9 }, 20)), after((found) => shots.moved(found, { first: 20, end: 22 }, 3)),
+      after((found) => shots.moved(found, { first: 5, end: 9 }, 100)), after((found) => shots.without(found, { first: 5, end: 9 }), "fade 0 0 10 0 256"), after((found) => shots.without(found, { first: 10, end: 12 }), "fade 0 0 10 0 256"),
+      after((found) => shots.fading(found, { first: 90, end: 100 }, false)), after((found) => shots.fading(found, { first: 0, end: 100 }, true)),
+      cutting.moved("-", 100, { first: 5, end: 9 }, 20).join("; "), cutting.moved("crop 0 0 0 2 2", 10, { first: 0, end: 2 }, 10).join("; "),
+      strip.blocksOf([{ count: 30 }, { count: 10 }], 80).map(({ left, right }) => [left, right]), strip.handleAt([block], 121, 5), strip.handleAt([block], 199, 5), strip.handleAt([block], 150, 5), strip.handleAt([block], 121, 30),
+      [strip.fadeAt(block, "fadeIn", 130), strip.fadeAt(block, "fadeIn", 0), strip.fadeAt(block, "fadeOut", 150), strip.fadeAt(block, "fadeOut", 0)],
+      curves.spread(0, 10, 3), curves.spread(5, 8, 300), curves.psnrOf(frame, frame), curves.psnrOf(frame, { ...other, width: 1 }),
     ];"""
 RESULTS = [
     "abcghij", "abc---ghij", "abc---ghij", "abc...ghij",
@@ -241,6 +259,17 @@ RESULTS = [
     [1, 1, 3], [1, 2, 4, 1024],
     [1, 0], "Ctrl+Shift+Z", "?",
     175 * 143 + 2 * 88 * 72, "x 1, y 1\nY 81  U 90  V 240\nbefore 80  90  238\nRGB 254, 0, 0\nmacroblock 0, 0",
+    # Scripts that are written anew from their shots.
+    ["", True], ["trim 0 15 15", True], ["trim 0 90 10; source 1; trim 2 0 30; splice 1 3", True],
+    ["trim 0 0 50; fade 1 40 10 256 0; trim 0 50 50; fade 3 0 5 0 256; splice 2 4", True],
+    ["trim 0 0 5", False], ["", False], ["trim 0 5 20", False], ["trim 0 0 0", True], ["trim 0 0 5; splice 1 1", True], ["source 1; splice 0 1; splice 2 0", True],
+    "trim 0 5 4", "trim 0 0 5; trim 0 9 91; splice 1 2", "trim 0 0 5; trim 0 9 11; splice 1 2; trim 0 5 4; splice 3 4; trim 0 20 80; splice 5 6", "trim 0 0 3; trim 0 20 2; splice 1 2; trim 0 3 17; splice 3 4; trim 0 22 78; splice 5 6",
+    "trim 0 0 5; trim 0 9 91; splice 1 2; trim 0 5 4; splice 3 4", None, "trim 0 0 10; fade 1 0 10 0 256; trim 0 12 88; splice 2 3",
+    "fade 0 90 10 256 0", "fade 0 0 100 0 256",
+    "trim 0 0 5; trim 0 9 11; trim 0 5 4; trim 0 20 80; splice 1 2; splice 5 3; splice 6 4", "crop 0 0 0 2 2; trim 1 2 8; trim 1 0 2; splice 2 3",
+    [[0, 60], [60, 80]], {"block": 0, "name": "fadeIn"}, {"block": 0, "name": "fadeOut"}, None, None,
+    [15, 0, 25, 40],
+    [0, 3, 6, 9], [5, 6, 7], 60, None,
 ]  # fmt: skip
 
 
@@ -956,6 +985,65 @@ def along(page, clip):
     say(f"along the timeline: small pictures of {keys} key packets, and the quantizer of {len(found)} packets")
 
 
+def shots_and_fades(browser, room, clip, other):
+    """Shots are moved and cut by the script, fades are dragged on the strip of shots, and the PSNR of frames is a curve."""
+    link = room / "shots.ivf"
+    link.symlink_to(clip)
+    page = Page(browser, link, "--source", other)
+    page.open()
+    expect(browser.run("return document.getElementById('strip').hidden"), "there is a strip without a script")
+    browser.run("document.getElementById('timeline').focus(); wokureti.model.select(60, 80); await wokureti.model.go(20)")
+    browser.key("v")
+    browser.wait("wokureti.model.session.script !== '-'")
+    wanted = "trim 0 0 20; trim 0 60 20; splice 1 2; trim 0 20 40; splice 3 4; trim 0 80 170; splice 5 6"
+    expect(page.members("session")["script"] == wanted, f"the script after V is {page.members('session')['script']}")
+    expect(browser.run("return [wokureti.model.frame, wokureti.model.packet]") == [20, 60], "the picture is not the first one that was moved")
+    browser.run("wokureti.model.select(100, 250)")
+    browser.key("x")
+    browser.wait("wokureti.model.frames === 100")
+    wanted = "trim 0 0 20; trim 0 60 20; splice 1 2; trim 0 20 40; splice 3 4; trim 0 80 20; splice 5 6"
+    expect(page.members("session")["script"] == wanted, f"the script after X is {page.members('session')['script']}")
+    # Four shots: 20, 20, 40 and 20 frames. The handle at the end of the third one is dragged to the left, that at the beginning of the first to the right.
+    browser.wait("document.getElementById('strip').dataset.shots === '4'")
+    box = browser.run("const box = document.getElementById('strip').getBoundingClientRect(); return [box.left, box.top, box.width]")
+    browser.drag([(box[0] + 0.8 * box[2] - 4, box[1] + 6), (box[0] + 0.75 * box[2], box[1] + 6), (box[0] + 0.7 * box[2], box[1] + 6)])
+    browser.wait("wokureti.model.session.script.includes('fade')")
+    browser.drag([(box[0] + 4, box[1] + 6), (box[0] + 0.02 * box[2], box[1] + 6), (box[0] + 0.05 * box[2], box[1] + 6)])
+    browser.wait("wokureti.model.session.script.split('fade').length === 3")
+    script = page.members("session")["script"]
+    wanted = "trim 0 0 20; fade 1 0 5 0 256; trim 0 60 20; splice 2 3; trim 0 20 40; fade 5 30 10 256 0; splice 4 6; trim 0 80 20; splice 7 8"
+    expect(script == wanted, f"the script with fades is {script}")
+    with Session(clip) as session:
+        session.script(*script.split("; "))
+        for frame in (0, 3, 39, 75, 79, 80):
+            browser.run(f"await wokureti.model.go({frame})")
+            page.at(frame)
+            expect(page.pixels()[2] == session.frame(frame).rgb().tobytes(), f"frame {frame} with the fades is another one")
+    # A fade that is dragged back is none, and a click goes to a frame.
+    browser.drag([(box[0] + 0.7 * box[2], box[1] + 6), (box[0] + 0.8 * box[2], box[1] + 6), (box[0] + 0.85 * box[2], box[1] + 6)])
+    browser.wait("wokureti.model.session.script.split('fade').length === 2")
+    browser.drag([(box[0] + 0.305 * box[2], box[1] + 24)])
+    browser.wait("wokureti.model.frame === 30 && wokureti.model.packet === 70")
+    browser.key("Control", "z")
+    browser.wait(f"wokureti.model.session.script === '{script}'")
+    # A picture is changed, so those after it are others up to the next key packet.
+    browser.run("await wokureti.editing.make(['script -', 'hold 120', 'delete 121'], '')")
+    browser.wait("wokureti.model.session.script === '-' && document.getElementById('strip').hidden")
+    browser.run("const select = document.getElementById('curve'); select.value = 'psnr'; select.dispatchEvent(new Event('change'))")
+    browser.wait("document.getElementById('status').textContent.startsWith('PSNR of 250')", seconds=60)
+    found = dict(browser.run("return [...wokureti.timeline.curve.values]"))
+    with Session(clip) as before, Session(clip) as after:
+        after.hold(120)
+        after.delete(121)
+        wanted = {frame: min(60, psnr(after.frame(frame).y.tobytes(), before.frame(frame).y.tobytes())) for frame in (0, 119, 120, 121, 135, 149, 150, 249)}
+    wrong = {frame: (found.get(frame), value) for frame, value in wanted.items() if frame not in found or abs(found[frame] - value) > 1e-6}
+    expect(not wrong and len(found) == 250, f"the PSNR of {len(found)} frames: {wrong}")
+    expect(wanted[119] == wanted[150] == 60 and wanted[121] < 60, f"the PSNR is {wanted}")
+    page.quiet("shots, fades and PSNR")
+    page.end()
+    say("shots: moved and cut out by keys, fades dragged on the strip, frames as vp8serve serves them; the PSNR of 250 frames as a curve")
+
+
 def door(browser, room, clip):
     """The file that a browser is started with leads to the page."""
     starter = room / "starter"
@@ -1123,10 +1211,27 @@ def shots(browser, folder, clip, broken):
     time.sleep(0.5)
     (folder / "page-macroblocks.png").write_bytes(browser.screenshot())
     page.end()
-    for name in ("page.png", "page-light.png", "page-split.png", "page-macroblocks.png"):
+    cutting_shot(browser, folder, clip)
+    for name in ("page.png", "page-light.png", "page-split.png", "page-macroblocks.png", "page-cut.png"):
         size = (folder / name).stat().st_size
         expect(size <= 300_000, f"{name} has {size} bytes")
         say(f"{name}: {size} bytes")
+
+
+def cutting_shot(browser, folder, clip):
+    """The picture of a clip that is cut: two parts are moved or gone, and a third is selected."""
+    link = clip.with_name("talk.ivf")
+    link.symlink_to(clip)
+    page = Page(browser, link)
+    page.open()
+    browser.run("wokureti.model.select(170, 210); await wokureti.model.go(40); await wokureti.cutting.moveHere()")
+    browser.run("wokureti.model.select(95, 120); await wokureti.cutting.cutOut()")
+    browser.run("await wokureti.model.go(97); wokureti.model.select(60, 84); document.getElementById('tab-script').click()")
+    browser.wait("document.getElementById('strip').dataset.shots === '5' && wokureti.findings.check && wokureti.findings.check.over", seconds=60)
+    browser.wait("Number(document.getElementById('thumbs').dataset.pictures) > 8", seconds=30)
+    time.sleep(0.5)
+    (folder / "page-cut.png").write_bytes(browser.screenshot())
+    page.end()
 
 
 def main():
@@ -1166,6 +1271,7 @@ def main():
         door(browser, room, clip)
         add_and_crop(browser, room, clip, other)
         asides(browser, room, clip, other)
+        shots_and_fades(browser, room, clip, other)
         for size in ((1440, 900), (390, 844)):
             by_keyboard(browser, room, clip, broken, place, size, looks)
         expect(str(broken.with_suffix(".edits")) in said, f"the end says {said}")

@@ -51,7 +51,7 @@ class Places(Case):
         self.assertEqual(exports.cut_script(found, [("3", "8")]), "trim 0 3 5")
         self.assertEqual(exports.cut_script(found, [(None, "0.08"), ("5", None), ("0", "1")]), "trim 0 0 2; trim 0 5 7; trim 0 0 1; splice 1 2; splice 4 3")
         self.assertEqual(len(exports.cut_script(found, [("1", "2")] * 8).split(";")), 15)
-        for parts, why in (([("3", "3")], "there is no frame from 3 to 3"), ([("20", None)], "from 20 to the end: the stream has 12 frames"), ([("1", "2")] * 9, "1 to 8 parts"), ([], "1 to 8 parts")):
+        for parts, why in (([("3", "3")], "there is no frame from 3 to 3"), ([("20", None)], "from 20 to the end: the stream has 12 frames, 0:00:00.480"), ([("1", "2")] * 9, "1 to 8 parts"), ([], "1 to 8 parts")):
             with self.assertRaisesRegex(exports.Failed, why):
                 exports.cut_script(found, parts)
         self.assertEqual([exports.join_script(count) for count in (1, 2, 3)], ["-", "source 1; splice 0 1", "source 1; source 2; splice 0 1; splice 3 2"])
@@ -157,6 +157,8 @@ class Ivf(Case):
             (("cut", SMALL, room / "out.ivf", "--from", "soon"), "'soon' is no frame and no time"),
             (("export", SMALL, room / "out.ivf", "--script", "trim 9 0 1"), "refused Reference"),
             (("join", SMALL, room / "none.ivf", room / "out.ivf"), "none.ivf"),
+            (("cut", SMALL, room / "out.mp4", "--from", "3"), "no .mp4 file is written. Name it .webm or .mkv"),
+            (("repair", SMALL, room / "out.MOV"), "no .mov file is written"),
         ):
             status, out, errors = wokureti(*words)
             self.assertEqual((status, out, (room / "out.ivf").read_text()), (2, b"", "before"))

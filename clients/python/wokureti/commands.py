@@ -291,6 +291,7 @@ def run_script(given, streams, script_of):
 
     edits, script = getattr(given, "edits", None), getattr(given, "script", None)
     cat.check_output(given.out, [*streams, edits, given.tables])
+    muxing.check_ending(given.out)
     program = programs.find("vp8serve")
     exports.check_program(program)
     with rooms.Room() as room, progress.Stages() as stages:
@@ -336,6 +337,7 @@ def run_repair(given):
     for out in (given.out, given.edits):
         if out is not None:
             cat.check_output(out, inputs)
+    muxing.check_ending(given.out)
     if given.edits is not None and checks.is_same_file(given.out, given.edits):
         raise cat.Failed("OUT and the list of edits are one file")
     steps = {name for name in ("scan", "double", "sort", "hold") if not getattr(given, f"no_{name}")}

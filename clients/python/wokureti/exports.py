@@ -73,6 +73,11 @@ class Frames:
         runs = origins(self.script, list(map(len, self.shown)))
         return [frame for count, source, first in runs for frame in self.shown[source][first : first + count]]
 
+    def length_text(self):
+        """How long source 0 is."""
+        head = self.contents.inputs.all[0].head
+        return f"{len(self.shown[0]):,} frames, {clock_text(times.nano(sum(duration for _, duration, _ in self.shown[0]), head))}"
+
     def place(self, text, is_end):
         """The frame of source 0 that a number or a time names: that which is shown then, or for an end the first one that begins then or later."""
         frames = self.shown[0]
@@ -100,7 +105,7 @@ def cut_script(frames, parts):
         first = 0 if start is None else frames.place(start, False)
         end = len(frames.shown[0]) if stop is None else frames.place(stop, True)
         if first >= end:
-            raise Failed(f"there is no frame from {start or 'the beginning'} to {stop or 'the end'}: the stream has {len(frames.shown[0])} frames")
+            raise Failed(f"there is no frame from {start or 'the beginning'} to {stop or 'the end'}: the stream has {frames.length_text()}")
         nodes.append(f"trim 0 {first} {end - first}")
         pieces.append(len(nodes))
     return spliced(nodes, pieces)

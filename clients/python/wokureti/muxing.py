@@ -8,6 +8,8 @@ from . import files, ivf, matroska, rooms, sounds
 
 NANO = 10**9
 FORMATS = {".webm": "webm", ".mkv": "matroska"}
+# Files of video that have no packets of VP8 here.
+OTHERS = {".mp4", ".m4v", ".mov", ".avi", ".ogv", ".ogg", ".ts", ".flv", ".mpg", ".mpeg", ".wmv", ".y4m", ".yuv", ".gif"}
 
 
 class Video(NamedTuple):
@@ -25,6 +27,13 @@ def ending_of(path):
     """.webm or .mkv, if a path ends so, or None."""
     ending = os.path.splitext(os.fsdecode(path))[1].lower()
     return ending if ending in FORMATS else None
+
+
+def check_ending(path):
+    """`ValueError` if packets would be written to a file that is called as one of another form."""
+    ending = os.path.splitext(os.fsdecode(path))[1].lower()
+    if ending in OTHERS:
+        raise ValueError(f"{path}: no {ending} file is written. Name it .webm or .mkv, with the sound, or .ivf")
 
 
 def ending_for(media):

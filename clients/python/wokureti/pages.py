@@ -150,6 +150,7 @@ class PageRoutes(Routes):
             "listed": view.pool.is_listed,
             "restarts": len(self.live.events),
             "shown": first.frames[-1],
+            "source_frames": [view.timeline(source).frames[-1] for source in range(len(view.streams))],
         }
         return as_json(members)
 

@@ -1,13 +1,17 @@
-// A curve over the timeline: a number of each packet's header, of the packets that are seen.
+// A curve over the timeline: a number of each packet's header, of the packets that are seen, or how much their frames differ from those before the edits.
 
+import { compared } from "./colours.js";
 import * as server from "./interface.js";
 
 const find = (id) => document.getElementById(id);
 // Packets that a curve is drawn for, at most, and milliseconds for which nothing changes before they are asked for.
 const MOST_PACKETS = 4000;
 const QUIET = 250;
-// The greatest value of each number; that of others is the greatest one that is seen.
-const MOST = { quantizer: 127, level: 63 };
+// The greatest value of each number; that of others is the greatest one that is seen. Frames that are the same have the greatest PSNR.
+const MOST = { quantizer: 127, level: 63, psnr: 60 };
+// Frames that are compared for a curve, at most, and after how many it is drawn again.
+const MOST_FRAMES = 300;
+const DRAWN = 10;
 
 /** The points of a curve: a packet without a value has none, and ends a line. */
 export function linesOf(values, first, most) {
@@ -24,9 +28,24 @@ export function linesOf(values, first, most) {
   return lines;
 }
 
+/** Frames of a range, spread evenly, and the last one. */
+export function spread(first, end, most) {
+  const step = Math.max(1, (end - first) / most);
+  const found = [];
+  for (let at = first; at < end; at += step) found.push(Math.floor(at));
+  if (found.length && found[found.length - 1] < end - 1) found.push(end - 1);
+  return found;
+}
+
+/** The PSNR of the luma of two frames in decibels, at most 60; null if they have not the same size. */
+export function psnrOf(frame, before) {
+  if (frame.width !== before.width || frame.height !== before.height) return null;
+  return Math.min(MOST.psnr, compared(frame, before).psnr.y);
+}
+
 export class Curves {
-  constructor(model, timeline, status) {
-    Object.assign(this, { model, timeline, status });
+  constructor(model, timeline, frames, player, status) {
+    Object.assign(this, { model, timeline, frames, player, status });
     this.kind = "none";
     this.key = "";
     timeline.curve = null;
@@ -54,6 +73,10 @@ export class Curves {
   }
 
   async fetch(key, first, end) {
+    if (this.kind === "psnr") {
+      await this.compare(key, first, end);
+      return;
+    }
     if (end - first > MOST_PACKETS) {
       this.timeline.curve = null;
       this.status.say(`zoom in: a curve is drawn of ${MOST_PACKETS.toLocaleString("en")} packets at most`);
@@ -66,5 +89,46 @@ export class Curves {
     const most = MOST[kind] || values.reduce((one, other) => Math.max(one, other), 1);
     this.timeline.curve = { lines: linesOf(values, first, most), most };
     this.timeline.redraw();
+  }
+
+  /** Compares frames that show these packets with those before the edits, while the page has nothing else to do. */
+  async compare(key, first, end) {
+    const { source } = this.model;
+    const range = await server.members(`range?source=${source}&first=${first}&end=${end}`);
+    const numbers = range.first === null ? [] : spread(range.first, range.end, MOST_FRAMES);
+    const points = [];
+    const draw = () => {
+      const sorted = [...points].sort(([one], [other]) => one - other);
+      const lines = [];
+      for (const [packet, value] of sorted) {
+        if (value === null) lines.push([]);
+        else (lines[lines.length - 1] || lines[lines.push([]) - 1]).push([packet + 0.5, value / MOST.psnr]);
+      }
+      this.timeline.curve = { lines: lines.filter((line) => line.length), most: MOST.psnr, values: new Map(points) };
+      this.timeline.redraw();
+    };
+    for (const [place, frame] of numbers.entries()) {
+      while (this.player.isPlaying && key === this.key) await new Promise((done) => setTimeout(done, QUIET));
+      if (key !== this.key) return;
+      const origin = await this.model.origin(frame);
+      if (!origin || origin.source !== source) continue;
+      points.push([origin.packet, await this.valueOf(frame, origin)]);
+      if (place % DRAWN === 0 || place === numbers.length - 1) draw();
+      if (place && place % (10 * DRAWN) === 0) this.status.say(`PSNR: ${place} of ${numbers.length} frames`);
+    }
+    draw();
+    this.status.say(`PSNR of ${points.length.toLocaleString("en")} frames against those before the edits`);
+  }
+
+  /** The PSNR of a frame; null if it, or the frame before, is refused or has none. */
+  async valueOf(frame, { source, before }) {
+    if (before === null) return null;
+    try {
+      const [now, then] = await Promise.all([this.frames.get(frame), this.frames.before(source, before)]);
+      return psnrOf(now, then);
+    } catch (error) {
+      if (error instanceof server.Refusal && error.status < 500) return null;
+      throw error;
+    }
   }
 }

@@ -3,6 +3,7 @@
 import { ask } from "./ask.js";
 import * as server from "./interface.js";
 import { nodesOf } from "./script.js";
+import * as parts from "./shots.js";
 import { timeText } from "./times.js";
 
 const find = (id) => document.getElementById(id);
@@ -28,6 +29,18 @@ export function without(script, count, { first, end }) {
   const found = [...nodes, `trim ${last} 0 ${first}`];
   if (end >= count) return found;
   return [...found, `trim ${last} ${end} ${count - end}`, `splice ${last + 1} ${last + 2}`];
+}
+
+/** These frames are shown before frame `at`. */
+export function moved(script, count, { first, end }, at) {
+  const [nodes, last] = base(script);
+  const found = [...nodes];
+  const ranges = at < first ? [[0, at], [first, end], [at, first], [end, count]] : [[0, first], [end, at], [first, end], [at, count]];
+  const trims = ranges.filter(([from, to]) => from < to).map(([from, to]) => found.push(`trim ${last} ${from} ${to - from}`));
+  for (const [place, node] of trims.entries()) {
+    if (place) found.push(`splice ${place === 1 ? trims[0] : found.length} ${node}`);
+  }
+  return found;
 }
 
 /** Puts the node that was added last between frames before `first` and those from `end` on, as far as there are any. */
@@ -69,13 +82,14 @@ export class Cutting {
     Object.assign(this, { model, editing, status });
     find("keep").addEventListener("click", () => this.keep());
     find("cut-out").addEventListener("click", () => this.cutOut());
+    find("move-here").addEventListener("click", () => this.moveHere());
     find("frames-more").addEventListener("click", () => this.more());
     for (const name of ["session", "selection"]) model.addEventListener(name, () => this.enable());
   }
 
   enable() {
     const { session, selection } = this.model;
-    for (const id of ["keep", "cut-out"]) find(id).disabled = !session || !selection;
+    for (const id of ["keep", "cut-out", "move-here"]) find(id).disabled = !session || !selection;
     find("frames-more").disabled = !session || !session.frames;
   }
 
@@ -93,14 +107,39 @@ export class Cutting {
 
   /** Sets a script, and goes to a frame. */
   async set(nodes, said, frame) {
-    if (!(await this.editing.make([`script ${nodes.join("; ")}`], said))) return;
+    if (!(await this.editing.make([`script ${nodes.join("; ") || "-"}`], said))) return;
     this.model.select(null);
     await this.model.go(frame);
   }
 
+  /** The nodes of a script whose shots are changed; if it has more than shots, or would have too many nodes, those that `nodes` adds to it. */
+  changed(change, nodes) {
+    const { script, source_frames: frames } = this.model.session;
+    const { shots, isAll } = parts.shotsOf(script, frames);
+    const found = isAll ? change(shots) : null;
+    const anew = found && found.length ? parts.nodesFor(found, frames) : null;
+    return anew && anew.length <= parts.MOST_NODES ? anew : nodes();
+  }
+
   async keep() {
     const range = await this.range();
-    if (range) await this.set(kept(this.model.session.script, range), `only frames ${range.first} to ${range.end - 1} are shown`, 0);
+    if (!range) return;
+    const nodes = this.changed((shots) => parts.kept(shots, range), () => kept(this.model.session.script, range));
+    await this.set(nodes, `only frames ${range.first} to ${range.end - 1} are shown`, 0);
+  }
+
+  /** The selected frames come before the current one. */
+  async moveHere() {
+    const range = await this.range();
+    if (!range) return;
+    const { session, frames, frame } = this.model;
+    const { first, end } = range;
+    if (frame >= first && frame <= end) {
+      this.status.say("go to the frame before which the selected frames shall be");
+      return;
+    }
+    const nodes = this.changed((shots) => parts.moved(shots, range, frame), () => moved(session.script, frames, range, frame));
+    await this.set(nodes, `frames ${first} to ${end - 1} are shown before frame ${frame}`, frame > first ? frame - (end - first) : frame);
   }
 
   async cutOut() {
@@ -108,7 +147,7 @@ export class Cutting {
     const { session, frames } = this.model;
     if (!range) return;
     if (range.end - range.first >= frames) this.status.say("these are all frames");
-    else await this.set(without(session.script, frames, range), `frames ${range.first} to ${range.end - 1} are cut out`, Math.max(0, range.first - 1));
+    else await this.set(this.changed((shots) => parts.without(shots, range), () => without(session.script, frames, range)), `frames ${range.first} to ${range.end - 1} are cut out`, Math.max(0, range.first - 1));
   }
 
   async more() {
@@ -127,7 +166,8 @@ export class Cutting {
     if (!found) return;
     if (found.what === "in" || found.what === "out") {
       const range = await this.range();
-      if (range) await this.set(faded(session.script, frames, range, found.what === "in"), `frames ${range.first} to ${range.end - 1} fade ${found.what}`, range.first);
+      const nodes = range && this.changed((shots) => parts.fading(shots, range, found.what === "in"), () => faded(session.script, frames, range, found.what === "in"));
+      if (range) await this.set(nodes, `frames ${range.first} to ${range.end - 1} fade ${found.what}`, range.first);
       return;
     }
     const length = Math.max(1, Math.min(MOST_STILL, Math.round(Number(found.seconds) * rate)));

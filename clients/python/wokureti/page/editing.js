@@ -8,6 +8,8 @@ import * as steps from "./steps.js";
 const find = (id) => document.getElementById(id);
 // Half of the body that the server takes, as HEX.
 const MOST_BYTES = (8 << 20) / 2 - 100;
+// What Save asks, besides the numbers of sources.
+const EXPORT = -1;
 
 export class Editing {
   constructor(model, status) {
@@ -109,10 +111,16 @@ export class Editing {
       const choices = saves
         .map(({ edited, next }, number) => [`the packets of ${names[number]}${number || script === "-" ? "" : ", without the script"}, to ${fileOf(next)}`, number, edited])
         .filter(([, number, edited]) => edited || number === 0);
-      const note = script === "-" ? "" : `The script changes what is shown, and no packet. \`wokureti cat\` with --edits ${session.list} writes the frames that are shown.`;
+      const canExport = script !== "-" && session.exports && !session.changing;
+      if (canExport) choices.push(["the frames that are shown, as packets without coding again: Export", EXPORT]);
+      const note = script === "-" || canExport ? "" : `The script changes what is shown, and no packet. \`wokureti cat\` with --edits ${session.list} writes the frames that are shown.`;
       const found = await ask("Save", "Save", [{ name: "source", label: "What", value: 0, choices }], note);
       if (!found) return;
       source = Number(found.source);
+      if (source === EXPORT) {
+        find("export").click();
+        return;
+      }
     }
     return this.inTurn(async () => {
       try {

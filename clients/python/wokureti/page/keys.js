@@ -35,6 +35,7 @@ export function keysOf({ model, player, timeline, editing, findings, viewer, mac
     { keys: ["d", "D"], show: "D", text: "drop them: packets of no bytes", act: () => editing.drop() },
     { keys: ["e", "E"], show: "E", text: "show only the frames of the selection", act: () => cutting.keep() },
     { keys: ["x", "X"], show: "X", text: "cut the frames of the selection out: no packet is changed", act: () => cutting.cutOut() },
+    { keys: ["v", "V"], show: "V", text: "show the frames of the selection before the current frame", act: () => cutting.moveHere() },
     { keys: ["r", "R"], show: "R", text: "fade, or show black or a frame for a time", act: () => cutting.more() },
     { keys: ["Ctrl+c"], show: "Ctrl C", text: "remember them", act: () => editing.copy(false) },
     { keys: ["Ctrl+x"], show: "Ctrl X", text: "remember them, to move them", act: () => editing.copy(true) },

@@ -18,6 +18,7 @@ import { PacketFacts } from "./packet_facts.js";
 import { Player } from "./player.js";
 import { ScriptPanel } from "./script.js";
 import { Status, notice } from "./status.js";
+import { Strip } from "./strip.js";
 import { frameOf, timeText } from "./times.js";
 import { Thumbs } from "./thumbs.js";
 import { Timeline } from "./timeline.js";
@@ -38,12 +39,13 @@ const packetFacts = new PacketFacts(model);
 const scriptPanel = new ScriptPanel(model, editing);
 const editList = new EditList(model, editing);
 const thumbs = new Thumbs(model, timeline, player);
-const curves = new Curves(model, timeline, status);
+const curves = new Curves(model, timeline, frames, player, status);
 timeline.ondraw = () => {
   thumbs.soon();
   curves.soon();
 };
 const cutting = new Cutting(model, editing, status);
+const strip = new Strip(model, editing, status);
 new Adding(model, status);
 new Cropping(model, cutting, viewer.picture, status);
 editing.viewer = viewer;
@@ -272,7 +274,7 @@ async function begin() {
 }
 
 // For tests.
-window.wokureti = { model, frames, viewer, macroblocks, player, timeline, editing, findings, editList, scriptPanel, cutting, thumbs, curves };
+window.wokureti = { model, frames, viewer, macroblocks, player, timeline, editing, findings, editList, scriptPanel, cutting, thumbs, curves, strip };
 begin().catch((error) => {
   status.say(error.message);
   notice(error.message, { isBad: true });
