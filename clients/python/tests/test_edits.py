@@ -8,6 +8,7 @@ import signal
 import subprocess
 import sys
 import threading
+import time
 import unittest
 from unittest import mock
 
@@ -196,6 +197,37 @@ class LargeSteps(Case):
             stream.hold(1)
             key, hold = stream.packet(0), stream.packet(1)
         return write_packets(self.folder() / "many.ivf", [key] + (count - 1) * [hold])
+
+    def test_edits_together_are_those_of_each_alone(self):
+        choose, path = random.Random(5), self.many(300)
+        for _ in range(40):
+            lines, count = [], 300
+            while len(lines) < 60:
+                at, times = choose.randrange(1, count - 20), choose.choice((1, 1, 2, 9))
+                word = choose.choice(("delete", "delete", "hold", "insert", "move"))
+                rest = {"insert": f" {choose.randrange(9)} {choose.choice(('-', '1100', SMALL.read_bytes()[44:60].hex()))}", "move": f" {choose.randrange(count)}"}.get(word, "")
+                lines += times * [f"{word} {at}{rest}"]
+                count += times * {"delete": -1, "move": 0}.get(word, 1)
+            one, other = (self.session(path).edits.contents() for _ in range(2))
+            start = (list(one.streams[0]), bytes(one.keys[0]))
+            inverses = [one.apply(line) for line in lines]
+            self.assertEqual(other.apply_all(lines), inverses)
+            self.assertEqual((one.streams, one.keys), (other.streams, other.keys))
+            again = [one.perform(operation) for operation in reversed(inverses)]
+            self.assertEqual(other.perform_all(list(reversed(inverses))), again)
+            self.assertEqual((list(other.streams[0]), bytes(other.keys[0])), start)
+            self.assertEqual((one.streams, one.keys), (other.streams, other.keys))
+
+    def test_a_large_step_of_a_long_stream_takes_no_longer_than_the_program(self):
+        stream = self.session(self.many(1 << 20))
+        stream.edits.contents()
+        start = time.monotonic()
+        stream.request_all(10000 * ["delete 1000"])
+        alone = time.monotonic() - start
+        start = time.monotonic()
+        stream.edits.run_step(10000 * ["delete 1000"])
+        stream.undo()
+        self.assertLess(time.monotonic() - start, 3.5 * alone + 0.5 * SLOW)
 
     def test_ten_thousand_edits_are_sent_together(self):
         stream = self.session(self.many(12000), edits=self.folder() / "list")

@@ -1,5 +1,6 @@
 """The packets of a session as they are after its edits: the program has them too, but does not give them out."""
 
+import itertools
 import math
 import secrets
 from array import array
@@ -100,6 +101,35 @@ class Contents:
             at, *size = numbers
             return self.perform(Operation("insert", (at,), self.forge_at(word, at, size)))
         return self.perform(Operation(word, numbers))
+
+    def apply_all(self, lines):
+        """Makes accepted edits, and returns what takes each of them back. Packets that are deleted one after the other go together."""
+        found = []
+        for line, group in itertools.groupby(lines):
+            count = sum(1 for _ in group)
+            if count > 1 and line.startswith("delete "):
+                at = int(line.split(" ")[1])
+                numbers = self.streams[self.current][at : at + count]
+                del self.streams[self.current][at : at + count], self.keys[self.current][at : at + count]
+                found += [Operation("insert", (at,), number) for number in numbers]
+            else:
+                found += [self.apply(line) for _ in range(count)]
+        return found
+
+    def perform_all(self, operations):
+        """Makes changes, and returns what takes each of them back. Packets that are inserted at one index go in together: the last one comes first."""
+        found = []
+        for (word, numbers), group in itertools.groupby(operations, lambda operation: operation[:2]):
+            group = list(group)
+            if word != "insert" or len(group) == 1:
+                found += map(self.perform, group)
+                continue
+            [at] = numbers
+            packets = array("I", [operation.packet for operation in reversed(group)])
+            self.streams[self.current][at:at] = packets
+            self.keys[self.current][at:at] = bytes(map(self.has_key_tag, packets))
+            found += [Operation("delete", (at,))] * len(group)
+        return found
 
     def perform(self, operation):
         """Makes a change, and returns what takes it back."""

@@ -233,8 +233,8 @@ class EditList:
         """The packets after the edits, which are found when they are needed first."""
         if self._contents is None:
             contents = Contents(self._session._inputs, self._session._settings, self.path)
-            for entry in self._entries:
-                entry.inverse = contents.apply(entry.line)
+            for entry, inverse in zip(self._entries, contents.apply_all([entry.line for entry in self._entries])):
+                entry.inverse = inverse
             self._contents = contents
         return self._contents
 
@@ -275,6 +275,19 @@ class EditList:
         self._entries.append(entry)
         self._undone.clear()
         self._write()
+
+    def _accept_all(self, lines):
+        """Adds the edits of a step that the program accepted."""
+        contents, start = self._contents, len(self._entries)
+        self._contents = None
+        try:
+            for line in lines:
+                self.accept(line)
+        finally:
+            self._contents = contents
+        if contents is not None:
+            for entry, inverse in zip(self._entries[start:], contents.apply_all(lines)):
+                entry.inverse = inverse
 
     def _first_line(self):
         """The comment that says which stream a list is of."""
@@ -338,8 +351,7 @@ class EditList:
         refused = next((reply for reply in replies if isinstance(reply, Refused)), None)
         if refused is None:
             with self.step(title):
-                for line in lines:
-                    self.accept(words_of(line))
+                self._accept_all(list(map(words_of, lines)))
             return replies[-1] if replies else ""
         self._depth += 1
         try:
@@ -388,12 +400,8 @@ class EditList:
         those that were made are taken back."""
         contents = self.contents()
         replies = self._session.request_all((contents.line(operation) for operation in operations), timeout)
-        done, refused = [], None
-        for operation, reply in zip(operations, replies):
-            if isinstance(reply, Refused):
-                refused = refused or reply
-            else:
-                done.append(contents.perform(operation))
+        refused = next((reply for reply in replies if isinstance(reply, Refused)), None)
+        done = contents.perform_all([operation for operation, reply in zip(operations, replies) if not isinstance(reply, Refused)])
         if refused is not None:
             for operation in reversed(done):
                 self._session.request(contents.line(operation), timeout, listed=False)
@@ -407,7 +415,8 @@ class EditList:
             return []
         group, contents = self._undone[-1], self.contents()
         replies = self._session.request_all([entry.line for entry in group], timeout)
-        made = [(entry, contents.apply(entry.line)) for entry, reply in zip(group, replies) if not isinstance(reply, Refused)]
+        accepted = [entry for entry, reply in zip(group, replies) if not isinstance(reply, Refused)]
+        made = list(zip(accepted, contents.apply_all([entry.line for entry in accepted])))
         refused = next((reply for reply in replies if isinstance(reply, Refused)), None)
         if refused is not None:
             self._perform([inverse for _, inverse in reversed(made)], timeout)
