@@ -74,9 +74,9 @@ static void open_run(run *r) {
 /* The reply to a line, which is asked again if memory was refused. */
 static void ask(run *r, const char *line) {
     for (int turn = 0; turn < 2; turn++) {
-        size_t length = 0, told = 0;
+        size_t length = 0, copied = 0;
         uint32_t status = wk_request(&r->handle, (const uint8_t *)line, strlen(line), &length);
-        if (status == WK_OK && (length > r->room_size || wk_text(&r->handle, r->room, r->room_size, &told) || told != length)) fail("no text", (long)length);
+        if (status == WK_OK && (length > r->room_size || wk_text(&r->handle, r->room, r->room_size, &copied) || copied != length)) fail("no text", (long)length);
         if (status == WK_OK && !(length >= 16 && !memcmp(r->room, "refused NoMemory", 16))) {
             add(r, r->room, length);
             return;
@@ -111,10 +111,10 @@ static void frame(run *r, uint64_t n) {
 
 static void save(run *r) {
     for (int turn = 0; turn < 2; turn++) {
-        size_t length = 0, told = 0;
+        size_t length = 0, copied = 0;
         uint32_t status = wk_save(&r->handle, true, &length);
         if (status == WK_OK) {
-            if (length > r->room_size || wk_text(&r->handle, r->room, r->room_size, &told)) fail("no file", (long)length);
+            if (length > r->room_size || wk_text(&r->handle, r->room, r->room_size, &copied)) fail("no file", (long)length);
             add(r, r->room, length);
             return;
         }
@@ -168,7 +168,7 @@ static void fuzz(void) {
     open_run(&r);
     for (long number = 0; number < 1000000; number++) {
         char line[256];
-        size_t size = 0, length = 0, told = 0;
+        size_t size = 0, length = 0, copied = 0;
         for (int left = 1 + (int)(number % 7); left && size < 200; left--) {
             state = state * 6364136223846793005u + 1442695040888963407u;
             uint32_t pick = (uint32_t)(state >> 33);
@@ -176,7 +176,7 @@ static void fuzz(void) {
             else size += (size_t)sprintf(line + size, "%s%s", words[pick / 64 % (sizeof words / sizeof *words)], pick & 1 ? " " : "  ");
         }
         if (wk_request(&r.handle, (const uint8_t *)line, size, &length)) fail("a line was not answered", number);
-        if (length > r.room_size || wk_text(&r.handle, r.room, r.room_size, &told) || told != length) fail("no text", number);
+        if (length > r.room_size || wk_text(&r.handle, r.room, r.room_size, &copied) || copied != length) fail("no text", number);
         if (length && r.room[length - 1] != '\n') fail("a reply has no end", number);
         if (number % 1000 == 999) {
             wk_close(&r.handle);

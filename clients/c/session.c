@@ -67,11 +67,11 @@ static void frame(wk_handle *handle, uint64_t n, FILE *out) {
 
 /* Writes the text of the handle. */
 static void write_text(wk_handle *handle, size_t length, FILE *out) {
-    size_t told = 0;
+    size_t copied = 0;
     uint8_t *text = room_of(length + 1);
     text[length] = GUARD;
-    if (length && wk_text(handle, text, length - 1, &told) != WK_ROOM) fail("a room that is a byte too small for a text");
-    if (wk_text(handle, text, length, &told) != WK_OK || told != length) fail("a text was not copied");
+    if (length && wk_text(handle, text, length - 1, &copied) != WK_ROOM) fail("a room that is a byte too small for a text");
+    if (wk_text(handle, text, length, &copied) != WK_OK || copied != length) fail("a text was not copied");
     if (text[length] != GUARD) fail("a byte after a text was written");
     if (fwrite(text, 1, length, out) != length) fail("cannot write");
     free(text);
@@ -114,7 +114,7 @@ int main(int argc, char **argv) {
     char *line = NULL;
     size_t held = 0;
     for (ssize_t got; (got = getline(&line, &held, stdin)) >= 0;) {
-        /* A carriage return before the newline is no part of a line. */
+        /* A carriage return before the newline is not part of the line. */
         if (got && line[got - 1] == '\n') {
             got--;
             if (got && line[got - 1] == '\r') got--;

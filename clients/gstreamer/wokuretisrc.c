@@ -93,10 +93,10 @@ typedef struct {
 
 /* The reply to a line. */
 static gchar *reply_to(WokuretiSrc *src, const gchar *line) {
-    size_t length = 0, told = 0;
+    size_t length = 0, copied = 0;
     if (wk_request(&src->handle, (const uint8_t *)line, strlen(line), &length)) return g_strdup("out of memory");
     gchar *reply = g_malloc0(length + 1);
-    wk_text(&src->handle, (uint8_t *)reply, length, &told);
+    wk_text(&src->handle, (uint8_t *)reply, length, &copied);
     return g_strchomp(reply);
 }
 

@@ -62,7 +62,7 @@ enum {
     WK_FILE = 2,     /* the bytes of a source are not an IVF file of VP8: see wk_fault */
     WK_MEMORY = 3,   /* out of memory; nothing changed */
     WK_CLOSED = 4,   /* the handle holds nothing */
-    WK_ROOM = 5,     /* too little room; the size of what was asked for is told */
+    WK_ROOM = 5,     /* too little room; the size that is needed is reported */
     WK_TABLES = 6,   /* the tables do not have 3,012 bytes */
     WK_LOST = 7,     /* out of memory for a reply; the line may have been answered */
     /* refusals, as the words of replies */

@@ -1,0 +1,174 @@
+#!/usr/bin/env python3
+"""Tests the VapourSynth plugin over the library: its frames, asked for from several threads in any order, are those that vp8serve serves, and its
+errors have the refusals of vp8serve.
+
+VapourSynth is not there: the plugin is loaded by a host of its own, tests/vapoursynth_host.c. The library is that of the variable LIBWOKURETI, or
+bin/libwokureti.so.0. It prints what differs and ends with 1, or prints nothing and ends with 0; a line `skipped: ..` names what could not be run.
+"""
+
+import os
+import pathlib
+import random
+import shutil
+import statistics
+import subprocess
+import sys
+import tempfile
+from fractions import Fraction
+
+TOP = pathlib.Path(__file__).resolve().parent.parent
+sys.path.insert(0, str(TOP / "clients/python"))
+from wokureti import ivf  # noqa: E402
+
+DATA = TOP / "crates/gate_clips/data"
+LIBRARY = pathlib.Path(os.environ.get("LIBWOKURETI") or TOP / "bin/libwokureti.so.0")
+SERVE = os.environ.get("VP8SERVE") or str(TOP / "bin/vp8serve")
+LIMIT = 120
+CHECKS = (["-fsanitize=address,undefined", "-fno-sanitize-recover=all"], [])
+PROPERTIES = "_Matrix=6 _ColorRange=1 _ChromaLocation=1 _FieldBased=0"
+
+
+def ran(*words, **more):
+    return subprocess.run(list(map(str, words)), capture_output=True, timeout=LIMIT, check=False, **more)
+
+
+class Host:
+    """The plugin and its host, compiled into a folder."""
+
+    def __init__(self, folder):
+        self.folder = folder
+        self.plugin, self.host = folder / "libwokureti-vapoursynth.so", folder / "host"
+        own = ran("pkg-config", "--cflags", "vapoursynth", text=True) if shutil.which("pkg-config") else None
+        self.has_header = own is not None and own.returncode == 0
+        flags = ["-std=gnu11", "-O1", "-g", "-Wall", "-Wextra", "-Werror", "-fvisibility=hidden", "-I", TOP / "clients/c/include", "-I", TOP / "clients/vapoursynth"]
+        flags += own.stdout.split() if self.has_header else []
+        for checks in CHECKS:
+            self.is_checked = bool(checks)
+            made = ran("gcc", *flags, *checks, "-fPIC", "-shared", "-o", self.plugin, TOP / "clients/vapoursynth/wokureti.c", LIBRARY, f"-Wl,-rpath,{LIBRARY.parent}", "-pthread", text=True)
+            host = ran("gcc", *flags, *checks, "-o", self.host, TOP / "tests/vapoursynth_host.c", "-ldl", "-pthread", text=True)
+            if made.returncode == host.returncode == 0:
+                return
+        raise SystemExit(f"the plugin or its host does not compile: {made.stderr}{host.stderr}")
+
+    def run(self, numbers, *arguments, threads=4):
+        """The host's status, its lines, and the samples."""
+        out = self.folder / "frames"
+        done = ran(self.host, self.plugin, out, threads, *arguments, "--", *numbers, text=True)
+        lines = (done.stdout + done.stderr[-500:]).splitlines()
+        return done.returncode, lines, out.read_bytes() if done.returncode == 0 else b""
+
+
+def served(paths, numbers, script=None):
+    """vp8serve's replies to requests for these frames, and the samples of those that are served."""
+    with tempfile.TemporaryDirectory() as folder:
+        out = pathlib.Path(folder, "out.y4m")
+        requests = ([f"script {script}"] if script else []) + [f"frame {number}" for number in numbers]
+        more = ["--sources", ":".join(map(str, paths[1:]))] if paths[1:] else []
+        done = ran(SERVE, paths[0], "-", out, *more, input="".join(line + "\n" for line in requests).encode())
+        line, rest = out.read_bytes().split(b"\n", 1)
+    width, height = (int(word[1:]) for word in line.split()[1:3])
+    size = width * height * 3 // 2
+    frames = [rest[at + 6 : at + 6 + size] for at in range(0, len(rest), 6 + size)]
+    return done.stdout.decode().splitlines()[1 if script else 0 :], b"".join(frames), (width, height)
+
+
+def kinds(path):
+    """The kind of each shown packet, as VapourSynth names it."""
+    return ["I" if ivf.is_key(data) else "P" for _, data in ivf.read_packets(path)[1] if ivf.is_shown(data)]
+
+
+def rate(path):
+    """The frames a second of a file, in lowest terms."""
+    head, packets = ivf.read_packets(path)
+    stamps = [stamp for stamp, data in packets if ivf.is_shown(data)]
+    found = Fraction(head.rate, head.scale * statistics.median_high([after - before for before, after in zip(stamps, stamps[1:]) if after > before]))
+    return found.numerator, found.denominator
+
+
+def frames(host, path, chance, script=None, sources=(), cache=None):
+    """What is wrong with the frames of a clip, which are asked for three times each."""
+    given = [f"path={path}", *(f"sources={one}" for one in sources)] + ([f"script={script}"] if script else []) + ([f"cache={cache}"] if cache else [])
+    status, lines, _ = host.run([], *given)
+    if status or not lines or not lines[0].startswith("clip "):
+        return [f"{path.name}: status {status}, {lines}"]
+    count = int(lines[0].split()[3])
+    numbers = 3 * list(range(count))
+    chance.shuffle(numbers)
+    replies, samples, size = served([path, *sources], numbers, script)
+    kind, (many, one) = kinds(path), rate(path)
+    wanted = [f"clip {size[0]}x{size[1]} frames {count} rate {many}/{one}"]
+    for number, reply in zip(numbers, replies):
+        shown = "" if script else f" _PictType={kind[number]}"
+        wanted.append(f"{number} {PROPERTIES} _DurationNum={one} _DurationDen={many}{shown}" if reply == f"served {number}" else f"{number} error wokureti: frame {number}: {reply}")
+    wrong = []
+    for threads in (1, 4):
+        status, lines, got = host.run(numbers, *given, threads=threads)
+        if status or lines != wanted:
+            wrong.append(f"{path.name} on {threads} threads: status {status}, {[pair for pair in zip(lines, wanted) if pair[0] != pair[1]][:2]} {lines[-1:]}")
+        elif got != samples:
+            wrong.append(f"{path.name} on {threads} threads: other samples")
+    return wrong
+
+
+def written(folder, name, changes, step=1):
+    """A clip of ten packets, of which some are others, with this step of time stamps."""
+    head, packets = ivf.read_packets(DATA / "scene-cuts.ivf")
+    packets = [(step * place, changes.get(place, data)) for place, (_, data) in enumerate(packets[:10])]
+    path = folder / name
+    path.write_bytes(b"".join(ivf.pieces(head, len(packets), packets)))
+    return path
+
+
+def refusals(host, folder):
+    """Clips that are not made."""
+    clip, empty = DATA / "scene-cuts.ivf", folder / "empty.ivf"
+    empty.write_bytes(b"".join(ivf.pieces(ivf.Head(64, 48, 30, 1), 0, [])))
+    wanted = [
+        ([], "path is missing"),
+        ([f"path={folder / 'none.ivf'}"], f"cannot read {folder / 'none.ivf'}"),
+        ([f"path={folder}"], f"cannot read {folder}"),
+        ([f"path={TOP / 'README.md'}"], "source 0 is not an IVF file of VP8: Magic"),
+        ([f"path={clip}", f"sources={TOP / 'README.md'}"], "source 1 is not an IVF file of VP8: Magic"),
+        ([f"path={clip}", *[f"sources={clip}"] * 8], "there are more than seven sources"),
+        ([f"path={clip}", "cache=0"], "cache is 0, but must be 1 to 4096"),
+        ([f"path={clip}", "cache=4097"], "cache is 4097, but must be 1 to 4096"),
+        ([f"path={clip}", "script=trim 0"], "script: refused Syntax"),
+        ([f"path={clip}", "script=source 1"], "script: refused Reference"),
+        ([f"path={clip}", "script=trim 0 0 9\nuse 0"], "script: refused Syntax"),
+        ([f"path={empty}"], "there are no frames"),
+        ([f"path={DATA / 'odd-size.ivf'}"], "VapourSynth's YUV420P8 needs even sides"),
+        ([f"path={written(folder, 'all.ivf', dict.fromkeys(range(10), bytes(2)))}"], "no frame is served; frame 0: refused packet 0 ShortPacket"),
+    ]
+    for words, text in wanted:
+        status, lines, _ = host.run([], *words)
+        if status != 3 or len(lines) != 1 or not lines[0].startswith("error wokureti.Source: ") or text not in lines[0]:
+            yield f"{words}: status {status}, {lines}"
+
+
+def main():
+    if shutil.which("gcc") is None:
+        print("skipped: gcc is not there")
+        return 0
+    if not LIBRARY.is_file():
+        print("skipped: the library is not built: ./build.py --library makes it")
+        return 0
+    chance = random.Random(75)
+    with tempfile.TemporaryDirectory() as name:
+        folder = pathlib.Path(name)
+        host = Host(folder)
+        if not host.is_checked:
+            print("skipped: the compiler has no -fsanitize=address")
+        if not host.has_header:
+            print("skipped: VapourSynth is not there: the plugin is compiled with the declarations of clients/vapoursynth/vapoursynth4.h, and loaded by tests/vapoursynth_host.c")
+        clip, other, key = DATA / "hidden-altref.ivf", DATA / "scene-cuts.ivf", ivf.read_packets(DATA / "scene-cuts.ivf")[1][0][1]
+        wrong = [*frames(host, clip, chance), *frames(host, other, chance, cache=2), *refusals(host, folder)]
+        wrong += frames(host, clip, chance, script="crop 0 2 2 16 8; trim 1 3 4")
+        wrong += frames(host, clip, chance, script="source 1; trim 1 0 4; splice 2 1; fade 3 0 4 256 0", sources=[clip])
+        wrong += frames(host, written(folder, "middle.ivf", {4: bytes(2), 7: key}), chance)
+        wrong += frames(host, written(folder, "first.ivf", {0: b"\x10\x00", 2: key}, step=5), chance)
+    print("".join(line + "\n" for line in wrong), end="")
+    return 1 if wrong else 0
+
+
+if __name__ == "__main__":
+    sys.exit(main())
