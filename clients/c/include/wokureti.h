@@ -89,7 +89,8 @@ uint32_t wk_frame(wk_handle *handle, uint64_t n, uint8_t *y, size_t y_size, uint
                   wk_shown *shown);
 
 /* Answers a request line, without its newline, and without a carriage return before that. The reply is the text of the handle
- * afterwards, and `length` its length: nothing for an empty line or a comment. The bytes of a frame go nowhere. */
+ * afterwards, and `length` its length: nothing for an empty line or a comment, and all lines of a reply that begins with `lines`, each with
+ * its newline. The bytes of a frame go nowhere. */
 uint32_t wk_request(wk_handle *handle, const uint8_t *line, size_t size, size_t *length);
 
 /* Writes why the last line was refused, as `vp8serve --explain` does, which is the text of the handle afterwards. Its length is 0 if the line was

@@ -2,6 +2,7 @@
 
 import gc
 import itertools
+import json
 import os
 import shutil
 import signal
@@ -13,7 +14,7 @@ import unittest
 from unittest import mock
 
 from support import CLIP, DATA, ODD, SLOW, SMALL, TOP, Case, digest, frames_of, is_alive, packets_of, process_of
-from wokureti import Count, Ended, Refused, Session, ivf
+from wokureti import Count, Ended, Refused, Session, ivf, programs
 from wokureti.frames import FrameReader
 
 # The size of the example, and the MD5 of some of its frames, from `vpxdec --i420`.
@@ -50,6 +51,53 @@ class Requests(Case):
             self.assertEqual(digest(before), digest(after))
             stream.replace(10, packets[10])
             self.assertEqual(digest(stream.frame(12)), FRAMES[12])
+
+    def test_packets_are_listed_as_they_are_saved(self):
+        path = self.folder() / "saved.ivf"
+        with self.session(CLIP) as stream:
+            stream.hide(3)
+            stream.replace(10, b"\x11\x00")
+            stream.delete(0)
+            stream.hold(7)
+            count = stream.count().packets
+            found = [facts for first in range(0, count, 7) for facts in stream.list_packets(first, 7)]
+            stream.save(path)
+            lister = os.environ.get("VP8LIST") or programs.find("vp8list")
+            text = subprocess.run([lister, path, "--json"], check=True, stdout=subprocess.PIPE, timeout=60).stdout
+            self.assertEqual(found, list(map(json.loads, text.splitlines())))
+            self.assertEqual(stream.packets(), found)
+            self.assertEqual(stream.packets([9, 2, 99, 4]), [found[number] for number in (9, 2, 4)])
+            self.assertEqual((stream.list_packets(count, 5), stream.list_packets(3, 0)), ([], []))
+            with self.assertRaises(Refused) as refused:
+                stream.list_packets(count + 1, 0)
+            self.assertEqual(refused.exception.word, "Place")
+            self.assertEqual(stream.count().packets, count)
+
+    def test_packets_of_another_source(self):
+        with self.session(SMALL, sources=[ODD]) as stream:
+            stream.use(1)
+            stream.delete(0)
+            odd = stream.list_packets(0, 99)
+            stream.use(0)
+            self.assertEqual(stream.packets(source=1), odd)
+            self.assertEqual(stream.packets(), stream.list_packets(0, 99))
+            self.assertEqual(list(stream.edits), ["use 1", "delete 0", "use 0"])
+
+    def test_origins(self):
+        with self.session(SMALL, sources=[ODD]) as stream:
+            stream.hide(2)
+            stream.script("source 1", "trim 0 1 2", "splice 2 1", "fade 3 0 2 256 0")
+            frames = stream.count().frames
+            found = stream.origins(0, frames + 9)
+            self.assertEqual([origin["frame"] for origin in found], list(range(frames)))
+            self.assertEqual(found[0], {"frame": 0, "source": 0, "source_frame": 1, "packet": 1, "changed": []})
+            self.assertEqual(found[1], {"frame": 1, "source": 0, "source_frame": 2, "packet": 3, "changed": [4]})
+            self.assertEqual(found[2], {"frame": 2, "source": 1, "source_frame": 0, "packet": 0, "changed": [4]})
+            self.assertEqual(stream.origins(1, 1), found[1:2])
+            self.assertEqual(stream.origins(frames, 1), [])
+            with self.assertRaises(Refused) as refused:
+                stream.origins(frames + 1, 1)
+            self.assertEqual(refused.exception.word, "NoSuchFrame")
 
     def test_steps_are_counted(self):
         with self.session(cache=64) as stream:

@@ -1,4 +1,5 @@
-"""A vp8serve that runs with --live, and the pipes to it: one line is written, and its reply and picture are read.
+"""A vp8serve that runs with --live, and the pipes to it: one line is written, and its reply and picture are read. A reply is one line, or `lines K`
+and K lines.
 
 No thread reads in the background. The caller waits for all pipes together, so the program never waits for room in one of them, and what
 goes wrong is raised where the request was made.
@@ -111,15 +112,10 @@ class Pipes:
         return found
 
     def answer(self, deadline):
-        """The next reply, and its picture."""
-        while True:
-            end = self.read.find(b"\n")
-            if end >= 0:
-                break
-            self.check()
-            self.wait(deadline, self.open)
-        reply = bytes(self.read[:end]).decode(errors="replace")
-        del self.read[: end + 1]
+        """The next reply with all its lines, and its picture."""
+        reply = self.line(deadline)
+        if reply.startswith("lines "):
+            return "\n".join([reply, *(self.line(deadline) for _ in range(int(reply[6:])))]), None
         if not reply.startswith("served "):
             return reply, None
         # The frame was written before its reply, so it is in the pipe even if the program has ended since.
@@ -128,6 +124,20 @@ class Pipes:
                 raise Gone
             self.wait(deadline, [self.frames])
         return reply, self.reader.take()
+
+    def line(self, deadline):
+        """The next line of the replies."""
+        start = 0
+        while True:
+            end = self.read.find(b"\n", start)
+            if end >= 0:
+                break
+            start = len(self.read)
+            self.check()
+            self.wait(deadline, self.open)
+        line = bytes(self.read[:end]).decode(errors="replace")
+        del self.read[: end + 1]
+        return line
 
     def write(self, left, deadline):
         """Writes a line. The program may not read it: it may have ended, or wait for room to explain something."""

@@ -2,6 +2,7 @@
 
 from __future__ import annotations
 
+import json
 import os
 import pathlib
 import threading
@@ -22,6 +23,8 @@ AnyBytes = Union[bytes, bytearray, memoryview]
 EDITS = frozenset(("use", "insert", "replace", "delete", "move", "copy", "blank", "hold", "hide", "show", "script"))
 # Lines and bytes that are sent at a time, at most.
 MOST_LINES, MOST_BYTES = 500, 1 << 18
+# Packets of a source, at most.
+MOST_PACKETS = 1 << 20
 # Bytes of pictures that the program caches where nothing else is said.
 MOST_CACHED = 512 << 20
 
@@ -201,7 +204,7 @@ class Session:
         return _Turn(self._lock, self._timeout if timeout is None else timeout)
 
     def request(self, line: str, timeout: Optional[float] = None, listed: bool = True) -> str:
-        """The reply to a request line, without its newline. A picture that it serves is dropped.
+        """The reply to a request line, without its newline: one line, or `lines K` and K lines. A picture that it serves is dropped.
 
         `Refused` if the reply is a refusal, `Ended` if the session is over. An edit that is not `listed` is not in the list of edits.
         """
@@ -395,15 +398,38 @@ class Session:
         for item in self._inputs.all:
             item.records()
 
+    def list_packets(self, first: int, count: int, timeout: Optional[float] = None) -> list[dict[str, Any]]:
+        """The facts of at most `count` packets of the current source, starting at index `first`, as `vp8list --json` has them of the file that they are
+        saved to: a dictionary for each. `first` may be the number of packets."""
+        return objects_of(self.request(f"list {checks.number(first)} {checks.number(count)}", timeout))
+
+    def origins(self, first: int, count: int, timeout: Optional[float] = None) -> list[dict[str, Any]]:
+        """Where at most `count` frames of the current script come from, starting at frame `first`: a dictionary for each, with the source, its frame,
+        the packet, and the numbers of the nodes that change its samples."""
+        return objects_of(self.request(f"origins {checks.number(first)} {checks.number(count)}", timeout))
+
     def packet(self, index: int, source: Optional[int] = None) -> bytes:
         """The bytes of a packet of the current source, or of another one."""
         with self._locked(None):
             return self._edits.contents().packet(index, source).bytes()
 
     def packets(self, numbers: Optional[Iterable[int]] = None, source: Optional[int] = None) -> list[dict[str, Any]]:
-        """The facts of the packets of a range, or of all, as `vp8list --json` has them: a dictionary for each."""
-        with self._locked(None):
-            return self._edits.contents().facts(numbers, source)
+        """The facts of the packets of a range, or of all, of the current source or another one, as `list_packets` has them. Those that do not exist are
+        left out."""
+        wanted = range(MOST_PACKETS) if numbers is None else [number for number in numbers if number >= 0]
+        if not wanted:
+            return []
+        first, end = (wanted[0], len(wanted)) if numbers is None else (min(wanted), max(wanted) + 1)
+        lines = [f"list {first} {end - first}"]
+        with self._locked(None) as deadline:
+            if source is not None:
+                contents = self._edits.contents()
+                other, current = contents.source(source), contents.current
+                lines = lines if other == current else [f"use {other}", *lines, f"use {current}"]
+            reply, _ = self._exchange(*map(checks.line, lines), deadline=deadline)[len(lines) // 2]
+        # Refused is only an index past the end.
+        found = [] if reply.startswith("refused ") else objects_of(reply)
+        return found if numbers is None else [found[number - first] for number in wanted if number - first < len(found)]
 
     @property
     def rate(self) -> tuple[int, int]:
@@ -469,6 +495,11 @@ def batches(lines):
             batch, size = [], 0
     if batch:
         yield batch
+
+
+def objects_of(reply):
+    """The objects of a reply of several lines."""
+    return [json.loads(line) for line in reply.split("\n")[1:]]
 
 
 def is_reply(reply, line):

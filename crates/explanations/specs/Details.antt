@@ -44,6 +44,8 @@ edit_detail now (edits.ShowBit at shown) = no_packet_of now at
 abbrev pub question_detail : Now → Question → Detail
 question_detail now (questions.Packet at) = no_packet_of now at
 question_detail now questions.Script = Nothing
+question_detail now (questions.Origins first count) = Nothing
+question_detail now (questions.List first count) = past_end_of now first
 
 -- which index of a request has no packet
 abbrev pub place_detail : Now → Line → Detail
@@ -54,6 +56,7 @@ place_detail now line = Nothing
 -- the frame of a request that does not exist, and how many there are
 abbrev pub frame_detail : Now → Line → Detail
 frame_detail now (lines.Frame n) = NoFrame n (frame_count now)
+frame_detail now (lines.Ask (questions.Origins first count)) = NoFrame first (frame_count now)
 frame_detail now line = Nothing
 
 -- the size of a frame, by its key packet and the crops, and of the first one served

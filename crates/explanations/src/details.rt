@@ -98,7 +98,8 @@ fn question_detail(session: &Session, question: Question) -> Detail
 {
     match question {
         Question::Packet { at } => no_packet_of(session, at),
-        Question::Script => Detail::Nothing,
+        Question::List { first, .. } => past_end_of(session, first),
+        Question::Script | Question::Origins { .. } => Detail::Nothing,
     }
 }
 
@@ -120,6 +121,10 @@ fn frame_detail(session: &Session, line: &Line<'_>) -> Detail
     match line {
         Line::Frame(n) => Detail::NoFrame {
             n: *n,
+            count: session.count().1,
+        },
+        Line::Ask(Question::Origins { first, .. }) => Detail::NoFrame {
+            n: *first,
             count: session.count().1,
         },
         _ => Detail::Nothing,

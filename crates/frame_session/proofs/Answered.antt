@@ -1,5 +1,6 @@
 -- Each request list has a meaning in which nothing is out of memory.
-use Rattle.std.proofs.Common.{◌≡◌, ◌≢◌, All, ℕ, zero, suc, List, [], ◌∷◌, Bool, true, false, cond, Option, Some, None, Result, Ok, Err, get_or, length, option_map, slice_get, refl, ap, arith}
+use Rattle.std.proofs.Common.{◌≡◌, ◌≢◌, All, ℕ, zero, suc, ◌-◌, List, [], ◌∷◌, Bool, true, false, cond, Option, Some, None, Result, Ok, Err, get_or, length, map, min, nat_lt, option_map, slice_get, refl, ap, arith}
+use Rattle.std.specs.List.{range_with_len}
 use Rattle.std.specs.Option.{option_map_or}
 use Rattle.std.proofs.lemmas.List.Elements.{All-head, All-tail}
 use Rattle.script_nodes.specs.declared.faults.ScriptFault.TheVariants as scripts
@@ -23,6 +24,7 @@ use Rattle.packet_edits.specs.declared.entry.Entry.{Entry}
 use Rattle.packet_edits.specs.declared.fault.EditFault.TheVariants as faults
 use Rattle.packet_edits.specs.Edits.{Listing}
 use Rattle.packet_edits.specs.Sizes.{size_at}
+use Rattle.packet_lists.specs.Lines.{lines_from}
 use Rattle.packet_forge.specs.declared.faults.ForgeFault.{ForgeFault}
 use Rattle.packet_forge.specs.declared.faults.ForgeFault.TheVariants as forging
 use Rattle.packet_forge.specs.Packets.{blank_of}
@@ -30,8 +32,9 @@ use Rattle.show_bits.specs.ShowBits.{has_show_bit}
 use Rattle.vp8_tables.specs.declared.tables.Tables.{Tables}
 use Rattle.frame_session.proofs.Forging.{blank_lacks_none, held_lacks_none}
 use Rattle.frame_session.specs.Edits.{WrittenAnswers, edit_of, hold_bytes_at, refusal_by, refused_forged, count_unless}
+use Rattle.frame_session.specs.Origins.{origin_line}
 use Rattle.frame_session.specs.Questions.{answer_to}
-use Rattle.frame_session.specs.Replies.{refused_line, served_line, ok_line, edit_line, count_line, packet_line, script_line, stats_line}
+use Rattle.frame_session.specs.Replies.{lines_reply, refused_line, served_line, ok_line, edit_line, count_line, packet_line, script_line, stats_line}
 use Rattle.frame_session.specs.Scripts.{script_reported}
 use Rattle.frame_session.specs.Sessions.{Now, after_frame, choice_answer, current_list, edit_answer, now_after_choice, now_after_edit, now_after_script, fits, fitted, frame_count, frame_from, frame_made, frame_of, outcome_of, packet_count, picture_from, script_answer, shown_counts, size_of, size_served}
 use Rattle.frame_session.specs.Answers.{Answer, Answers, Run, answer_to_frame, reply_only}
@@ -212,9 +215,15 @@ packet_told : (packet : Option Entry) → option_map_or (λ entry. packet_line e
 packet_told None e = refusal_told refusals.Place (λ h. cc) e
 packet_told (Some entry) e = begins_otherwise (packet_line entry.stamp entry.bytes) refusals.NoMemory (λ h. omega (arith, h)) e
 
+lines_told : (refusal : Refusal) → (refusal ≡ refusals.NoMemory → ⊥) → (past : Bool) (lines : List (List ℕ)) → cond past (refused_line refusal) (lines_reply lines) ≡ refused_line refusals.NoMemory → ⊥
+lines_told refusal other true lines same = refusal_told refusal other same
+lines_told refusal other false lines same = begins_otherwise (lines_reply lines) refusals.NoMemory (λ h. omega (arith, h)) same
+
 question_told : (old : Now) (question : Question) → answer_to old question ≡ refused_line refusals.NoMemory → ⊥
 question_told old (questions.Packet at) e = packet_told (slice_get (current_list old).entries at) e
 question_told old questions.Script e = begins_otherwise (script_line old.script) refusals.NoMemory (λ h. omega (arith, h)) e
+question_told old (questions.Origins first count) e = lines_told refusals.NoSuchFrame (λ h. cc) (nat_lt (frame_count old) first) (map (origin_line old) (range_with_len first (min count (frame_count old - first)))) e
+question_told old (questions.List first count) e = lines_told refusals.Place (λ h. cc) (nat_lt (length (current_list old).entries) first) (lines_from (current_list old) first count) e
 
 -- an answer to one line, other than `refused NoMemory`, and the state after it
 pub record HasAnswer (old : Now) (line : Line) : Type 0 where

@@ -124,6 +124,8 @@ one_script old steps text set set' answer answer' new new' returned gives' first
 asked_counted : (old : Now) (steps : ℕ) (question : Question) → answer_to (counted old steps) question ≡ answer_to old question
 asked_counted old steps (questions.Packet at) = refl
 asked_counted old steps questions.Script = refl
+asked_counted old steps (questions.Origins first count) = refl
+asked_counted old steps (questions.List first count) = refl
 
 -- two answers to one line, the second after another number of steps
 one_answer : (old : Now) (steps : ℕ) (line : Line) (answer answer' : Answer) (new new' : Now) → Answers old line answer new → Answers (counted old steps) line answer' new' → (answer.reply ≡ refused_line refusals.NoMemory → ⊥) → (answer'.reply ≡ refused_line refusals.NoMemory → ⊥) → AreAlike line answer answer' × (new' ≡ counted new new'.decoded)

@@ -4,6 +4,7 @@ pub mod Scripts
 pub mod Frames
 pub mod Replies
 pub mod Sessions
+pub mod Origins
 pub mod Questions
 pub mod Cached
 pub mod Answers

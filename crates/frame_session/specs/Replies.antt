@@ -1,5 +1,6 @@
 -- The texts of replies.
-use Rattle.std.specs.Prelude.{ℕ, zero, suc, List, [], ◌∷◌, ◌++◌, codes, Result, Ok, Err}
+use Rattle.std.specs.Prelude.{ℕ, zero, suc, List, [], ◌∷◌, ◌++◌, codes, length, Result, Ok, Err}
+use Rattle.std.specs.List.{concat}
 use Rattle.std.specs.Fmt.{decimal}
 use Rattle.frame_header.specs.declared.cause.Cause.{Cause}
 use Rattle.frame_header.specs.declared.cause.Cause.TheVariants as causes
@@ -81,6 +82,14 @@ packet_line stamp bytes = codes "packet " ++ decimal stamp ++ codes " " ++ hex_w
 -- a script
 abbrev pub script_line : List Node → List ℕ
 script_line nodes = codes "script " ++ script_text nodes ++ 10 ∷ []
+
+-- the first line of a reply of several lines: how many follow
+abbrev pub lines_line : ℕ → List ℕ
+lines_line count = codes "lines " ++ decimal count ++ 10 ∷ []
+
+-- a reply of several lines, each of which ends with its newline
+abbrev pub lines_reply : List (List ℕ) → List ℕ
+lines_reply lines = lines_line (length lines) ++ concat lines
 
 -- the name of a run's error
 abbrev pub run_fault_word : RunFault → List ℕ

@@ -1,8 +1,7 @@
 // Writes replies. A function that writes a whole reply returns the refusal that it reports, if it reports one.
-ghost use Rattle.std.specs.Prelude.{◌≡◌, ◌++◌, IfOk, OnOk, codes};
-ghost use Rattle.std.specs.Fmt.{decimal};
+ghost use Rattle.std.specs.Prelude.{◌≡◌, IfOk, OnOk};
 ghost use Rattle.std.specs.Io.KnownBytes.{Appends};
-ghost use Rattle.frame_session.specs.Replies.{cause_text, count_line, edit_line, ok_line, packet_line, refusal_text, refused_line, script_line, served_line, source_text, stats_line};
+ghost use Rattle.frame_session.specs.Replies.{cause_text, count_line, edit_line, lines_line, ok_line, packet_line, refusal_text, refused_line, script_line, served_line, source_text, stats_line};
 ghost use Rattle.frame_session.specs.Told.{Tells};
 
 use crate::refusal::Refusal;
@@ -80,6 +79,13 @@ pub fn write_packet<W: Write>(
     Ok(None)
 }
 
+/// Writes the first line of a reply of several lines.
+pub fn write_lines_line<W: Write>(w: &mut W, count: u64) -> Result<(), WriteFault>
+    ensures { OnOk result (Appends (W.contents w.old) (W.contents w.new) (lines_line count)) }
+{
+    writeln!(w, "lines {count}").map_err(|_| WriteFault::Write)
+}
+
 /// Writes a script.
 pub fn write_script<W: Write>(w: &mut W, script: &Script) -> Result<Option<Refusal>, WriteFault>
     ensures wrote { OnOk result (Appends (W.contents w.old) (W.contents w.new) (script_line script.now)) }
@@ -140,7 +146,7 @@ fn write_cause<W: Write>(w: &mut W, cause: Cause) -> Result<(), WriteFault>
     }
 }
 
-fn write_text<W: Write>(w: &mut W, text: &str) -> Result<(), WriteFault>
+pub fn write_text<W: Write>(w: &mut W, text: &str) -> Result<(), WriteFault>
     ensures { OnOk result (Appends (W.contents w.old) (W.contents w.new) text.now) }
 {
     w.write_all(text.as_bytes()).map_err(|_| WriteFault::Write)

@@ -15,6 +15,7 @@ ghost use Rattle.frame_session.specs.Edits.{EditAnswers, WrittenAnswers};
 
 mod exports;
 mod known;
+mod origins;
 mod questions;
 
 use crate::keeping::{edit_cached, picture_at};

@@ -60,6 +60,7 @@ commands =
     ∷ command (codes "count") (Words [] Count)
     ∷ command (codes "stats") (Words [] Stats)
     ∷ command (codes "packet") (Words (Number ∷ []) (λ at. Ask (questions.Packet at)))
+    ∷ command (codes "list") (Words (Number ∷ Number ∷ []) (λ first count. Ask (questions.List first count)))
     ∷ command (codes "origins") (Words (Number ∷ Number ∷ []) (λ first count. Ask (questions.Origins first count)))
     ∷ edit_commands
 

@@ -25,6 +25,7 @@ pub fn worked_lines()
     ensures stats { asked_by (codes "stats") ≡ requests.Stats }
     ensures script { asked_by (codes "script trim 0 1 2; splice 1 0") ≡ requests.Script (codes " trim 0 1 2; splice 1 0") }
     ensures script_alone { asked_by (codes "script  ") ≡ requests.Ask questions.Script }
+    ensures list { asked_by (codes "list 3 10") ≡ requests.Ask (questions.List 3 10) }
     ensures origins { asked_by (codes "origins 3 10") ≡ requests.Ask (questions.Origins 3 10) }
     ensures packet { asked_by (codes "packet 3") ≡ requests.Ask (questions.Packet 3) }
     ensures hide { asked_by (codes "hide 4") ≡ requests.Edit (edits.ShowBit 4 false) }

@@ -89,7 +89,7 @@ fn ended<'a>(request: Line<'a>, rest: &'a [u8]) -> Result<Line<'a>, Misfit<'a>>
 /// The request of a line, or why it is not one: the first of its words that does not fit.
 ///
 /// A line without words, or whose first word begins with `#`, has no reply. The requests are
-/// `frame N`, `use K`, `script TEXT`, `count`, `stats`, the questions `packet N`, `origins FIRST COUNT` and `script`, and the edits `insert AT STAMP HEX`,
+/// `frame N`, `use K`, `script TEXT`, `count`, `stats`, the questions `packet N`, `list FIRST COUNT`, `origins FIRST COUNT` and `script`, and the edits `insert AT STAMP HEX`,
 /// `replace AT HEX`, `delete AT`, `move FROM TO`, `copy S FROM AT`, `blank AT W H`, `hold AT`, `hide N` and `show N`. HEX is `-`
 /// or an even number of hexadecimal digits, TEXT is the rest of the line with at least one word, and the others are numbers.
 pub fn read_line(line: &[u8]) -> Result<Line<'_>, Misfit<'_>>
@@ -112,6 +112,8 @@ pub fn read_line(line: &[u8]) -> Result<Line<'_>, Misfit<'_>>
         ended(Line::Stats, words)
     } else if command == b"packet".as_slice() {
         packet_line(words)
+    } else if command == b"list".as_slice() {
+        list_line(words)
     } else if command == b"origins".as_slice() {
         origins_line(words)
     } else {
@@ -174,6 +176,14 @@ fn packet_line(words: &[u8]) -> Result<Line<'_>, Misfit<'_>>
 {
     let (at, rest) = next_number(words)?;
     ended(Line::Ask(Question::Packet { at }), rest)
+}
+
+fn list_line(words: &[u8]) -> Result<Line<'_>, Misfit<'_>>
+    ensures { result ≡ read_after (codes "list") words.now }
+{
+    let (first, rest) = next_number(words)?;
+    let (count, rest) = next_number(rest)?;
+    ended(Line::Ask(Question::List { first, count }), rest)
 }
 
 fn origins_line(words: &[u8]) -> Result<Line<'_>, Misfit<'_>>

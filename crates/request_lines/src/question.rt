@@ -7,4 +7,6 @@ pub enum Question {
     Script,
     /// The origins of at most `count` frames of the current script, starting at frame `first`.
     Origins { first: u64, count: u64 },
+    /// The facts of at most `count` packets of the current source, starting at index `first`.
+    List { first: u64, count: u64 },
 }

@@ -1,5 +1,5 @@
 -- The facts of a packet, by the headers of the packets before it.
-use Rattle.std.specs.Prelude.{ℕ, ◌+◌, ◌==◌, ◌&&◌, ◌||◌, Bool, true, false, not, if◌then◌else◌, List, [], ◌∷◌, is_ok, length, Option, Some, None, Result, Ok, Err}
+use Rattle.std.specs.Prelude.{ℕ, ◌+◌, ◌-◌, ◌^◌, ◌==◌, ◌&&◌, ◌||◌, Bool, true, false, not, if◌then◌else◌, List, [], ◌∷◌, is_ok, length, min, Option, Some, None, Result, Ok, Err}
 use Rattle.std.specs.Int.{from_bool}
 use Rattle.std.specs.Option.{option_or}
 use Rattle.stream_files.specs.declared.packets.Packet.{Packet}
@@ -39,13 +39,13 @@ is_lost position packet = position.is_broken && not (has_key_tag packet.bytes)
 abbrev pub broken_after : Position → Packet → Bool
 broken_after position packet = is_lost position packet || not (is_ok (header_facts position.follows packet.bytes))
 
--- a record's head has 12 bytes, and then come those of its packet
-abbrev pub record_length : Packet → ℕ
-record_length packet = 12 + length packet.bytes
+-- the greatest index of a byte that is reported; every byte of a file has a smaller one
+abbrev pub most_byte : ℕ
+most_byte = 2 ^ 64 - 1
 
-abbrev pub records_length : List Packet → ℕ
-records_length [] = 0
-records_length (packet ∷ packets) = record_length packet + records_length packets
+-- the byte after the record of a packet, which begins at this byte: 12 bytes of its head, and those of the packet
+abbrev pub end_of_record : ℕ → List ℕ → ℕ
+end_of_record begins bytes = min (begins + 12 + length bytes) most_byte
 
 -- before the first packet, whose record begins at this byte of the file
 abbrev pub first_position : ℕ → Position
@@ -59,7 +59,7 @@ facts_of position packet = record {
   frame = if is_shown packet.bytes then Some position.frames else None;
   stamp = packet.stamp;
   bytes = length packet.bytes;
-  byte = position.begins + 12;
+  byte = min (position.begins + 12) most_byte;
   tag = tag_of packet.bytes;
   size = key_size_of packet.bytes;
   scales = key_scales_of packet.bytes;
@@ -72,10 +72,15 @@ abbrev pub position_after : Position → Packet → Position
 position_after position packet = record {
   packets = position.packets + 1;
   frames = position.frames + from_bool (is_shown packet.bytes);
-  begins = position.begins + record_length packet;
+  begins = end_of_record position.begins packet.bytes;
   follows = follows_after position.follows packet.bytes;
   is_broken = broken_after position packet;
 }
+
+-- the position after packets
+abbrev pub position_over : Position → List Packet → Position
+position_over position [] = position
+position_over position (packet ∷ packets) = position_over (position_after position packet) packets
 
 -- the facts of each packet of a list
 abbrev pub facts_from : Position → List Packet → List Facts

@@ -1,12 +1,15 @@
 //! The facts of one packet after another.
 
-ghost use Rattle.std.specs.Prelude.{◌≡◌, ◌+◌, ◌<◌, ◌≤◌, ◌^◌};
-ghost use Rattle.stream_facts.specs.Facts.{facts_of, first_key_size, first_position, follows_after, header_facts, position_after, record_length};
+ghost use Rattle.std.specs.Prelude.{◌≡◌, ◌+◌, ◌<◌, ◌≤◌, ◌^◌, false, true};
+ghost use Rattle.stream_facts.specs.Facts.{end_of_record, facts_of, first_key_size, first_position, follows_after, header_facts, position_after};
 
 use frame_header::{
     Cause, Outline, Tag, has_key_tag, is_shown, key_scales, key_size, read_outline, tag,
 };
 use stream_files::Packet;
+
+/// The length of a record's head.
+const HEAD: usize = 12;
 
 /// The facts of a packet.
 #[derive(Drop)]
@@ -19,7 +22,7 @@ pub struct Facts {
     pub stamp: u64,
     /// The length in bytes.
     pub bytes: usize,
-    /// The byte of the file at which the packet's bytes begin.
+    /// The byte of the file at which the packet's bytes begin, at most 18,446,744,073,709,551,615.
     pub byte: usize,
     /// The tag; `None` with fewer than 3 bytes.
     pub tag: Option<Tag>,
@@ -81,30 +84,53 @@ impl Position {
         Ok(Some(outline))
     }
 
+    /// The position after a packet with a key tag whose header is accepted: the number of packets and of shown packets up to
+    /// it, it among them, and the byte at which the record after it begins.
+    pub fn after_key(packets: usize, frames: usize, begins: usize) -> Position
+        ensures { result ≡ record { packets = packets; frames = frames; begins = begins; follows = true; is_broken = false } }
+    {
+        Position {
+            packets,
+            frames,
+            begins,
+            follows: true,
+            is_broken: false,
+        }
+    }
+
     /// The facts of the next packet; the position is then after it.
     pub fn next(&mut self, packet: &Packet) -> Facts
         requires room { self.old.packets + 1 < 2 ^ 64 }
-        requires file { self.old.begins + record_length packet.now < 2 ^ 64 }
         requires frames { self.old.frames ≤ self.old.packets }
         ensures facts { result ≡ facts_of self.old packet.now }
         ensures after { self.new ≡ position_after self.old packet.now }
         ensures frames { self.new.frames ≤ self.new.packets }
     {
-        let bytes = packet.bytes.as_slice();
+        self.next_of(packet.stamp, packet.bytes.as_slice())
+    }
+
+    /// The facts of the next packet, which has this time stamp and these bytes; the position is then after it.
+    pub fn next_of(&mut self, stamp: u64, bytes: &[u8]) -> Facts
+        requires room { self.old.packets + 1 < 2 ^ 64 }
+        requires frames { self.old.frames ≤ self.old.packets }
+        ensures facts { result ≡ facts_of self.old (record { stamp = stamp; bytes = bytes.now }) }
+        ensures after { self.new ≡ position_after self.old (record { stamp = stamp; bytes = bytes.now }) }
+        ensures frames { self.new.frames ≤ self.new.packets }
+    {
         let is_lost = self.is_broken && !has_key_tag(bytes);
         let header = self.read(bytes);
         let is_shown = is_shown(bytes);
         let frame = if is_shown { Some(self.frames) } else { None };
         let number = self.packets;
-        let byte = self.begins + 12;
+        let byte = self.begins.saturating_add(HEAD);
         self.packets += 1;
         self.frames += usize::from(is_shown);
-        self.begins = byte + bytes.len();
+        self.begins = end_of_record(self.begins, bytes);
         self.is_broken = is_lost || header.is_err();
         Facts {
             packet: number,
             frame,
-            stamp: packet.stamp,
+            stamp,
             bytes: bytes.len(),
             byte,
             tag: tag(bytes),
@@ -114,6 +140,13 @@ impl Position {
             is_lost,
         }
     }
+}
+
+/// The byte after the record of a packet with these bytes, which begins at this byte; at most 18,446,744,073,709,551,615.
+pub fn end_of_record(begins: usize, bytes: &[u8]) -> usize
+    ensures { result ≡ end_of_record begins bytes.now }
+{
+    begins.saturating_add(HEAD).saturating_add(bytes.len())
 }
 
 /// The width and height of the first packet that has a key frame's start with a size (RFC 6386, section 9.1).

@@ -3,7 +3,6 @@
 ghost use Rattle.std.specs.Prelude.{◌≡◌, ◌+◌, ◌^◌, ◌<◌, OnOk, codes};
 ghost use Rattle.std.specs.Io.KnownBytes.{Appends};
 ghost use Rattle.stream_files.specs.Ivf.{IsIvf, header_length};
-ghost use Rattle.stream_facts.specs.Facts.{records_length};
 ghost use Rattle.stream_facts.specs.Json.{bit_members, bit_value, cause_member, color_members, copy_value, field_members, first_of, header_members, kind_value, member, number_member, object_of, objects_of, optional_member, outline_bits, own_cause, place_members, reference_members, scale_member, show_value, size_member, size_members, some_fields, tag_members, update_value, version_of};
 
 use crate::facts::{Facts, Position};
@@ -268,8 +267,8 @@ fn write_cause_member<W: Write>(w: &mut W, facts: &Facts) -> Result<(), WriteFau
     }
 }
 
-/// Writes the object of a packet's facts.
-fn write_object<W: Write>(w: &mut W, facts: Facts) -> Result<(), WriteFault>
+/// Writes the object of a packet's facts, with its newline.
+pub fn write_object<W: Write>(w: &mut W, facts: Facts) -> Result<(), WriteFault>
     ensures { OnOk result (Appends (W.contents w.old) (W.contents w.new) (object_of facts)) }
 {
     write_text(w, "{")?;
@@ -284,7 +283,6 @@ fn write_object<W: Write>(w: &mut W, facts: Facts) -> Result<(), WriteFault>
 
 /// Writes an object for each packet, the first of whose records begins at this byte of the file.
 fn write_all<W: Write>(w: &mut W, begins: usize, packets: &[Packet]) -> Result<(), WriteFault>
-    requires { begins + records_length packets.now < 2 ^ 63 }
     ensures { OnOk result (Appends (W.contents w.old) (W.contents w.new) (objects_of begins packets.now)) }
 {
     let mut position = Position::first(begins);

@@ -8,8 +8,8 @@ mod lines;
 mod listing;
 mod refusals;
 
-pub use facts::{Facts, Position, first_key_size};
-pub use json::{write_member, write_number, write_objects, write_optional};
+pub use facts::{Facts, Position, end_of_record, first_key_size};
+pub use json::{write_member, write_number, write_object, write_objects, write_optional};
 pub use lines::{write_cause, write_text};
 pub use listing::write_listing;
 pub use refusals::{has_refused, write_refusals};

@@ -3,7 +3,6 @@
 ghost use Rattle.std.specs.Prelude.{◌≡◌, ◌+◌, ◌^◌, ◌<◌, ◌≤◌, OnOk, length};
 ghost use Rattle.std.specs.Io.KnownBytes.{Appends};
 ghost use Rattle.stream_files.specs.Ivf.{IsIvf, header_length};
-ghost use Rattle.stream_facts.specs.Facts.{records_length};
 ghost use Rattle.stream_facts.specs.Lines.{head_line, list_text};
 
 use crate::facts::Position;
@@ -26,7 +25,6 @@ pub(crate) fn first_record(bytes: &[u8]) -> usize
 
 /// Writes a line for each packet, the first of whose records begins at this byte of the file.
 fn write_all<W: Write>(w: &mut W, begins: usize, packets: &[Packet]) -> Result<(), WriteFault>
-    requires { begins + records_length packets.now < 2 ^ 63 }
     ensures { OnOk result (Appends (W.contents w.old) (W.contents w.new) (list_text begins packets.now)) }
 {
     write_text(w, HEAD)?;

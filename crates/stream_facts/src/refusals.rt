@@ -3,7 +3,7 @@
 ghost use Rattle.std.specs.Prelude.{◌≡◌, ◌+◌, ◌^◌, ◌<◌, OnOk};
 ghost use Rattle.std.specs.Io.KnownBytes.{Appends};
 ghost use Rattle.stream_files.specs.Ivf.{IsIvf, header_length};
-ghost use Rattle.stream_facts.specs.Facts.{facts_in, records_length};
+ghost use Rattle.stream_facts.specs.Facts.{facts_in};
 ghost use Rattle.stream_facts.specs.Refusals.{has_refused, is_refused, own_refusal, refusal_of, refusal_start, refusals_of};
 
 use crate::facts::{Facts, Position};
@@ -56,7 +56,6 @@ fn is_refused(facts: &Facts) -> bool
 /// Whether a packet of these is refused of its own; the first of their records begins at this byte of
 /// the file.
 fn has_refused_in(begins: usize, packets: &[Packet]) -> bool
-    requires { begins + records_length packets.now < 2 ^ 63 }
     ensures { result ≡ has_refused (facts_in begins packets.now) }
 {
     let mut position = Position::first(begins);
@@ -70,7 +69,6 @@ fn has_refused_in(begins: usize, packets: &[Packet]) -> bool
 
 /// Writes the lines of packets, the first of whose records begins at this byte of the file.
 fn write_all<W: Write>(w: &mut W, begins: usize, packets: &[Packet]) -> Result<(), WriteFault>
-    requires { begins + records_length packets.now < 2 ^ 63 }
     ensures { OnOk result (Appends (W.contents w.old) (W.contents w.new) (refusals_of begins packets.now)) }
 {
     let mut position = Position::first(begins);

@@ -27,6 +27,32 @@ const PACKETS: Run = Run {
 };
 
 #[test]
+fn packets_are_listed(rt: HostRuntime) -> Result<(), Fail> {
+    expect_run(&rt, rt.alloc(), &LISTED)
+}
+
+// Packet 1 is too short, so the packet after it is lost. The hidden packet before it is deleted, and the list is that of the packets now.
+const LISTED: Run = Run {
+    packets: &[KEY, HIDDEN, &[0x11, 0], INTER],
+    requests: b"delete 1\nlist 1 2\nlist 3 1\nlist 4 1\nlist 0\n",
+    replies: b"ok 3\nlines 2\n{\"packet\":1,\"frame\":1,\"stamp\":0,\"byte\":66,\"bytes\":2,\"kind\":null,\"show\":\"shown\",\"version\":null,\"size\":null,\"scale\":null,\"first\":null,\"partitions\":null,\"quantizer\":null,\"level\":null,\"last\":null,\"golden\":null,\"altref\":null,\"color\":null,\"clamp\":null,\"cause\":\"ShortPacket\"}\n{\"packet\":2,\"frame\":2,\"stamp\":0,\"byte\":80,\"bytes\":3,\"kind\":\"inter\",\"show\":\"shown\",\"version\":0,\"size\":null,\"scale\":null,\"first\":0,\"partitions\":1,\"quantizer\":0,\"level\":0,\"last\":null,\"golden\":null,\"altref\":null,\"color\":null,\"clamp\":null,\"cause\":\"lost\"}\nlines 0\nrefused Place\nrefused Line\n",
+    frames: None,
+};
+
+#[test]
+fn origins_are_reported(rt: HostRuntime) -> Result<(), Fail> {
+    expect_run(&rt, rt.alloc(), &ORIGINS)
+}
+
+// A crop to the whole picture, and a weight of 256, change nothing.
+const ORIGINS: Run = Run {
+    packets: &[KEY, HIDDEN, INTER],
+    requests: b"script crop 0 0 0 16 16; fade 1 1 1 256 0; splice 2 0; crop 3 0 0 8 8\norigins 1 2\norigins 4 1\norigins 5 1\n",
+    replies: b"ok 3\nlines 2\n{\"frame\":1,\"source\":0,\"source_frame\":1,\"packet\":2,\"changed\":[4]}\n{\"frame\":2,\"source\":0,\"source_frame\":0,\"packet\":0,\"changed\":[4]}\nlines 0\nrefused NoSuchFrame\n",
+    frames: None,
+};
+
+#[test]
 fn scripts_are_reported(rt: HostRuntime) -> Result<(), Fail> {
     expect_run(&rt, rt.alloc(), &SCRIPTS)
 }

@@ -95,7 +95,7 @@ impl Session {
         }
     }
 
-    /// The reply to a request line, without its newline.
+    /// The reply to a request line, without its newline: one line, or `lines K` and K lines.
     pub fn request(&mut self, line: &str) -> Result<String, Fault> {
         let mut length = 0;
         // SAFETY: the handle is this session's own, and the line is of this many bytes.

@@ -5,8 +5,7 @@ use Rattle.std.specs.List.{flat_map}
 use Rattle.std.specs.Io.KnownBytes.{Appends}
 use Rattle.stream_files.specs.declared.packets.Packet.{Packet}
 use Rattle.stream_facts.specs.declared.facts.Position.{Position}
-use Rattle.stream_facts.specs.Facts.{facts_from, facts_of, position_after, records_length}
-use Rattle.stream_facts.proofs.Records.{room_after}
+use Rattle.stream_facts.specs.Facts.{facts_from, facts_of, position_after}
 use Rattle.stream_facts.specs.Json.{object_of, objects_of}
 use Rattle.stream_facts.proofs.json.write_all.Goals as goal
 
@@ -26,7 +25,6 @@ loop-packet-preserved g c =
       said = Appends-trans _ _ _ _ _ c.loop-packet.invariant.said c.in_ok-write_object.ensures;
       packets = ap (λ (p : Position). p.packets) c.next-facts.ensures.after ∙ ap (λ (n : ℕ). n + 1) c.loop-packet.invariant.packets;
       frames = c.next-facts.ensures.frames;
-      room = room_after position packet rest c.next-facts.ensures.after (subst (λ (ps : List Packet). position.begins + records_length ps < 2 ^ 63) at c.loop-packet.invariant.room);
     }
 
 pub returns : goal.returns

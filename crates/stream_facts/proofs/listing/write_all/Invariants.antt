@@ -1,7 +1,7 @@
-use Rattle.std.proofs.Common.{◌≡◌, ◌+◌, ◌^◌, ◌<◌, ◌≤◌, List, ℕ, ◌++◌, drop}
+use Rattle.std.proofs.Common.{◌≡◌, ◌≤◌, List, ℕ, ◌++◌, drop}
 use Rattle.std.specs.List.{flat_map}
 use Rattle.std.specs.Io.KnownBytes.{Appends}
-use Rattle.stream_facts.specs.Facts.{facts_from, records_length}
+use Rattle.stream_facts.specs.Facts.{facts_from}
 use Rattle.stream_facts.specs.Lines.{line_of, list_text}
 use Rattle.stream_facts.proofs.listing.write_all.Given as goal
 
@@ -12,5 +12,4 @@ invariant-loop-packet g l = record {
   said : Appends (g.W.Write.contents l.fn.w) (g.W.Write.contents l.w) done;
   packets : l.position.packets ≡ l.packet-index;
   frames : l.position.frames ≤ l.position.packets;
-  room : l.position.begins + records_length (drop l.packet-index l.packets) < 2 ^ 63;
 }

@@ -1,5 +1,5 @@
-use Rattle.std.proofs.Common.{◌≡◌, ◌+◌, ◌^◌, ◌<◌, ◌≤◌, drop}
-use Rattle.stream_facts.specs.Facts.{facts_from, facts_in, records_length}
+use Rattle.std.proofs.Common.{◌≡◌, ◌≤◌, drop}
+use Rattle.stream_facts.specs.Facts.{facts_from, facts_in}
 use Rattle.stream_facts.specs.Refusals.{has_refused}
 use Rattle.stream_facts.proofs.refusals.has_refused_in.Given as goal
 
@@ -8,5 +8,4 @@ invariant-loop-packet l = record {
   same : has_refused (facts_from l.position (drop l.packet-index l.packets)) ≡ has_refused (facts_in l.begins l.packets);
   packets : l.position.packets ≡ l.packet-index;
   frames : l.position.frames ≤ l.position.packets;
-  room : l.position.begins + records_length (drop l.packet-index l.packets) < 2 ^ 63;
 }

@@ -1,0 +1,12 @@
+use Rattle.std.proofs.Common.{◌≡◌, ◌-◌}
+use Rattle.std.specs.List.{concat}
+use Rattle.std.specs.Io.KnownBytes.{Appends}
+use Rattle.packet_lists.specs.Lines.{lines_from}
+use Rattle.packet_lists.specs.Places.{position_at}
+use Rattle.packet_lists.proofs.lines.write_lines.Given as goal
+
+abbrev pub invariant-loop-at : goal.invariant-loop-at
+invariant-loop-at g l = record {
+  position : l.position ≡ position_at l.store.list l.at;
+  said : Appends (g.W.Write.contents l.fn.w) (g.W.Write.contents l.w) (concat (lines_from l.store.list l.first (l.at - l.first)));
+}

@@ -1,0 +1,95 @@
+// The position before a packet, from the last key packet before it.
+ghost use Rattle.std.specs.Prelude.{◌≡◌, ℕ, ◌+◌, ◌≤◌, ◌<◌, Some, length, slice_get, take, true, false};
+ghost use Rattle.packet_edits.specs.Shown.{shown_indexes, stream_of};
+ghost use Rattle.packet_lists.specs.Places.{IsAfterKey, position_at};
+
+use frame_header::read_outline;
+use packet_edits::Store;
+use stream_facts::{Position, end_of_record};
+
+/// The byte at which the first record of a saved file begins.
+const FIRST_RECORD: usize = 32;
+
+/// Whether shown packet `n`, which exists, comes before index `at`.
+fn is_before(store: &Store, n: usize, at: usize) -> bool
+    ensures before { result ≡ true → (place : ℕ) → slice_get (shown_indexes (stream_of store.now.list)) n ≡ Some place → place < at }
+    ensures after { result ≡ false → (place : ℕ) → slice_get (shown_indexes (stream_of store.now.list)) n ≡ Some place → at ≤ place }
+{
+    match store.shown(n as u64) {
+        Some(place) => place < at,
+        None => false,
+    }
+}
+
+/// The number of shown packets before index `at`.
+fn shown_before(store: &Store, at: usize) -> usize
+    ensures { result ≡ length (shown_indexes (take at (stream_of store.now.list))) }
+{
+    store.prove_few();
+    let mut low = 0;
+    let mut high = store.frames();
+    'search: while low < high {
+        let middle = low + (high - low) / 2;
+        if is_before(store, middle, at) {
+            low = middle + 1;
+        } else {
+            high = middle;
+        }
+    }
+    low
+}
+
+/// The byte at which the record of the packet at index `at` begins in a saved file.
+fn begins_before(store: &Store, at: usize) -> usize
+    requires { at ≤ length store.now.list.entries }
+    ensures { result ≡ (position_at store.now.list at).begins }
+{
+    let mut begins = FIRST_RECORD;
+    for place in 0..at {
+        begins = end_of_record(begins, store.packet(place));
+    }
+    begins
+}
+
+/// The index after the last packet before `at` that has a key tag and an accepted header; 0 if there is none.
+fn after_key_before(store: &Store, at: usize) -> usize
+    requires { at ≤ length store.now.list.entries }
+    ensures within { result ≤ at }
+    ensures key { IsAfterKey (stream_of store.now.list) result }
+{
+    let mut end = at;
+    'keys: while let Some(place) = store.last_key(end) {
+        if read_outline(true, store.packet(place)).is_ok() {
+            return place + 1;
+        }
+        end = place;
+    }
+    0
+}
+
+/// The position at index `at`, which comes after a key packet with an accepted header, or is 0.
+fn position_after_key(store: &Store, at: usize) -> Position
+    requires within { at ≤ length store.now.list.entries }
+    requires key { IsAfterKey (stream_of store.now.list) at }
+    ensures { result ≡ position_at store.now.list at }
+{
+    if at == 0 {
+        Position::first(FIRST_RECORD)
+    } else {
+        Position::after_key(at, shown_before(store, at), begins_before(store, at))
+    }
+}
+
+/// The position before the packet at index `at`, or after the last packet.
+pub(crate) fn position_before(store: &Store, at: usize) -> Position
+    requires { at ≤ length store.now.list.entries }
+    ensures { result ≡ position_at store.now.list at }
+{
+    store.prove_few();
+    let start = after_key_before(store, at);
+    let mut position = position_after_key(store, start);
+    for place in start..at {
+        let _facts = position.next_of(store.stamp(place), store.packet(place));
+    }
+    position
+}

@@ -1,0 +1,234 @@
+#!/usr/bin/env python3
+"""Tests the questions `list` and `origins` over random edits of real streams: test_questions.py [LISTS [SEED]]
+
+`list` in ranges, put together, is what vp8list --json prints of the file that --save writes at that place. `origins` is what a model says here:
+the script's nodes frame by frame, and the packets that `list` reports as shown. A session without the questions has the same other replies and
+the same frames. It prints what differs and ends with 1, or prints nothing and ends with 0.
+"""
+
+import json
+import os
+import pathlib
+import random
+import subprocess
+import sys
+import tempfile
+
+TOP = pathlib.Path(__file__).resolve().parent.parent
+sys.dont_write_bytecode = True
+sys.path.insert(0, str(TOP / "compare"))
+from library.ivf import packets_of  # noqa: E402
+from library.programs import real_streams  # noqa: E402
+
+SERVE, LIST = (pathlib.Path(os.environ[name]).resolve() for name in ("VP8SERVE", "VP8LIST"))
+LISTS, SEED = 30, 1
+LIMIT = 120
+# Packets and edits of a list, at most: a list is short, so that its ranges have many beginnings.
+MOST_PACKETS, MOST_EDITS = 60, 12
+
+
+def ran(*words, lines=""):
+    done = subprocess.run([str(word) for word in words], input=lines.encode(), stdout=subprocess.PIPE, timeout=LIMIT, check=True)
+    return done.stdout.decode()
+
+
+def random_bytes(dice, packets):
+    """Bytes for a packet: of the streams, cut, with another bit, or none."""
+    packet = bytearray(dice.choice(packets))
+    kind = dice.choice("whole whole cut bit none short".split())
+    if kind == "cut":
+        del packet[dice.randint(0, min(len(packet), 40)) :]
+    elif kind == "bit" and packet:
+        packet[dice.randrange(min(len(packet), 12))] ^= 1 << dice.randrange(8)
+    elif kind in ("none", "short"):
+        del packet[2 * (kind == "short") :]
+    return packet.hex() or "-"
+
+
+def random_edit(dice, counts, current, packets):
+    """An edit of the current source, and how many packets it has then if the edit is accepted."""
+    count = counts[current]
+    at = dice.randint(0, count)
+    kind = dice.choice("insert replace replace delete delete move copy blank hold hide hide show".split())
+    if kind == "insert":
+        return f"insert {at} {dice.randint(0, 999)} {random_bytes(dice, packets)}"
+    if kind == "replace":
+        return f"replace {at} {random_bytes(dice, packets)}"
+    if kind == "move":
+        return f"move {at} {dice.randint(0, count)}"
+    if kind == "copy":
+        source = dice.randrange(len(counts))
+        return f"copy {source} {dice.randint(0, counts[source])} {at}"
+    return f"blank {at} 32 16" if kind == "blank" else f"{kind} {at}"
+
+
+def random_script(dice):
+    """A script of some nodes; its crops may be the whole picture, and its fades may change nothing."""
+    nodes = []
+    for number in range(1, dice.randint(0, 6) + 1):
+        clip = dice.randrange(number)
+        nodes.append(
+            dice.choice(
+                [
+                    f"source {dice.randrange(2)}",
+                    f"trim {clip} {dice.randint(0, 9)} {dice.randint(0, 40)}",
+                    f"splice {clip} {dice.randrange(number)}",
+                    f"crop {clip} {2 * dice.randint(0, 3)} 0 {dice.choice([16, 176, 320])} {dice.choice([16, 144, 180])}",
+                    f"crop {clip} 0 0 {dice.choice([32, 176, 320])} {dice.choice([16, 144, 180])}",
+                    f"fade {clip} {dice.randint(0, 20)} {dice.randint(1, 9)} {dice.choice([0, 255, 256])} {dice.choice([0, 256])}",
+                ]
+            )
+        )
+    return "; ".join(nodes) or "-"
+
+
+class Script:
+    """The frames of a script: for each its source, the frame of that, and the steps of its nodes as (node, kind, numbers)."""
+
+    def __init__(self, text, counts):
+        self.nodes = [[(0, frame, ()) for frame in range(counts[0])]]
+        for number, node in enumerate(text.split(";") if text != "-" else [], 1):
+            word, *numbers = node.split()
+            numbers = list(map(int, numbers))
+            if word == "source":
+                made = [(numbers[0], frame, ()) for frame in range(counts[numbers[0]])]
+            elif word == "trim":
+                made = self.nodes[numbers[0]][numbers[1] : numbers[1] + numbers[2]]
+            elif word == "splice":
+                made = self.nodes[numbers[0]] + self.nodes[numbers[1]]
+            elif word == "crop":
+                made = [(source, frame, (*steps, (number, "crop", numbers[1:]))) for source, frame, steps in self.nodes[numbers[0]]]
+            else:
+                made = [(source, frame, (*steps, (number, "fade", weight(i, *numbers[1:])))) for i, (source, frame, steps) in enumerate(self.nodes[numbers[0]])]
+            self.nodes.append(made)
+
+    def origins(self, lists):
+        """The objects of all frames, by the packets of the sources."""
+        shown = [[facts["packet"] for facts in source if facts["show"] == "shown"] for source in lists]
+        for number, (source, frame, steps) in enumerate(self.nodes[-1]):
+            packet = shown[source][frame]
+            yield {"frame": number, "source": source, "source_frame": frame, "packet": packet, "changed": list(changes(steps, size_at(lists[source], packet)))}
+
+
+def weight(i, first, count, start, end):
+    """The weight of frame i of a fade."""
+    return start if i < first else end if i >= first + count else (start * (count - (i - first)) + end * (i - first)) // count
+
+
+def size_at(source, packet):
+    """The size in the last packet with a key tag up to this one; 0x0 if there is none, or it has none."""
+    keys = [facts["size"] for facts in source[: packet + 1] if facts["kind"] == "key"]
+    return tuple(map(int, keys[-1].split("x"))) if keys and keys[-1] else (0, 0)
+
+
+def changes(steps, size):
+    """The nodes that change a sample of a picture of this size."""
+    for number, kind, value in steps:
+        if kind == "fade":
+            if value != 256:
+                yield number
+            continue
+        column, row, width, height = value
+        if value != [0, 0, *size]:
+            yield number
+        if column + width <= size[0] and row + height <= size[1]:
+            size = (width, height)
+
+
+def ranges(dice, word, count):
+    """Questions that cover `count` items, each once, with a count that is too large at the end, and the empty ones."""
+    lines, first = [], 0
+    while first < count:
+        length = dice.randint(1, 1 + count // 2)
+        lines.append(f"{word} {first} {length}")
+        first += length
+    return [*lines, f"{word} {count} 7", f"{word} {dice.randint(0, count)} 0", f"{word} {count + 1} 1"]
+
+
+def taken(replies, asked, refusal):
+    """The objects of the replies to these questions, which are taken off the list; the last three replies have none."""
+    found = []
+    for line in asked:
+        first = next(replies)
+        if line is asked[-1]:
+            assert first == refusal, (line, first)
+            continue
+        count = int(first.removeprefix("lines "))
+        assert count <= int(line.split()[2]), (line, first)
+        found += [next(replies) for _ in range(count)]
+    return found
+
+
+def expect(got, wanted, what):
+    assert len(got) == len(wanted), (what, len(got), len(wanted))
+    for one, other in zip(got, wanted):
+        assert one == other, (what, one, other)
+
+
+def counts_after(paths, lines):
+    """How many packets the two sources have, and frames the script, after these lines."""
+    words = ran(SERVE, paths[0], "-", "-", "--sources", paths[1], lines="".join(f"{line}\n" for line in [*lines, "use 1", "count", "use 0", "count"])).split("\n")
+    second, first = words[-4].split(), words[-2].split()
+    return [int(first[1]), int(second[1])], int(first[3])
+
+
+def one_list(dice, folder, streams):
+    """Runs one list of edits, and compares what its questions report."""
+    paths, packets = [], []
+    for number in range(2):
+        data = dice.choice(streams).read_bytes()
+        path = folder / f"{number}.ivf"
+        few, size = list(packets_of(data))[: dice.randint(0, MOST_PACKETS)], 32
+        size += sum(12 + len(packet) for packet in few)
+        path.write_bytes(data[:size])
+        paths.append(path)
+        packets += few
+    packets = packets or [b""]
+    edits, counts, current = [], [MOST_PACKETS // 2] * 2, 0
+    for _ in range(dice.randint(0, MOST_EDITS)):
+        if dice.random() < 0.2:
+            current = dice.randrange(2)
+            edits.append(f"use {current}")
+        edits.append(random_edit(dice, counts, current, packets))
+    text = random_script(dice)
+    edits.append(f"script {text}")
+    counts, frames = counts_after(paths, edits)
+    second, first, origins = ranges(dice, "list", counts[1]), ranges(dice, "list", counts[0]), ranges(dice, "origins", frames)
+    looks = [f"frame {dice.randint(0, frames)}" for _ in range(3)]
+    plain = ["use 1", "use 0", *looks, "stats", "count", "script"]
+    asked = ["use 1", *second, "use 0", *first, *origins, looks[0], first[0], *looks[1:], origins[0], "stats", "count", "script"]
+    saved, out = folder / "saved.ivf", folder / "out.y4m"
+    lines = "".join(f"{line}\n" for line in [*edits, *asked])
+    replies = ran(SERVE, paths[0], "-", out, "--sources", paths[1], "--save", saved, *(["--live"] if dice.random() < 0.5 else []), lines=lines).split("\n")
+    shown = out.read_bytes()
+    without = ran(SERVE, paths[0], "-", out, "--sources", paths[1], lines="".join(f"{line}\n" for line in [*edits, *plain])).split("\n")
+    assert out.read_bytes() == shown, "the frames are others without the questions"
+    left = iter(replies)
+    others = [next(left) for _ in range(len(edits) + 1)]
+    lists = [None, taken(left, second, "refused Place")]
+    others.append(next(left))
+    lists[0] = taken(left, first, "refused Place")
+    found = taken(left, origins, "refused NoSuchFrame")
+    rest = [line for line in left if not line.startswith(("lines ", "{", "refused Place", "refused NoSuchFrame"))]
+    wanted = [line for line in without[len(others) :] if not line.startswith("refused NoSuchFrame")]
+    expect(others + rest, without[: len(others)] + wanted, "another reply")
+    expect(lists[0], ran(LIST, saved, "--json").splitlines(), "list")
+    objects = [list(map(json.loads, source)) for source in lists]
+    expect(list(map(json.loads, found)), list(Script(text, [sum(facts["show"] == "shown" for facts in source) for source in objects]).origins(objects)), "origins")
+
+
+def main(count=LISTS, seed=SEED):
+    streams = real_streams()
+    for number in range(seed, seed + count):
+        dice = random.Random(number)
+        with tempfile.TemporaryDirectory() as folder:
+            try:
+                one_list(dice, pathlib.Path(folder), streams)
+            except (AssertionError, subprocess.SubprocessError, StopIteration, ValueError) as error:
+                print(f"list {number}: {error!r:.400}")
+                return 1
+    return 0
+
+
+if __name__ == "__main__":
+    sys.exit(main(*map(int, sys.argv[1:])))
