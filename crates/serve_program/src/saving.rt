@@ -48,8 +48,10 @@ impl SavedText for Frames<'_> {
     ghost text = { λ frames. exported_text frames.pads frames.export.now };
 
     fn write_to<W: Write + Drop>(&self, w: &mut BufWriter<W>) -> Result<(), Unsaved> {
-        self.export.save(w, self.pads).map_err(|_| Unsaved::Write)?;
-        w.flush().map_err(|_| Unsaved::Write)
+        match self.export.save(w, self.pads) {
+            Ok(()) => w.flush().map_err(|_| Unsaved::Write),
+            Err(_) => Err(Unsaved::Write),
+        }
     }
 }
 
