@@ -1,6 +1,6 @@
 -- The packets of a script's frames show the frames that the session serves.
 use Rattle.std.proofs.Common.{◌≡◌, ℕ, zero, suc, ◌+◌, ◌-◌, ◌*◌, ◌/◌, ◌≤◌, ◌<◌, ◌==◌, ◌&&◌, Bool, true, false, List, [], ◌∷◌, ◌++◌, length, map, slice_get, Option, Some, None, Result, Ok, Err, refl, sym, ap, subst, ◌∙◌, arith, zero-add, inl, inr, if◌then◌else◌}
-use Rattle.std.specs.Prelude.{IsSome, is_some, nat_le, nat_lt, option_and_then, unwrap_or}
+use Rattle.std.specs.Prelude.{IfSome, is_some, nat_le, nat_lt, option_and_then, unwrap_or}
 use Rattle.std.specs.List.{list_all}
 use Rattle.std.proofs.lemmas.Bool.{and_from, and_parts, eqb-true, le-leb}
 use Rattle.vp8_tables.specs.declared.tables.Tables.{Tables}
@@ -9,6 +9,7 @@ use Rattle.pixel_planes.specs.Samples.{sample_at}
 use Rattle.pixel_planes.specs.declared.pictures.Component.{Component}
 use Rattle.pixel_planes.specs.declared.pictures.Component.TheVariants.{Luma, Cb, Cr}
 use Rattle.packet_edits.specs.Edits.{Listing}
+use Rattle.packet_times.specs.Stamps.{stamp_after, stamped, units_after, units_first}
 use Rattle.packet_edits.specs.Shown.{shown_indexes, stream_of}
 use Rattle.state_cache.specs.Decoding.{Outcome, outcomes}
 use Rattle.lossless_cuts.specs.Exports.{AreDecoded, HasBytes, IsDecoded}
@@ -249,6 +250,11 @@ pub streams_same : (stores : List StoreValue) → streams_of stores ≡ map stre
 streams_same [] = refl
 streams_same (store ∷ stores) = ap (λ (ss : List (List (List ℕ))). stream_of store.list ∷ ss) (streams_same stores)
 
+-- each packet gets a time stamp
+pub stamped_length : (stamp : ℕ) (units : List ℕ) (packets : List (List ℕ)) → length (stamped stamp units packets) ≡ length packets
+stamped_length stamp units [] = refl
+stamped_length stamp units (packet ∷ packets) = ap suc (stamped_length (stamp_after stamp packet (units_first units)) (units_after packet units) packets)
+
 -- only the number of steps made changes
 pub steps_only : (old mid new : Now) → mid ≡ record old { decoded = mid.decoded } → new ≡ record mid { decoded = new.decoded } → new ≡ record old { decoded = new.decoded }
 steps_only old mid new first second = second ∙ ap (λ (m : Now). let n : Now = record m { decoded = new.decoded } in n) first
@@ -268,13 +274,13 @@ size_kept (Cut area) size keeps = by_inside (is_inside area size.0 size.1)
 -- if no node changes a sample, no step does
 none_changed : (steps : List NodeStep) (size : Size) → changed_nodes size steps ≡ [] → list_all (keeps_samples size.0 size.1) (map (λ (s : NodeStep). s.step) steps) ≡ true
 none_changed [] size none = refl
-none_changed (s ∷ steps) size none = by_keeps (keeps_samples size.0 size.1 s.step) refl none
+none_changed (s ∷ steps) size none = by_keeps (λ h. none_changed steps size h) (keeps_samples size.0 size.1 s.step) refl none
   where
-    by_keeps : (b : Bool) → keeps_samples size.0 size.1 s.step ≡ b → (if b then [] else s.node ∷ []) ++ changed_nodes (unwrap_or (step_size s.step size) size) steps ≡ [] → list_all (keeps_samples size.0 size.1) (map (λ (s : NodeStep). s.step) (s ∷ steps)) ≡ true
-    by_keeps true keeps none =
+    by_keeps : (changed_nodes size steps ≡ [] → list_all (keeps_samples size.0 size.1) (map (λ (s : NodeStep). s.step) steps) ≡ true) → (b : Bool) → keeps_samples size.0 size.1 s.step ≡ b → (if b then [] else s.node ∷ []) ++ changed_nodes (unwrap_or (step_size s.step size) size) steps ≡ [] → list_all (keeps_samples size.0 size.1) (map (λ (s : NodeStep). s.step) (s ∷ steps)) ≡ true
+    by_keeps ih true keeps none =
         let rest : changed_nodes size steps ≡ [] = ap (λ (z : Size). changed_nodes z steps) (sym (size_kept s.step size keeps)) ∙ none in
-        and_from (keeps_samples size.0 size.1 s.step) (list_all (keeps_samples size.0 size.1) (map (λ (s : NodeStep). s.step) steps)) keeps (none_changed steps size rest)
-    by_keeps false keeps none = cc
+        and_from (keeps_samples size.0 size.1 s.step) (list_all (keeps_samples size.0 size.1) (map (λ (s : NodeStep). s.step) steps)) keeps (ih rest)
+    by_keeps ih false keeps none = cc
 
 no_first : (xs : List ℕ) → slice_get xs 0 ≡ None → xs ≡ []
 no_first [] none = refl
@@ -319,8 +325,12 @@ may_fit : (o : Option Shown) → MayRunOutOfMemory (fitted None o)
 may_fit None = tt
 may_fit (Some shown) = tt
 
+may_run_out : (first : Refusal) → MayRunOutOfMemory {A = PictureSamples} (Err first) → MayRunOutOfMemory {A = Shown} (Err first)
+may_run_out _ why = why
+
 made_refused : (steps : List Step) (o : Result PictureSamples Refusal) (refusal : Refusal) → IsOrNoMemory o (Err refusal) → IsOrNoMemory (frame_made None steps o) (Err refusal)
-made_refused steps (Err first) refusal why = why
+made_refused steps (Err first) refusals.NoMemory why = may_run_out first why
+made_refused steps (Err first) _ why = ap (frame_made None steps) why
 made_refused steps (Ok picture) refusals.NoMemory why = may_fit (steps_shown steps (shown_in picture))
 made_refused steps (Ok picture) _ why = cc
 
@@ -332,6 +342,11 @@ pub frame_changed : (now : Now) (n node : ℕ) (steps : List Step) (picture : Pi
 frame_changed now n node steps picture decoded is some first =
     let shown = served_shown (steps_shown steps (shown_in picture)) some in
     record { shown = shown.0; served = is ∙ shown.1; picture = picture; decoded = decoded; first = first }
+
+pub changed_if : (now : Now) (n : ℕ) (o : Option ℕ) (steps : List Step) (picture : PictureSamples) → source_picture now (traced (shown_counts now) now.script n) ≡ Ok picture → frame_of (unsized now) n ≡ frame_made None steps (Ok picture) → is_some (steps_shown steps (shown_in picture)) ≡ true
+    → o ≡ slice_get (changed_nodes (picture.width, picture.height) (node_steps (shown_counts now) now.script n)) 0 → IfSome o (IsChanged now n)
+changed_if now n None steps picture decoded is some first = tt
+changed_if now n (Some node) steps picture decoded is some first = frame_changed now n node steps picture decoded is some (sym first)
 
 -- ---- the first fault
 

@@ -14,3 +14,4 @@ pub mod LiveLines
 pub mod LiveRuns
 pub mod ToldKept
 pub mod ExportedFrames
+pub mod ExportRecords

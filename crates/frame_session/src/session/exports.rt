@@ -54,6 +54,16 @@ fn units_of_packet(list: &Store, place: usize, head: Head) -> u64
     }
 }
 
+/// The first of some numbers, if there is one.
+fn first_of(numbers: &[u64]) -> Option<u64>
+    ensures { result ≡ slice_get numbers.now 0 }
+{
+    match numbers {
+        [first, ..] => Some(*first),
+        [] => None,
+    }
+}
+
 impl Session {
     /// The packet of frame `n`, and the number of the first node that changes samples of it.
     fn origin_of(&mut self, n: u64) -> Result<Origin, Refusal>
@@ -71,6 +81,7 @@ impl Session {
         let Some(steps) = self.script.node_steps(&counts, n) else {
             return Err(Refusal::NoSuchFrame);
         };
+        self.script.prove_nodes();
         let Some(place) = self.shown_place(source, frame) else {
             return Err(Refusal::NoSuchFrame);
         };
@@ -83,7 +94,8 @@ impl Session {
         if trace.size(width, height).is_err() {
             return Err(Refusal::CropOutside);
         }
-        let changed = changed_nodes(&steps, width, height).first().copied();
+        let nodes = changed_nodes(&steps, width, height);
+        let changed = first_of(&nodes);
         let target = Target {
             source,
             place,
