@@ -159,6 +159,9 @@ def room():
         told = "vp8serve: cannot write\n--save a.ivf was not written: the disk may be full. A file that was there is as it was\n"
         differs("full", run("a.ivf", "--save", "a.ivf", "--explain", *more, lines="delete 2\n", limit=40), (1, "ok 2\n", told))
         differs("full, kept", (content("a.ivf"), fresh()), (STREAM, []))
+        told = "vp8serve: cannot write\n--export a.ivf was not written: the disk may be full. A file that was there is as it was\n"
+        differs("full export", run("a.ivf", "--export", "a.ivf", "--explain", *more, lines="count\n", limit=40), (1, "packets 3 frames 3\n", told))
+        differs("full export, kept", (content("a.ivf"), fresh()), (STREAM, []))
         for limit, count in ((10, 0), (len(OPENING) + FRAME - 1, 0), (len(OPENING) + FRAME, 1), (len(OPENING) + 2 * FRAME + 5, 2)):
             status, _, errors = run("a.ivf", "-", "out.y4m", "--explain", *more, lines="frame 0\nframe 1\nframe 2\nframe 0\n", limit=limit)
             told = "vp8serve: cannot write\nstandard output or OUT out.y4m takes no more bytes: its reader has gone, or the disk is full\n"
@@ -191,33 +194,39 @@ def closed():
     differs("help", subprocess.run(["sh", "-c", f"{program} --help >&-"], capture_output=True, timeout=60).returncode, 1)
 
 
-def saved_without(known, refused, more):
-    """A run in which one request for memory is refused: it ended, the saved file and the replies."""
+def saved_without(known, refused, option, more):
+    """A run in which one request for memory is refused: it ended, the file that it saves by this option, and the replies."""
     pathlib.Path("saved.ivf").write_bytes(b"old")
     with contextlib.ExitStack() as opened:
         files = {at: opened.enter_context(open(name, "w+b")).fileno() for at, name in ((1, "replies"), (2, "errors"))}
-        ended = traced(known, ["a.ivf", "req", "--save", "saved.ivf", *more], files, lambda number: number == refused)
+        ended = traced(known, ["a.ivf", "req", option, "saved.ivf", *more], files, lambda number: number == refused)
     return ended, content("saved.ivf"), content("replies")
 
 
-def memory():
+def memory(option, more):
     """Each request for memory refused in turn: the saved file is the old one, or the whole new one with status 0."""
     put_stream()
     pathlib.Path("req").write_text("frame 0\ndelete 2\n")
     known = Program(str(VP8SERVE))
-    for more in ([], ["--live"]):
-        for number in range(1, saved_without(known, None, more)[0].requests + 1):
-            ended, saved, replies = saved_without(known, number, more)
-            whole = SHORTER if b"ok 2" in replies else STREAM
-            differs(f"request {number} {more}", saved == (whole if ended.status == 0 else b"old"), True)
-            differs(f"request {number} {more} left", fresh(), [])
-            TOLD["requests for memory"] += 1
+    for number in range(1, saved_without(known, None, option, more)[0].requests + 1):
+        ended, saved, replies = saved_without(known, number, option, more)
+        whole = SHORTER if b"ok 2" in replies else STREAM
+        differs(f"request {number} {option} {more}", saved == (whole if ended.status == 0 else b"old"), True)
+        differs(f"request {number} {option} {more} left", fresh(), [])
+        TOLD["requests for memory"] += 1
+
+
+def memories():
+    """The packets are saved, and the frames exported, as a batch and live."""
+    for option in ("--save", "--export"):
+        for more in ([], ["--live"]):
+            memory(option, more)
 
 
 def main():
     with tempfile.TemporaryDirectory() as folder:
         os.chdir(folder)
-        for part in (names, devices, over, room, closed, memory):
+        for part in (names, devices, over, room, closed, memories):
             part()
             for path in pathlib.Path().iterdir():
                 shutil.rmtree(path) if path.is_dir() and not path.is_symlink() else path.unlink()

@@ -11,6 +11,7 @@ A file of rows/ has these lines, in this order:
     < served 0                          its reply
     = 16x16 64*80 192*81 128*80         the frame: its size, and the bytes of Y, U and V, each as often as is said
     ! spare 19                          a line of standard error, after all requests
+    exported: 0 00 00 .. | 0 11 00 00   the packets of --export, each after its time stamp; `none` if no file is made
     status: 1                           the exit status, if it is not 0
 
 Each is run as a batch and with --live.
@@ -33,6 +34,7 @@ class Row:
     sources: list = field(default_factory=list)
     cut: int = 0
     tables: str = ""
+    exported: str = ""
     options: list = field(default_factory=list)
     requests: list = field(default_factory=list)
     replies: list = field(default_factory=list)
@@ -49,8 +51,8 @@ def read(path):
             row.sources.append([bytes.fromhex(text.replace("-", "")) for text in rest.split("|")] if rest.strip() else [])
         elif mark in ("cut:", "status:"):
             setattr(row, mark[:-1], int(rest))
-        elif mark == "tables:":
-            row.tables = rest
+        elif mark in ("tables:", "exported:"):
+            setattr(row, mark[:-1], rest)
         elif mark == "options:":
             row.options = rest.split()
         elif mark in "><!=":
@@ -64,6 +66,16 @@ def ivf(packets):
     """An IVF file of 30 frames a second, whose packets have the stamps 0, 1, 2."""
     head = struct.pack("<4sHH4sHHIIII", b"DKIF", 0, 32, b"VP80", 16, 16, 30, 1, len(packets), 0)
     return head + b"".join(struct.pack("<IQ", len(data), stamp) + data for stamp, data in enumerate(packets))
+
+
+def packets_in(data):
+    """The packets of an IVF file as a row has them; `none` without one."""
+    found, at = [], 32
+    while at < len(data):
+        size, stamp = struct.unpack_from("<IQ", data, at)
+        found.append(f"{stamp} {data[at + 12 : at + 12 + size].hex(' ')}")
+        at += 12 + size
+    return " | ".join(found) if data else "none"
 
 
 def y4m(frames):
@@ -93,10 +105,15 @@ def differences(row, program, folder, is_live):
     if row.tables:
         (folder / "tables").write_bytes(bytes.fromhex(row.tables) * 3012)
         words += ["--tables", str(folder / "tables")]
-    (folder / "out.y4m").unlink(missing_ok=True)
+    if row.exported:
+        words += ["--export", str(folder / "exported.ivf")]
+    for name in ("out.y4m", "exported.ivf"):
+        (folder / name).unlink(missing_ok=True)
     requests = "".join(f"{line}\n" for line in row.requests)
     ran = subprocess.run([program, *words], input=requests.encode(), capture_output=True, timeout=LIMIT, check=False)
     made = (folder / "out.y4m").read_bytes() if (folder / "out.y4m").exists() else b""
-    found = (ran.stdout.decode().splitlines(), ran.stderr.decode().splitlines(), ran.returncode, made)
-    wanted = (row.replies, row.errors, row.status, y4m(row.frames))
-    return [f"{name}: {got!r:.300}, not {want!r:.300}" for name, got, want in zip(("replies", "standard error", "status", "frames"), found, wanted) if got != want]
+    exported = (folder / "exported.ivf").read_bytes() if (folder / "exported.ivf").exists() else b""
+    found = (ran.stdout.decode().splitlines(), ran.stderr.decode().splitlines(), ran.returncode, made, packets_in(exported) if row.exported else "")
+    wanted = (row.replies, row.errors, row.status, y4m(row.frames), row.exported)
+    names = ("replies", "standard error", "status", "frames", "exported")
+    return [f"{name}: {got!r:.300}, not {want!r:.300}" for name, got, want in zip(names, found, wanted) if got != want]

@@ -1,5 +1,5 @@
 #!/usr/bin/env python3
-"""Tests the files that vp8serve writes: OUT and the file of --save.
+"""Tests the files that vp8serve writes: OUT and the files of --save and --export.
 
 Neither is standard output's file or standard error's; a link is followed from its own folder; a saved file keeps its mode and its owner, is
 brought to the disk before it replaces the old one, and a file that may not be written is refused.
@@ -50,11 +50,11 @@ def put(name="a.ivf", data=STREAM):
 
 
 def to_standard_output():
-    """OUT or --save is standard output's file, by its name, by a link, by its descriptor; nothing is written then."""
+    """OUT, --save or --export is standard output's file, by its name, by a link, by its descriptor; nothing is written then."""
     os.symlink("both", "link")
     for more in ([], ["--live"]):
         for path in ("both", "./both", "link", "/dev/stdout", "/dev/fd/1", "/proc/self/fd/1"):
-            for argument, content, words in (("OUT", "frames", ["-", path]), ("--save", "packets", ["-", "-", "--save", path])):
+            for argument, content, words in (("OUT", "frames", ["-", path]), ("--save", "packets", ["-", "-", "--save", path]), ("--export", "packets", ["-", "-", "--export", path])):
                 put("both", b"")
                 with open("both", "r+b") as both:
                     told = ran("a.ivf", *words, *more, lines="frame 0\n", stdout=both)
@@ -67,9 +67,9 @@ def to_standard_output():
 
 
 def to_standard_error():
-    """OUT or --save is standard error's file."""
+    """OUT, --save or --export is standard error's file."""
     for path in ("told", "/dev/stderr", "/dev/fd/2"):
-        for argument, content, words in (("OUT", "frames", ["-", path]), ("--save", "packets", ["-", "-", "--save", path])):
+        for argument, content, words in (("OUT", "frames", ["-", path]), ("--save", "packets", ["-", "-", "--save", path]), ("--export", "packets", ["-", "-", "--export", path])):
             with open("told", "w+b") as told:
                 status = ran("a.ivf", *words, lines="frame 0\n", stderr=told)
                 told.seek(0)

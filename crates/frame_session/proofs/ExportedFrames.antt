@@ -1,6 +1,6 @@
 -- The packets of a script's frames show the frames that the session serves.
-use Rattle.std.proofs.Common.{◌≡◌, ℕ, zero, suc, ◌+◌, ◌-◌, ◌*◌, ◌/◌, ◌≤◌, ◌<◌, ◌==◌, ◌&&◌, Bool, true, false, List, [], ◌∷◌, ◌++◌, length, map, slice_get, Option, Some, None, Result, Ok, Err, refl, sym, ap, subst, ◌∙◌, arith, zero-add, if◌then◌else◌}
-use Rattle.std.specs.Prelude.{nat_le, option_and_then}
+use Rattle.std.proofs.Common.{◌≡◌, ℕ, zero, suc, ◌+◌, ◌-◌, ◌*◌, ◌/◌, ◌≤◌, ◌<◌, ◌==◌, ◌&&◌, Bool, true, false, List, [], ◌∷◌, ◌++◌, length, map, slice_get, Option, Some, None, Result, Ok, Err, refl, sym, ap, subst, ◌∙◌, arith, zero-add, inl, inr, if◌then◌else◌}
+use Rattle.std.specs.Prelude.{IfSome, is_some, nat_le, nat_lt, option_and_then, unwrap_or}
 use Rattle.std.specs.List.{list_all}
 use Rattle.std.proofs.lemmas.Bool.{and_from, and_parts, eqb-true, le-leb}
 use Rattle.vp8_tables.specs.declared.tables.Tables.{Tables}
@@ -9,20 +9,34 @@ use Rattle.pixel_planes.specs.Samples.{sample_at}
 use Rattle.pixel_planes.specs.declared.pictures.Component.{Component}
 use Rattle.pixel_planes.specs.declared.pictures.Component.TheVariants.{Luma, Cb, Cr}
 use Rattle.packet_edits.specs.Edits.{Listing}
+use Rattle.packet_times.specs.Stamps.{stamp_after, stamped, units_after, units_first}
 use Rattle.packet_edits.specs.Shown.{shown_indexes, stream_of}
 use Rattle.state_cache.specs.Decoding.{Outcome, outcomes}
 use Rattle.lossless_cuts.specs.Exports.{AreDecoded, HasBytes, IsDecoded}
 use Rattle.lossless_cuts.specs.Laws.{ExportsShowTheirFrames}
 use Rattle.lossless_cuts.specs.Plans.{exported, stream_at, streams_of}
 use Rattle.lossless_cuts.specs.declared.targets.Target.{Target}
-use Rattle.script_nodes.specs.Frames.{after_steps, traced}
-use Rattle.script_nodes.specs.Shown.{Shown, Shows, black, cut_to, faded_to, is_inside, position_in, shown_in, step_shown, steps_shown, use_step, weighed}
+use Rattle.script_nodes.specs.Frames.{Origin, after_steps, origin, script_frame, traced, with_step}
+use Rattle.script_nodes.specs.Lengths.{script_length}
+use Rattle.script_nodes.specs.NodeSteps.{StepsAreOfNodes, changed_nodes, keeps_samples, node_steps}
+use Rattle.script_nodes.specs.Scripts.{IsScript}
+use Rattle.script_nodes.specs.declared.node_steps.NodeStep.{NodeStep}
+use Rattle.script_nodes.specs.declared.nodes.Node.{Node}
+use Rattle.script_nodes.specs.Shown.{Shown, Shows, Size, black, cut_to, faded_to, is_inside, position_in, shown_in, step_shown, step_size, steps_shown, use_step, weighed}
 use Rattle.script_nodes.specs.declared.nodes.Area.{Area}
 use Rattle.script_nodes.specs.declared.traces.Step.{Step}
 use Rattle.script_nodes.specs.declared.traces.Step.TheVariants.{Cut, Weigh}
+use Rattle.frame_session.specs.declared.refusal.Refusal.{Refusal}
+use Rattle.frame_session.specs.declared.refusal.Refusal.TheVariants as refusals
+use Rattle.frame_session.specs.declared.session.exports.ExportFault.{ExportFault}
+use Rattle.frame_session.specs.declared.session.exports.ExportFault.TheVariants.{Frame, Changed, Packets}
+use Rattle.lossless_cuts.specs.declared.faults.CutFault.{CutFault}
+use Rattle.lossless_cuts.specs.declared.faults.CutFault.TheVariants as cuts
+use Rattle.lossless_cuts.specs.Limits.{IsTooLarge}
 use Rattle.frame_session.specs.Edits.{list_at}
-use Rattle.frame_session.specs.Exported.{AreTargets, HasTarget, HaveTargets, IsExport, IsFrame, IsTarget, ScriptsAreExported, keeps_samples, streams_in}
-use Rattle.frame_session.specs.Sessions.{Now, fitted, frame_count, frame_from, frame_made, outcome_of, picture_from, shown_counts}
+use Rattle.frame_session.specs.IsOrNoMemory.{IsOrNoMemory, MayRunOutOfMemory}
+use Rattle.frame_session.specs.Exported.{AreTargets, CanExport, HasTarget, HaveTargets, IsChanged, IsExport, IsFrame, IsFrameFault, IsNotExported, IsPackingFault, IsTarget, ScriptsAreExported, source_picture, streams_in, unsized}
+use Rattle.frame_session.specs.Sessions.{Now, fitted, frame_count, frame_from, frame_made, frame_of, outcome_of, picture_from, shown_counts}
 use Rattle.frame_session.specs.Cached.{lists_of}
 use Rattle.packet_edits.specs.Marks.{StoreValue}
 use Rattle.packet_edits.specs.Laws.{IsShownList}
@@ -236,6 +250,143 @@ pub streams_same : (stores : List StoreValue) → streams_of stores ≡ map stre
 streams_same [] = refl
 streams_same (store ∷ stores) = ap (λ (ss : List (List (List ℕ))). stream_of store.list ∷ ss) (streams_same stores)
 
+-- each packet gets a time stamp
+pub stamped_length : (stamp : ℕ) (units : List ℕ) (packets : List (List ℕ)) → length (stamped stamp units packets) ≡ length packets
+stamped_length stamp units [] = refl
+stamped_length stamp units (packet ∷ packets) = ap suc (stamped_length (stamp_after stamp packet (units_first units)) (units_after packet units) packets)
+
 -- only the number of steps made changes
 pub steps_only : (old mid new : Now) → mid ≡ record old { decoded = mid.decoded } → new ≡ record mid { decoded = new.decoded } → new ≡ record old { decoded = new.decoded }
 steps_only old mid new first second = second ∙ ap (λ (m : Now). let n : Now = record m { decoded = new.decoded } in n) first
+
+-- ---- why a frame is not exported
+
+size_kept : (step : Step) (size : Size) → keeps_samples size.0 size.1 step ≡ true → unwrap_or (step_size step size) size ≡ size
+size_kept (Weigh weight) size keeps = refl
+size_kept (Cut area) size keeps = by_inside (is_inside area size.0 size.1)
+  where
+    by_inside : (b : Bool) → unwrap_or (if b then Some (area.width, area.height) else None) size ≡ size
+    by_inside true =
+        let whole : WholeCut area size.0 size.1 = whole_cut area size.0 size.1 keeps in
+        ap (λ (w : ℕ). let s : Size = (w, area.height) in s) whole.wide ∙ ap (λ (h : ℕ). let s : Size = (size.0, h) in s) whole.high
+    by_inside false = refl
+
+-- if no node changes a sample, no step does
+none_changed : (steps : List NodeStep) (size : Size) → changed_nodes size steps ≡ [] → list_all (keeps_samples size.0 size.1) (map (λ (s : NodeStep). s.step) steps) ≡ true
+none_changed [] size none = refl
+none_changed (s ∷ steps) size none = by_keeps (λ h. none_changed steps size h) (keeps_samples size.0 size.1 s.step) refl none
+  where
+    by_keeps : (changed_nodes size steps ≡ [] → list_all (keeps_samples size.0 size.1) (map (λ (s : NodeStep). s.step) steps) ≡ true) → (b : Bool) → keeps_samples size.0 size.1 s.step ≡ b → (if b then [] else s.node ∷ []) ++ changed_nodes (unwrap_or (step_size s.step size) size) steps ≡ [] → list_all (keeps_samples size.0 size.1) (map (λ (s : NodeStep). s.step) (s ∷ steps)) ≡ true
+    by_keeps ih true keeps none =
+        let rest : changed_nodes size steps ≡ [] = ap (λ (z : Size). changed_nodes z steps) (sym (size_kept s.step size keeps)) ∙ none in
+        and_from (keeps_samples size.0 size.1 s.step) (list_all (keeps_samples size.0 size.1) (map (λ (s : NodeStep). s.step) steps)) keeps (ih rest)
+    by_keeps ih false keeps none = cc
+
+no_first : (xs : List ℕ) → slice_get xs 0 ≡ None → xs ≡ []
+no_first [] none = refl
+no_first (x ∷ xs) none = cc
+
+-- the origin of a frame that the script has
+traced_is : (counts : List ℕ) (nodes : List Node) (n : ℕ) (from : Origin) → traced counts nodes n ≡ Some from → script_frame with_step origin counts nodes n ≡ from
+traced_is counts nodes n from is = by_less (nat_lt n (script_length counts nodes)) is
+  where
+    by_less : (b : Bool) → (if b then Some (script_frame with_step origin counts nodes n) else None) ≡ Some from → script_frame with_step origin counts nodes n ≡ from
+    by_less true is = cc
+    by_less false is = cc
+
+pub none_changes : StepsAreOfNodes → (counts : List ℕ) (nodes : List Node) (n source frame : ℕ) (steps : List Step) (size : Size) → IsScript nodes → traced counts nodes n ≡ Some (origin_of source frame steps) → slice_get (changed_nodes size (node_steps counts nodes n)) 0 ≡ None → list_all (keeps_samples size.0 size.1) steps ≡ true
+none_changes law counts nodes n source frame steps size script from none =
+    let same : map (λ (s : NodeStep). s.step) (node_steps counts nodes n) ≡ steps = law counts nodes n script ∙ ap (λ (o : Origin). o.steps) (traced_is counts nodes n (origin_of source frame steps) from) in
+    subst (λ (ss : List Step). list_all (keeps_samples size.0 size.1) ss ≡ true) same (none_changed (node_steps counts nodes n) size (no_first (changed_nodes size (node_steps counts nodes n)) none))
+
+-- a frame, by the picture of its packet
+pub frame_is : (now : Now) (n source frame place : ℕ) (steps : List Step) (o : Result PictureSamples Refusal) → traced (shown_counts now) now.script n ≡ Some (origin_of source frame steps) → slice_get (shown_indexes (stream_of (list_at now.lists source))) frame ≡ Some place
+    → picture_from source (slice_get (outcomes now.tables (stream_of (list_at now.lists source))) place) ≡ o → (source_picture now (traced (shown_counts now) now.script n) ≡ o) × (frame_of (unsized now) n ≡ frame_made None steps o)
+frame_is now n source frame place steps o from at decoded =
+    let stream : List (List ℕ) = stream_of (list_at now.lists source) in
+    let free : Now = unsized now in
+    let out : outcome_of now source frame ≡ slice_get (outcomes now.tables stream) place = ap (λ (s : Option ℕ). option_and_then (λ (i : ℕ). slice_get (outcomes now.tables stream) i) s) at in
+    let is : picture_from source (outcome_of now source frame) ≡ o = ap (picture_from source) out ∙ decoded in
+    (ap (source_picture now) from ∙ is, ap (frame_from free) from ∙ ap (frame_made None steps) is)
+
+-- a frame that is served, and one whose script cuts past the picture
+served_shown : (o : Option Shown) → is_some o ≡ true → (shown : Shown) × (fitted None o ≡ Ok shown)
+served_shown None some = cc
+served_shown (Some shown) some = (shown, refl)
+
+cut_off : (o : Option Shown) → is_some o ≡ false → fitted None o ≡ Err refusals.CropOutside
+cut_off None none = refl
+cut_off (Some shown) none = cc
+
+pub frame_cut_off : (now : Now) (n : ℕ) (steps : List Step) (picture : PictureSamples) → frame_of (unsized now) n ≡ frame_made None steps (Ok picture) → is_some (steps_shown steps (shown_in picture)) ≡ false → IsOrNoMemory (frame_of (unsized now) n) (Err refusals.CropOutside)
+frame_cut_off now n steps picture is none = is ∙ cut_off (steps_shown steps (shown_in picture)) none
+
+may_fit : (o : Option Shown) → MayRunOutOfMemory (fitted None o)
+may_fit None = tt
+may_fit (Some shown) = tt
+
+may_run_out : (first : Refusal) → MayRunOutOfMemory {A = PictureSamples} (Err first) → MayRunOutOfMemory {A = Shown} (Err first)
+may_run_out _ why = why
+
+made_refused : (steps : List Step) (o : Result PictureSamples Refusal) (refusal : Refusal) → IsOrNoMemory o (Err refusal) → IsOrNoMemory (frame_made None steps o) (Err refusal)
+made_refused steps (Err first) refusals.NoMemory why = may_run_out first why
+made_refused steps (Err first) _ why = ap (frame_made None steps) why
+made_refused steps (Ok picture) refusals.NoMemory why = may_fit (steps_shown steps (shown_in picture))
+made_refused steps (Ok picture) _ why = cc
+
+pub frame_refused : (now : Now) (n : ℕ) (steps : List Step) (o : Result PictureSamples Refusal) (refusal : Refusal) → frame_of (unsized now) n ≡ frame_made None steps o → IsOrNoMemory o (Err refusal) → IsOrNoMemory (frame_of (unsized now) n) (Err refusal)
+frame_refused now n steps o refusal is why = subst (λ (made : Result Shown Refusal). IsOrNoMemory made (Err refusal)) (sym is) (made_refused steps o refusal why)
+
+pub frame_changed : (now : Now) (n node : ℕ) (steps : List Step) (picture : PictureSamples) → source_picture now (traced (shown_counts now) now.script n) ≡ Ok picture → frame_of (unsized now) n ≡ frame_made None steps (Ok picture) → is_some (steps_shown steps (shown_in picture)) ≡ true
+    → slice_get (changed_nodes (picture.width, picture.height) (node_steps (shown_counts now) now.script n)) 0 ≡ Some node → IsChanged now n node
+frame_changed now n node steps picture decoded is some first =
+    let shown = served_shown (steps_shown steps (shown_in picture)) some in
+    record { shown = shown.0; served = is ∙ shown.1; picture = picture; decoded = decoded; first = first }
+
+pub changed_if : (now : Now) (n : ℕ) (o : Option ℕ) (steps : List Step) (picture : PictureSamples) → source_picture now (traced (shown_counts now) now.script n) ≡ Ok picture → frame_of (unsized now) n ≡ frame_made None steps (Ok picture) → is_some (steps_shown steps (shown_in picture)) ≡ true
+    → o ≡ slice_get (changed_nodes (picture.width, picture.height) (node_steps (shown_counts now) now.script n)) 0 → IfSome o (IsChanged now n)
+changed_if now n None steps picture decoded is some first = tt
+changed_if now n (Some node) steps picture decoded is some first = frame_changed now n node steps picture decoded is some (sym first)
+
+-- ---- the first fault
+
+changed_kept : (now : Now) (decoded n node : ℕ) → IsChanged (record now { decoded = decoded }) n node → IsChanged now n node
+changed_kept now decoded n node c = record { shown = c.shown; served = c.served; picture = c.picture; decoded = c.decoded; first = c.first }
+
+pub frame_fault : (now mid : Now) (n : ℕ) (fault : ExportFault) → mid ≡ record now { decoded = mid.decoded } → n < frame_count now → CanExport now n → IsFrameFault mid n fault → IsNotExported now fault
+frame_fault now mid n (Frame frame refusal) same less can why =
+    let here = subst (λ (m : Now). IsFrameFault m n (Frame frame refusal)) same why in (
+      subst (λ (k : ℕ). k < frame_count now) (sym here.0) less,
+      subst (λ (k : ℕ). CanExport now k) (sym here.0) can,
+      subst (λ (k : ℕ). IsOrNoMemory (frame_of (unsized now) k) (Err refusal)) (sym here.0) here.1,
+    )
+frame_fault now mid n (Changed frame node) same less can why =
+    let here = subst (λ (m : Now). IsFrameFault m n (Changed frame node)) same why in (
+      subst (λ (k : ℕ). k < frame_count now) (sym here.0) less,
+      subst (λ (k : ℕ). CanExport now k) (sym here.0) can,
+      subst (λ (k : ℕ). IsChanged now k node) (sym here.0) (changed_kept now mid.decoded n node here.1),
+    )
+frame_fault now mid n (Packets fault) same less can why = absurd why
+
+packing_why : (now : Now) (targets : List Target) (fault : CutFault) → HaveTargets now 0 targets → length targets ≡ frame_count now → IsPackingFault now targets (Packets fault) → IsNotExported now (Packets fault)
+packing_why now targets cuts.Full have all why = inr (targets, have, all, why)
+packing_why now targets cuts.Place have all why = tt
+packing_why now targets cuts.Size have all why = tt
+packing_why now targets cuts.TooLarge have all why = tt
+packing_why now targets cuts.NoMemory have all why = tt
+
+pub packing_fault : (now new : Now) (targets : List Target) (fault : ExportFault) → new ≡ record now { decoded = new.decoded } → HaveTargets now 0 targets → length targets ≡ frame_count now → IsPackingFault new targets fault → IsNotExported now fault
+packing_fault now new targets (Frame frame refusal) same have all why = absurd why
+packing_fault now new targets (Changed frame node) same have all why = absurd why
+packing_fault now new targets (Packets cuts.Full) same have all why = packing_why now targets cuts.Full have all (subst (λ (m : Now). IsPackingFault m targets (Packets cuts.Full)) same why)
+packing_fault now new targets (Packets cuts.Place) same have all why = tt
+packing_fault now new targets (Packets cuts.Size) same have all why = tt
+packing_fault now new targets (Packets cuts.TooLarge) same have all why = tt
+packing_fault now new targets (Packets cuts.NoMemory) same have all why = tt
+
+pub packed_why : (now : Now) (targets : List Target) (fault : CutFault) → (fault ≡ cuts.Full → IsTooLarge (exported now.tables (streams_in now) None targets)) → IsPackingFault now targets (Packets fault)
+packed_why now targets cuts.Full why = why refl
+packed_why now targets cuts.Place why = tt
+packed_why now targets cuts.Size why = tt
+packed_why now targets cuts.TooLarge why = tt
+packed_why now targets cuts.NoMemory why = tt

@@ -15,3 +15,4 @@ pub mod LiveRuns
 pub mod ToldKept
 pub mod ExportedFrames
 pub mod Listed
+pub mod ExportRecords

@@ -1,28 +1,29 @@
 -- The frames of a session as packets.
-use Rattle.std.specs.Prelude.{◌≡◌, ℕ, ◌+◌, ◌==◌, ◌&&◌, Bool, true, List, [], ◌∷◌, map, length, slice_get, Some, None, Ok}
+use Rattle.std.specs.Prelude.{◌≡◌, ◌⊎◌, ℕ, ◌+◌, ◌<◌, true, List, [], ◌∷◌, map, length, slice_get, Option, Some, None, Result, Ok, Err}
 use Rattle.std.specs.List.{list_all}
 use Rattle.pixel_planes.specs.Pictures.{PictureSamples}
 use Rattle.vp8_tables.specs.declared.tables.Tables.{Tables}
 use Rattle.packet_edits.specs.Shown.{shown_indexes, stream_of}
 use Rattle.lossless_cuts.specs.Exports.{IsDecoded, ShowsExactly}
+use Rattle.lossless_cuts.specs.Limits.{IsTooLarge}
 use Rattle.lossless_cuts.specs.Plans.{exported}
+use Rattle.lossless_cuts.specs.declared.faults.CutFault.TheVariants as cuts
 use Rattle.lossless_cuts.specs.declared.targets.Target.{Target}
 use Rattle.script_nodes.specs.Frames.{Origin, traced}
+use Rattle.script_nodes.specs.NodeSteps.{changed_nodes, keeps_samples, node_steps}
 use Rattle.script_nodes.specs.Shown.{Shown, Shows}
-use Rattle.script_nodes.specs.declared.traces.Step.{Step}
-use Rattle.script_nodes.specs.declared.traces.Step.TheVariants.{Cut, Weigh}
 use Rattle.packet_times.specs.Durations.{units_in}
 use Rattle.packet_times.specs.Stamps.{stamped}
 use Rattle.stream_files.specs.declared.ivf.Head.{Head}
 use Rattle.std.specs.Option.{option_map_or}
-use Rattle.frame_session.specs.declared.session.exports.Export.{Export}
+use Rattle.frame_session.specs.declared.export.Export.{Export}
+use Rattle.frame_session.specs.declared.session.exports.ExportFault.{ExportFault}
+use Rattle.frame_session.specs.declared.session.exports.ExportFault.TheVariants.{Frame, Changed, Packets}
+use Rattle.frame_session.specs.declared.refusal.Refusal.{Refusal}
+use Rattle.frame_session.specs.declared.refusal.Refusal.TheVariants as refusals
 use Rattle.frame_session.specs.Edits.{list_at}
-use Rattle.frame_session.specs.Sessions.{Now, frame_count, frame_of, shown_counts}
-
--- whether a step changes no sample of a picture of this size: it cuts the whole picture out, or has the whole weight
-abbrev pub keeps_samples : ℕ → ℕ → Step → Bool
-keeps_samples width height (Cut area) = (area.x == 0) && (area.y == 0) && (area.width == width) && (area.height == height)
-keeps_samples width height (Weigh weight) = weight == 256
+use Rattle.frame_session.specs.IsOrNoMemory.{IsOrNoMemory}
+use Rattle.frame_session.specs.Sessions.{Now, frame_count, frame_of, outcome_of, picture_from, shown_counts}
 
 -- the packets of each source
 abbrev pub streams_in : Now → List (List (List ℕ))
@@ -44,9 +45,13 @@ AreTargets now n (target ∷ targets) (picture ∷ pictures) = IsTarget now n ta
 AreTargets now n [] (picture ∷ pictures) = ⊥
 AreTargets now n (target ∷ targets) [] = ⊥
 
+-- the session as if no frame was served: frames of any size are
+abbrev pub unsized : Now → Now
+unsized now = record now { size = None }
+
 -- a picture shows frame n of the session, whatever size was served before
 abbrev pub IsFrame : Now → ℕ → PictureSamples → Type 0
-IsFrame now n picture = (shown : Shown) × (frame_of (record now { size = None }) n ≡ Ok shown) × Shows picture shown
+IsFrame now n picture = (shown : Shown) × (frame_of (unsized now) n ≡ Ok shown) × Shows picture shown
 
 -- packets that show exactly the frames of a session: decoding refuses none of them, they have as many shown frames, and frame n of
 -- them is frame n of the session, the same size and the same samples
@@ -88,3 +93,45 @@ pub record IsExportFile (now : Now) (file : Export) : Type 0 where
   pub all : length targets ≡ frame_count now
   pub stamps : file.packets ≡ stamped 0 (map (units_at now) targets) packets
   pub head : file.head ≡ export_head now.head targets
+
+-- the picture of the packet from which a frame with this origin comes, before the steps of the script
+abbrev pub source_picture : Now → Option Origin → Result PictureSamples Refusal
+source_picture now None = Err refusals.NoSuchFrame
+source_picture now (Some from) = picture_from from.source (outcome_of now from.source from.frame)
+
+-- frame n can be served, but the script changes samples of it: this is the number of the first node that does
+pub record IsChanged (now : Now) (n node : ℕ) : Type 0 where
+  pub shown : Shown
+  pub served : frame_of (unsized now) n ≡ Ok shown
+  pub picture : PictureSamples
+  pub decoded : source_picture now (traced (shown_counts now) now.script n) ≡ Ok picture
+  pub first : slice_get (changed_nodes (picture.width, picture.height) (node_steps (shown_counts now) now.script n)) 0 ≡ Some node
+
+-- why frame n is not exported
+abbrev pub IsFrameFault : Now → ℕ → ExportFault → Type 0
+IsFrameFault now n (Frame frame refusal) = (frame ≡ n) × IsOrNoMemory (frame_of (unsized now) n) (Err refusal)
+IsFrameFault now n (Changed frame node) = (frame ≡ n) × IsChanged now n node
+IsFrameFault now n (Packets fault) = ⊥
+
+-- why the packets of frames with these targets are not written
+abbrev pub IsPackingFault : Now → List Target → ExportFault → Type 0
+IsPackingFault now targets (Packets cuts.Full) = IsTooLarge (exported now.tables (streams_in now) None targets)
+IsPackingFault now targets (Packets fault) = Unit {0}
+IsPackingFault now targets _ = ⊥
+
+-- the first frames, this many, can be exported
+abbrev pub CanExport : Now → ℕ → Type 0
+CanExport now count = (targets : List Target) × HaveTargets now 0 targets × (length targets ≡ count)
+
+-- the packets of all frames would be too many, or too many bytes; each frame has a packet of its own
+abbrev pub IsTooLargeExport : Now → Type 0
+IsTooLargeExport now =
+    (1048576 < frame_count now)
+    ⊎ ((targets : List Target) × HaveTargets now 0 targets × (length targets ≡ frame_count now) × IsTooLarge (exported now.tables (streams_in now) None targets))
+
+-- why the frames of a session are not exported: all frames before the one that is reported can be
+abbrev pub IsNotExported : Now → ExportFault → Type 0
+IsNotExported now (Frame frame refusal) = (frame < frame_count now) × CanExport now frame × IsOrNoMemory (frame_of (unsized now) frame) (Err refusal)
+IsNotExported now (Changed frame node) = (frame < frame_count now) × CanExport now frame × IsChanged now frame node
+IsNotExported now (Packets cuts.Full) = IsTooLargeExport now
+IsNotExported now (Packets fault) = Unit {0}

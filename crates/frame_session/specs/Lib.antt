@@ -14,3 +14,4 @@ pub mod Live
 pub mod LiveSteps
 pub mod Told
 pub mod Exported
+pub mod ExportSizes

@@ -3,6 +3,7 @@
 #![tactic(auto)]
 
 mod edit;
+mod export;
 mod forged;
 mod keeping;
 pub mod laws;
@@ -15,11 +16,13 @@ mod session;
 mod settings;
 mod size;
 
+pub use export::Export;
 pub use live::{LiveFault, run_live, run_live_over};
+pub use lossless_cuts::CutFault;
 pub use observer::{Observer, Unobserved};
 pub use refusal::Refusal;
 pub use request_lines::Edit;
 pub use serving::{RunFault, answer_line, run, run_over};
-pub use session::{Export, ExportFault, Session};
+pub use session::{ExportFault, Session};
 pub use settings::Settings;
 pub use size::Size;

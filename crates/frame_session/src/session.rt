@@ -22,7 +22,7 @@ use crate::keeping::{edit_cached, picture_at};
 use crate::refusal::Refusal;
 use crate::size::Size;
 use arrayvec::ArrayVec;
-pub use exports::{Export, ExportFault};
+pub use exports::ExportFault;
 use packet_edits::Store;
 use packet_times::usual_duration;
 use pixel_planes::{NoMemory, Picture};

@@ -1,10 +1,14 @@
 -- The packets of one frame more.
-use Rattle.std.proofs.Common.{◌≡◌, ℕ, suc, zero, ◌+◌, ◌<◌, List, [], ◌∷◌, ◌++◌, Bool, ◌&&◌, length, slice_get, take, get_or, Option, Some, None, refl, sym, ap, ◌∙◌, append_assoc, append-nil, arith}
-use Rattle.std.proofs.lemmas.List.{take_more}
+use Rattle.std.proofs.Common.{◌≡◌, ℕ, suc, zero, ◌+◌, ◌-◌, ◌<◌, ◌≤◌, List, [], ◌∷◌, ◌++◌, Bool, ◌&&◌, length, slice_get, take, drop, get_or, Option, Some, None, refl, sym, ap, subst, inl, inr, ◌∙◌, append_assoc, append-nil, arith}
+use Rattle.std.specs.Prelude.{◌⊎◌}
+use Rattle.std.proofs.lemmas.List.{length-append, take-append-drop, take_all, take_more}
+use Rattle.std.proofs.lemmas.List.Sums.{sum_by-append}
+use Rattle.std.proofs.Math.Seq.{drop-append_seam}
 use Rattle.vp8_tables.specs.Tables.{TableEntries}
 use Rattle.packet_edits.specs.Marks.{StoreValue}
 use Rattle.packet_edits.specs.Shown.{stream_of}
 use Rattle.lossless_cuts.specs.declared.targets.Target.{Target}
+use Rattle.lossless_cuts.specs.Limits.{IsTooLarge, file_size, records_size}
 use Rattle.lossless_cuts.specs.Plans.{exported, frame_packets, is_held, last_or, lead, lead_if, leaves_last, packet_at, packet_shown, repeats, stream_at, streams_of}
 use Rattle.lossless_cuts.proofs.Frames.{packet-is}
 
@@ -14,6 +18,49 @@ exported_append tables streams before [] target = append-nil (frame_packets tabl
 exported_append tables streams before (first ∷ targets) target =
     ap (λ (ps : List (List ℕ)). frame_packets tables (stream_at streams first.source) before first ++ ps) (exported_append tables streams (Some first) targets target)
     ∙ sym (append_assoc (frame_packets tables (stream_at streams first.source) before first) (exported tables streams (Some first) targets) (frame_packets tables (stream_at streams target.source) (last_or (Some first) targets) target))
+
+-- the packets of more targets after these
+exported_from : (tables : TableEntries) (streams : List (List (List ℕ))) (before : Option Target) (front rest : List Target) → exported tables streams before (front ++ rest) ≡ exported tables streams before front ++ exported tables streams (last_or before front) rest
+exported_from tables streams before [] rest = refl
+exported_from tables streams before (first ∷ front) rest =
+    ap (λ (ps : List (List ℕ)). frame_packets tables (stream_at streams first.source) before first ++ ps) (exported_from tables streams (Some first) front rest)
+    ∙ sym (append_assoc (frame_packets tables (stream_at streams first.source) before first) (exported tables streams (Some first) front) (exported tables streams (last_or (Some first) front) rest))
+
+size_append : (xs ys : List (List ℕ)) → records_size (xs ++ ys) ≡ records_size xs + records_size ys
+size_append xs ys = sum_by-append (λ (packet : List ℕ). 12 + length packet) xs ys
+
+-- what is too large is so with more after it
+too_large_more : (xs ys : List (List ℕ)) → IsTooLarge xs → IsTooLarge (xs ++ ys)
+too_large_more xs ys (inl many) = inl (omega (arith, many, length-append xs ys))
+too_large_more xs ys (inr long) = inr (omega (arith, long, size_append xs ys))
+
+pub too_large_all : (tables : TableEntries) (streams : List (List (List ℕ))) (targets : List Target) (i : ℕ) (packets : List (List ℕ)) → packets ≡ exported tables streams None (take i targets) → IsTooLarge packets → IsTooLarge (exported tables streams None targets)
+too_large_all tables streams targets i packets is large =
+    let whole : exported tables streams None targets ≡ exported tables streams None (take i targets) ++ exported tables streams (last_or None (take i targets)) (drop i targets) =
+    ap (exported tables streams None) (sym (take-append-drop i targets)) ∙ exported_from tables streams None (take i targets) (drop i targets) in
+    subst IsTooLarge (sym whole) (too_large_more (exported tables streams None (take i targets)) (exported tables streams (last_or None (take i targets)) (drop i targets)) (subst IsTooLarge is large))
+
+-- the packets that were pushed
+pushed_is : (old new more all : List (List ℕ)) (n : ℕ) → new ≡ old ++ more → n ≡ length old → all ≡ new → take (length all - n) (drop n all) ≡ more
+pushed_is old new more all n is at same =
+    let whole : all ≡ old ++ more = same ∙ is in
+    let rest : drop n all ≡ more = ap (λ (xs : List (List ℕ)). drop n xs) whole ∙ ap (λ (k : ℕ). drop k (old ++ more)) at ∙ drop-append_seam old more in
+    let enough : length more ≤ length all - n = omega (arith, at, ap length whole, length-append old more) in
+    ap (take (length all - n)) rest ∙ take_all (length all - n) more enough
+
+-- what is left of the bytes
+pub left_more : (old new more all : List (List ℕ)) (n left after : ℕ) → new ≡ old ++ more → n ≡ length old → all ≡ new → left + records_size old ≡ 1073741792 → after + records_size (take (length all - n) (drop n all)) ≡ left → after + records_size new ≡ 1073741792
+left_more old new more all n left after is at same was now =
+    let pushed : take (length all - n) (drop n all) ≡ more = pushed_is old new more all n is at same in
+    omega (arith, was, now, ap records_size pushed, ap records_size is, size_append old more)
+
+pub left_over : (old new more all : List (List ℕ)) (n left : ℕ) → new ≡ old ++ more → n ≡ length old → all ≡ new → left + records_size old ≡ 1073741792 → left < records_size (take (length all - n) (drop n all)) → IsTooLarge new
+left_over old new more all n left is at same was over =
+    let pushed : take (length all - n) (drop n all) ≡ more = pushed_is old new more all n is at same in
+    inr (omega (arith, was, over, ap records_size pushed, ap records_size is, size_append old more))
+
+pub too_many : (packets : List (List ℕ)) → 1048576 < length packets → IsTooLarge packets
+too_many packets many = inl many
 
 pub last_or_append : (before : Option Target) (targets : List Target) (target : Target) → last_or before (targets ++ target ∷ []) ≡ Some target
 last_or_append before [] target = refl

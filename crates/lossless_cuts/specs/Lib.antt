@@ -2,3 +2,4 @@ pub mod Plans
 pub mod Faults
 pub mod Exports
 pub mod Laws
+pub mod Limits

@@ -10,8 +10,8 @@ pub enum CutFault {
     /// A frame's source or packet does not exist.
     #[error("there is no packet at the index")]
     Place,
-    /// There would be more than 1,048,576 packets.
-    #[error("there would be more than 1048576 packets")]
+    /// There would be more than 1,048,576 packets, or more than 1,073,741,824 bytes as an IVF file.
+    #[error("there would be more than 1048576 packets or 1073741824 bytes")]
     Full,
     /// A hold packet was needed for a width or height of 0 or above 16,383.
     #[error("no frame has this size")]

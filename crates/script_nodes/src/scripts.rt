@@ -183,6 +183,14 @@ impl Script {
         let found = found_in(&self.nodes, &lengths, last as u64, frame);
         Some((found.source as usize, found.frame, Trace::new(found.steps)))
     }
+
+    /// Does nothing. It says what holds of the nodes of each script.
+    pub fn prove_nodes(&self)
+        ensures { IsScript self.now }
+    {
+        let _ = &self.nodes;
+    }
+
     /// The steps of a frame of the script, in order, with the numbers of their nodes: 1 for the first one. They are the steps of its
     /// trace (law `steps_are_of_nodes`). `counts` is as for [`trace`](Script::trace).
     ///

@@ -6,7 +6,7 @@ use Rattle.std.specs.List.{slice_split, starts_with}
 use Rattle.serve_arguments.specs.Capacities.{capacity_given}
 use Rattle.serve_arguments.specs.declared.capacities.Capacity.{Capacity}
 use Rattle.serve_arguments.specs.declared.files.Argument.{Argument}
-use Rattle.serve_arguments.specs.declared.files.Argument.TheVariants.{In, Sources, Requests, Out, Tables, Save, Replies, Errors}
+use Rattle.serve_arguments.specs.declared.files.Argument.TheVariants.{In, Sources, Requests, Out, Tables, Save, Export, Replies, Errors}
 use Rattle.serve_arguments.specs.declared.files.Named.{Named}
 use Rattle.serve_arguments.specs.declared.files.SameFile.{SameFile}
 use Rattle.serve_arguments.specs.declared.fault.Fault.{Fault}
@@ -43,6 +43,7 @@ argument_name Requests = codes "REQUESTS"
 argument_name Out = codes "OUT"
 argument_name Tables = codes "--tables"
 argument_name Save = codes "--save"
+argument_name Export = codes "--export"
 argument_name Replies = codes "standard output"
 argument_name Errors = codes "standard error"
 
@@ -70,7 +71,7 @@ abbrev pub read_files : Words → List (List ℕ) → List NamedFile
 read_files words more =
     ((In, file_of words.stream.now) ∷ (Requests, file_of words.requests.now) ∷ (Tables, option_map (λ path. path.now) words.tables) ∷ []) ++ map source_file more
 
--- the arguments whose files are read, and must not be saved: IN and the sources may be, since they are read before
+-- the arguments whose files are read, and must not be saved or exported: IN and the sources may be, since they are read before
 abbrev pub kept_files : Words → List NamedFile
 kept_files words = (Requests, file_of words.requests.now) ∷ (Tables, option_map (λ path. path.now) words.tables) ∷ []
 
@@ -81,14 +82,17 @@ out_file words = (Out, file_of words.frames.now)
 abbrev pub saved_file : Words → NamedFile
 saved_file words = (Save, option_map (λ path. path.now) words.saved)
 
+abbrev pub exported_file : Words → NamedFile
+exported_file words = (Export, option_map (λ path. path.now) words.exported)
+
 -- standard input, if the requests are not named
 abbrev pub input_file : Words → NamedFile
 input_file words = (Requests, if pointwise nat_eq words.requests.now (codes "-") then Some (codes "/dev/stdin") else None)
 
--- the files beside those that are only read
+-- the files besides those that are only read
 abbrev pub standard_files : Words → List NamedFile
 standard_files words =
-    input_file words ∷ out_file words ∷ (Replies, Some (codes "/dev/stdout")) ∷ (Errors, Some (codes "/dev/stderr")) ∷ saved_file words ∷ []
+    input_file words ∷ out_file words ∷ (Replies, Some (codes "/dev/stdout")) ∷ (Errors, Some (codes "/dev/stderr")) ∷ saved_file words ∷ exported_file words ∷ []
 
 -- all files of a command line with these paths of `--sources`, in the order in which an error names them
 abbrev pub placed_files : Words → List (List ℕ) → List NamedFile
@@ -105,16 +109,23 @@ pub record IsSameFile (written : NamedFile) (others : List NamedFile) (one : Sam
   pub other : Contains others (one.other, Some one.path.now)
   pub is_no_device : is_device one.path.now ≡ false
 
--- the file for the frames is none of these, which are read, the saved file is not the requests' or the tables', and the two are not one
+-- the file for the frames is none of these, which are read, the saved and the exported file are not the requests' or the tables', and the three
+-- are three
 pub record AreApart (words : Words) (read : List NamedFile) : Type 0 where
   pub out : IsApart (out_file words) read
   pub saved : IsApart (saved_file words) (kept_files words)
   pub both : IsApart (saved_file words) (out_file words ∷ [])
+  pub exported : IsApart (exported_file words) (kept_files words)
+  pub all : IsApart (exported_file words) (out_file words ∷ saved_file words ∷ [])
 
 -- a file that is written is named twice, if these are read
 abbrev pub IsNamedTwice : Words → List NamedFile → SameFile → Type 0
 IsNamedTwice words read one =
-    IsSameFile (out_file words) read one ⊎ IsSameFile (saved_file words) (kept_files words) one ⊎ IsSameFile (saved_file words) (out_file words ∷ []) one
+    IsSameFile (out_file words) read one
+    ⊎ IsSameFile (saved_file words) (kept_files words) one
+    ⊎ IsSameFile (saved_file words) (out_file words ∷ []) one
+    ⊎ IsSameFile (exported_file words) (kept_files words) one
+    ⊎ IsSameFile (exported_file words) (out_file words ∷ saved_file words ∷ []) one
 
 -- why the files are not apart
 abbrev pub IsFileFault : Words → List NamedFile → Fault → Type 0
@@ -126,9 +137,9 @@ IsFileFault words read _ = ⊥
 abbrev pub capacity_asked : Words → Option Capacity
 capacity_asked words = capacity_given words.cache (option_map (λ size. size.now) words.cache_bytes)
 
--- packets are to be padded, but not saved
+-- packets are to be padded, but neither saved nor exported
 abbrev pub pads_nothing : Words → Bool
-pads_nothing words = words.pads && is_none words.saved
+pads_nothing words = words.pads && is_none words.saved && is_none words.exported
 
 -- packets are to get new time stamps, but not saved
 abbrev pub restamps_nothing : Words → Bool

@@ -7,7 +7,7 @@ use Rattle.serve_arguments.specs.CommandLines.{NamedFile, names_of, placed_files
 use Rattle.serve_arguments.specs.declared.fault.Fault.{Fault}
 use Rattle.serve_arguments.specs.declared.fault.Fault.TheVariants as faults
 use Rattle.serve_arguments.specs.declared.files.Argument.{Argument}
-use Rattle.serve_arguments.specs.declared.files.Argument.TheVariants.{In, Sources, Requests, Out, Tables, Save, Replies, Errors}
+use Rattle.serve_arguments.specs.declared.files.Argument.TheVariants.{In, Sources, Requests, Out, Tables, Save, Export, Replies, Errors}
 use Rattle.serve_arguments.specs.declared.files.SameFile.{SameFile}
 use Rattle.serve_arguments.specs.declared.located.Located.{Located}
 use Rattle.serve_arguments.specs.declared.words.Accepted.{Accepted}
@@ -27,6 +27,7 @@ is_kept_from_out Requests = true
 is_kept_from_out Out = false
 is_kept_from_out Tables = true
 is_kept_from_out Save = false
+is_kept_from_out Export = false
 is_kept_from_out Replies = true
 is_kept_from_out Errors = true
 
@@ -38,13 +39,27 @@ is_kept_from_save Requests = true
 is_kept_from_save Out = true
 is_kept_from_save Tables = true
 is_kept_from_save Save = false
+is_kept_from_save Export = false
 is_kept_from_save Replies = true
 is_kept_from_save Errors = true
+
+-- the file of `--export` must not be that of such an argument; it may be a source's, which is read before
+abbrev pub is_kept_from_export : Argument → Bool
+is_kept_from_export In = false
+is_kept_from_export Sources = false
+is_kept_from_export Requests = true
+is_kept_from_export Out = true
+is_kept_from_export Tables = true
+is_kept_from_export Save = true
+is_kept_from_export Export = false
+is_kept_from_export Replies = true
+is_kept_from_export Errors = true
 
 -- the first is written, and must not be the second's file
 abbrev pub is_kept_from : Argument → Argument → Bool
 is_kept_from Out other = is_kept_from_out other
 is_kept_from Save other = is_kept_from_save other
+is_kept_from Export other = is_kept_from_export other
 is_kept_from In other = false
 is_kept_from Sources other = false
 is_kept_from Requests other = false
@@ -66,6 +81,7 @@ is_over Requests written place = is_one_file written place
 is_over Out written place = is_one_file written place
 is_over Tables written place = is_one_file written place
 is_over Save written place = is_one_file written place
+is_over Export written place = is_one_file written place
 
 -- so by what the system said of the two places; of a place that is not there it said nothing
 abbrev pub is_clash_at : Argument → Argument → Option Place → Option Place → Bool

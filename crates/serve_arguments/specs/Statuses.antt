@@ -7,7 +7,7 @@ use Rattle.program_parts.specs.declared.fault.ArgumentFault.TheVariants as argum
 use Rattle.program_parts.specs.declared.fault.FileFault.{FileFault}
 use Rattle.program_parts.specs.declared.fault.FileFault.TheVariants as files
 use Rattle.serve_arguments.specs.declared.fault.Fault.{Fault}
-use Rattle.serve_arguments.specs.declared.fault.Fault.TheVariants.{CommandLine, NamedTwice, CannotRead, TooLong, Tables, Input, CannotWrite, NoMemory}
+use Rattle.serve_arguments.specs.declared.fault.Fault.TheVariants.{CommandLine, NamedTwice, CannotRead, TooLong, Tables, Input, NotExported, CannotWrite, NoMemory}
 
 -- a mistake on the command line has status 2, every other error 1
 abbrev pub status_of : Fault → ℕ
@@ -17,6 +17,7 @@ status_of (CannotRead path) = 1
 status_of (TooLong path) = 1
 status_of Tables = 1
 status_of (Input source fault) = 1
+status_of (NotExported why) = 1
 status_of CannotWrite = 1
 status_of NoMemory = 1
 

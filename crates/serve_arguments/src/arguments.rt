@@ -114,10 +114,16 @@ fn with_files<'a>(alloc: Global, command: Command<'a>) -> Result<Command<'a>, Al
             "FILE",
             "IVF file for the packets of IN after the last request, not of other sources",
         ))?
+        .arg(option(
+            alloc,
+            "export",
+            "FILE",
+            "IVF file for the frames of the script after the last request, without coding again",
+        ))?
         .arg(flag(
             alloc,
             "pad",
-            "With --save: a byte 00 after packets that other players do not show",
+            "With --save or --export: a byte 00 after packets that other players do not show",
         ))?
         .arg(flag(
             alloc,
@@ -150,6 +156,7 @@ fn words_of<'a>(matches: &ArgMatches<'a>) -> Words<'a> {
         cache_bytes: matches.get_str("cache-bytes"),
         tables: matches.get_str("tables"),
         saved: matches.get_str("save"),
+        exported: matches.get_str("export"),
         pads: matches.get_flag("pad"),
         restamps: matches.get_flag("restamp"),
         is_live: matches.get_flag("live"),

@@ -2,6 +2,7 @@
 ghost use Rattle.std.specs.Prelude.{◌≡◌};
 ghost use Rattle.serve_arguments.specs.Statuses.{argument_fault, fault_of, file_fault, status_of};
 
+use crate::exports::NotExported;
 use crate::files::SameFile;
 use output_files::Unsaved;
 use program_parts::{ArgumentFault, Ending, FileFault, InLine};
@@ -45,6 +46,9 @@ pub enum Fault<'a> {
     /// source.
     #[error("{name} {word}", name = SourceName(*.source), word = .fault.word())]
     Input { source: usize, fault: IvfFault },
+    /// The frames of the script are not exported.
+    #[error("{0}")]
+    NotExported(NotExported),
     /// The file for the frames or for the packets cannot be created, or a writer returned an error.
     #[error("cannot write")]
     CannotWrite,

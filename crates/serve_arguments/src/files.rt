@@ -1,6 +1,6 @@
 // The files that the command line names: a file that is written is not named twice.
-ghost use Rattle.std.specs.Prelude.{◌≡◌, ◌↔◌, IfErr, IfOk, IsTrue, OnOk, Some, map, option_map};
-ghost use Rattle.serve_arguments.specs.CommandLines.{AreApart, argument_name, IsApart, IsFileFault, IsNamedTwice, IsSameFile, file_of, is_device, kept_files, named_file, names_of, out_file, read_files, saved_file};
+ghost use Rattle.std.specs.Prelude.{◌≡◌, ◌⊎◌, ◌↔◌, ◌∷◌, [], IfErr, IfOk, IsTrue, OnOk, Some, map, option_map};
+ghost use Rattle.serve_arguments.specs.CommandLines.{AreApart, argument_name, IsApart, IsFileFault, IsNamedTwice, IsSameFile, file_of, is_device, exported_file, kept_files, named_file, names_of, out_file, read_files, saved_file};
 
 use crate::fault::Fault;
 use crate::words::Words;
@@ -17,6 +17,7 @@ pub enum Argument {
     Out,
     Tables,
     Save,
+    Export,
     /// Standard output, which no argument names.
     Replies,
     /// Standard error, which no argument names.
@@ -35,6 +36,7 @@ impl Argument {
             Argument::Out => "OUT",
             Argument::Tables => "--tables",
             Argument::Save => "--save",
+            Argument::Export => "--export",
             Argument::Replies => "standard output",
             Argument::Errors => "standard error",
         }
@@ -43,7 +45,7 @@ impl Argument {
     /// What is written to its file.
     fn content(self) -> &'static str {
         match self {
-            Argument::Save => "packets",
+            Argument::Save | Argument::Export => "packets",
             _ => "frames",
         }
     }
@@ -204,7 +206,30 @@ pub(crate) fn saved_file(words: Words<'_>) -> Named<'_>
     }
 }
 
-/// Checks that the file for the frames is none of these, that the file of `--save` is not the requests' or the tables', and that they are two.
+/// The file for the frames as packets.
+pub(crate) fn exported_file(words: Words<'_>) -> Named<'_>
+    ensures { named_file result ≡ exported_file words.entry }
+{
+    Named {
+        argument: Argument::Export,
+        path: words.exported,
+    }
+}
+
+/// Checks that the file of `--export` is not the requests' or the tables', and neither OUT nor the file of `--save`.
+fn check_exported(words: Words<'_>) -> Result<(), SameFile<'_>>
+    ensures apart { OnOk result (IsApart (exported_file words.entry) (kept_files words.entry)) }
+    ensures all { OnOk result (IsApart (exported_file words.entry) (out_file words.entry ∷ saved_file words.entry ∷ [])) }
+    ensures found { IfErr result (λ same. IsSameFile (exported_file words.entry) (kept_files words.entry) same ⊎ IsSameFile (exported_file words.entry) (out_file words.entry ∷ saved_file words.entry ∷ []) same) }
+{
+    let exported = exported_file(words);
+    check_apart(exported, &kept_files(words))?;
+    check_apart(exported, &[out_file(words), saved_file(words)])?;
+    Ok(())
+}
+
+/// Checks that the file for the frames is none of these, that the files of `--save` and `--export` are not the requests' or the tables', and that
+/// the three are three.
 fn check_written<'a>(words: Words<'a>, read: &[Named<'a>]) -> Result<(), SameFile<'a>>
     ensures apart { OnOk result (AreApart words.entry (map named_file read.now)) }
     ensures found { IfErr result (IsNamedTwice words.entry (map named_file read.now)) }
@@ -214,11 +239,12 @@ fn check_written<'a>(words: Words<'a>, read: &[Named<'a>]) -> Result<(), SameFil
     check_apart(out, read)?;
     check_apart(saved, &kept_files(words))?;
     check_apart(saved, &[out])?;
+    check_exported(words)?;
     Ok(())
 }
 
-/// Checks that no file that is written is named twice, with these paths of `--sources`, by what is written on the command line. The file of
-/// `--save` may be IN or a source, which are read before it is written.
+/// Checks that no file that is written is named twice, with these paths of `--sources`, by what is written on the command line. The files of
+/// `--save` and `--export` may be IN or a source, which are read before they are written.
 ///
 /// `NamedTwice` with two arguments that name one; `NoMemory`.
 pub fn check_files<'a>(alloc: Global, words: Words<'a>, more: &[&'a str]) -> Result<(), Fault<'a>>

@@ -27,8 +27,8 @@ packets are saved. Ctrl-C ends the program and saves nothing.
 If a request is refused or the program ends with an error, run it again with
 --explain: a line on standard error says why, and what to do.
 
-The files that are written, OUT and the one of --save, must not be the file of
-another argument. Paths under /dev/ may be named twice.";
+The files that are written, OUT and those of --save and --export, must not be
+the file of another argument. Paths under /dev/ may be named twice.";
 
 /// The lines of requests and the nodes of scripts.
 pub const GRAMMAR: &str = "\

@@ -3,6 +3,7 @@
 
 mod arguments;
 mod capacities;
+mod exports;
 mod fault;
 mod files;
 mod help;
@@ -14,6 +15,7 @@ mod words;
 
 pub use arguments::parse;
 pub use capacities::Capacity;
+pub use exports::NotExported;
 pub use fault::Fault;
 pub use files::{Argument, SameFile};
 pub use inputs::{FilesRead, Inputs, read_files, read_inputs};

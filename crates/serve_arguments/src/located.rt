@@ -1,10 +1,10 @@
 // What the paths of the command line name, however they are spelled.
 ghost use Rattle.std.specs.Prelude.{◌≡◌, IfErr, IfOk, OnOk, filter, map, option_map};
 ghost use Rattle.serve_arguments.specs.CommandLines.{input_file, named_file, names_of, placed_files, standard_files};
-ghost use Rattle.serve_arguments.specs.Locations.{ArePlaced, AreSeparate, IsApartFrom, IsClash, IsClashAmong, IsPlaceFault, has_path, is_clash, is_kept_from, is_kept_from_out, is_kept_from_save, is_over, located_file};
+ghost use Rattle.serve_arguments.specs.Locations.{ArePlaced, AreSeparate, IsApartFrom, IsClash, IsClashAmong, IsPlaceFault, has_path, is_clash, is_kept_from, is_kept_from_export, is_kept_from_out, is_kept_from_save, is_over, located_file};
 
 use crate::fault::Fault;
-use crate::files::{Argument, Named, SameFile, out_file, read_files, saved_file};
+use crate::files::{Argument, Named, SameFile, exported_file, out_file, read_files, saved_file};
 use crate::words::{Accepted, Words};
 use output_files::{Place, place_of};
 use program_parts::NO_FILE;
@@ -42,8 +42,8 @@ fn input_file(words: Words<'_>) -> Named<'_>
     }
 }
 
-/// The files beside those that are only read: standard input, OUT, standard output and error, and the file of `--save`.
-fn standard_files(words: Words<'_>) -> [Named<'_>; 5]
+/// The files besides those that are only read: standard input, OUT, standard output and error, and the files of `--save` and `--export`.
+fn standard_files(words: Words<'_>) -> [Named<'_>; 6]
     ensures { map named_file result ≡ standard_files words.entry }
 {
     [
@@ -58,6 +58,7 @@ fn standard_files(words: Words<'_>) -> [Named<'_>; 5]
             path: Some(ERRORS),
         },
         saved_file(words),
+        exported_file(words),
     ]
 }
 
@@ -96,7 +97,7 @@ fn is_kept_from_out(other: Argument) -> bool
     ensures { result ≡ is_kept_from_out other }
 {
     match other {
-        Argument::Out | Argument::Save => false,
+        Argument::Out | Argument::Save | Argument::Export => false,
         Argument::In
         | Argument::Sources
         | Argument::Requests
@@ -111,10 +112,25 @@ fn is_kept_from_save(other: Argument) -> bool
     ensures { result ≡ is_kept_from_save other }
 {
     match other {
-        Argument::In | Argument::Sources | Argument::Save => false,
+        Argument::In | Argument::Sources | Argument::Save | Argument::Export => false,
         Argument::Requests
         | Argument::Tables
         | Argument::Out
+        | Argument::Replies
+        | Argument::Errors => true,
+    }
+}
+
+/// Whether the file of `--export` must not be that of this argument: it may be a source, which is read before.
+fn is_kept_from_export(other: Argument) -> bool
+    ensures { result ≡ is_kept_from_export other }
+{
+    match other {
+        Argument::In | Argument::Sources | Argument::Export => false,
+        Argument::Requests
+        | Argument::Tables
+        | Argument::Out
+        | Argument::Save
         | Argument::Replies
         | Argument::Errors => true,
     }
@@ -127,6 +143,7 @@ fn is_kept_from(written: Argument, other: Argument) -> bool
     match written {
         Argument::Out => is_kept_from_out(other),
         Argument::Save => is_kept_from_save(other),
+        Argument::Export => is_kept_from_export(other),
         Argument::In
         | Argument::Sources
         | Argument::Requests
@@ -148,7 +165,8 @@ fn is_over(other: Argument, written: &Place, place: &Place) -> bool
         | Argument::Requests
         | Argument::Tables
         | Argument::Out
-        | Argument::Save => written.is_one_file(place),
+        | Argument::Save
+        | Argument::Export => written.is_one_file(place),
     }
 }
 
@@ -196,8 +214,8 @@ pub fn check_located<'a>(files: &[Located<'a>]) -> Result<(), SameFile<'a>>
 }
 
 /// Checks that no file that is written is the file of another argument, by what is at the paths: another spelling, a link or a second hard
-/// link of a file is that file. The file of `--save` may be IN or a source, which are read before it is written. A device may be
-/// named twice. Neither file may be standard output's or standard error's, unless it is `/dev/null`.
+/// link of a file is that file. The files of `--save` and `--export` may be IN or a source, which are read before they are written. A device may be
+/// named twice. None of the files may be standard output's or standard error's, unless it is `/dev/null`.
 ///
 /// `NamedTwice` with two arguments that name one; `NoMemory`.
 pub fn check_places<'a, R: Files + AllocGlobal>(

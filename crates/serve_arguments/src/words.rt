@@ -37,7 +37,9 @@ pub struct Words<'a> {
     pub tables: Option<&'a str>,
     /// The file for the packets after the run, if given.
     pub saved: Option<&'a str>,
-    /// Whether saved packets whose last token partition is empty are padded.
+    /// The file for the frames of the script after the run, as packets, if given.
+    pub exported: Option<&'a str>,
+    /// Whether saved and exported packets whose last token partition is empty are padded.
     pub pads: bool,
     /// Whether saved packets get new time stamps, by how long they are shown.
     pub restamps: bool,
@@ -60,11 +62,11 @@ impl Words<'_> {
         }
     }
 
-    /// Whether packets are to be padded, but not saved.
+    /// Whether packets are to be padded, but neither saved nor exported.
     pub fn pads_nothing(self) -> bool
         ensures { result ≡ pads_nothing self.entry }
     {
-        self.pads && self.saved.is_none()
+        self.pads && self.saved.is_none() && self.exported.is_none()
     }
 
     /// Whether packets are to get new time stamps, but not saved.
@@ -144,7 +146,8 @@ impl<'a> Words<'a> {
     /// Checks the command line before any file is read.
     ///
     /// `CommandLine` if the number of cached states is not 1 to 4,096, if the size of `--cache-bytes` is not one, or both are given, if
-    /// `--pad` or `--restamp` is given without `--save`, if `--sources` has more than seven paths, or an empty one; `NamedTwice` if OUT or the file of `--save` is the file of another argument;
+    /// `--pad` is given without `--save` and `--export`, or `--restamp` without `--save`, if `--sources` has more than seven paths, or an empty one;
+    /// `NamedTwice` if OUT or the file of `--save` or `--export` is the file of another argument;
     /// `NoMemory`. Paths under `/dev/` may be named twice.
     pub fn accept(self, alloc: Global) -> Result<Accepted<'a>, Fault<'a>>
         ensures accepted { IfOk result (IsAccepted self.entry) }

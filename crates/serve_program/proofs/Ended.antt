@@ -1,12 +1,15 @@
 -- Why the program exits, part by part.
-use Rattle.std.proofs.Common.{ℕ, List, Option, None, refl}
+use Rattle.std.proofs.Common.{◌≡◌, ℕ, List, Option, None, refl}
 use Rattle.program_parts.specs.declared.fault.FileFault.{FileFault}
 use Rattle.program_parts.specs.declared.fault.FileFault.TheVariants as files
 use Rattle.serve_arguments.specs.Readings.{AreNamed, IsInputFault}
 use Rattle.serve_arguments.specs.Statuses.{file_fault}
 use Rattle.serve_arguments.specs.declared.fault.Fault.{Fault}
-use Rattle.serve_arguments.specs.declared.fault.Fault.TheVariants.{CommandLine, NamedTwice, CannotRead, TooLong, Tables, Input, CannotWrite, NoMemory}
-use Rattle.serve_program.specs.Endings.{IsEnded, IsRefused, IsSaveFault}
+use Rattle.serve_arguments.specs.declared.fault.Fault.TheVariants.{CommandLine, NamedTwice, CannotRead, TooLong, Tables, Input, NotExported, CannotWrite, NoMemory}
+use Rattle.std.specs.Prelude.{IfSome, codes}
+use Rattle.vp8_tables.specs.Tables.{TableEntries}
+use Rattle.frame_session.specs.Sessions.{Now}
+use Rattle.serve_program.specs.Endings.{IsEnded, IsExportFault, IsRefused, IsReplied, IsSaveFault}
 
 module _ (unnamed : List ℕ) (tables : Option (List ℕ)) (names : List (List ℕ)) (requests : List ℕ) where
   -- a file was not read
@@ -24,6 +27,7 @@ module _ (unnamed : List ℕ) (tables : Option (List ℕ)) (names : List (List �
   run_ended left left' replies replies' sources (TooLong path) named why = absurd why
   run_ended left left' replies replies' sources Tables named why = absurd why
   run_ended left left' replies replies' sources (Input source fault) named why = (sources, named, why.0, why.2)
+  run_ended left left' replies replies' sources (NotExported cause) named why = absurd why
   run_ended left left' replies replies' sources CannotWrite named why = tt
   run_ended left left' replies replies' sources NoMemory named why = tt
 
@@ -35,5 +39,18 @@ module _ (unnamed : List ℕ) (tables : Option (List ℕ)) (names : List (List �
   save_ended left left' replies replies' (TooLong path) why = absurd why
   save_ended left left' replies replies' Tables why = absurd why
   save_ended left left' replies replies' (Input source fault) why = absurd why
+  save_ended left left' replies replies' (NotExported cause) why = absurd why
   save_ended left left' replies replies' CannotWrite why = tt
   save_ended left left' replies replies' NoMemory why = tt
+
+  -- the frames were not exported
+  pub export_ended : (left left' replies replies' : Option (List ℕ)) (entries : TableEntries) (sources : List (List ℕ)) (lines : List ℕ) (end : Now) (fault : Fault) → AreNamed unnamed names sources → (requests ≡ codes "-" → IfSome left (λ bytes. lines ≡ bytes)) → IsReplied entries sources lines replies replies' end → IsExportFault end fault → IsEnded unnamed tables names requests left left' replies replies' fault
+  export_ended left left' replies replies' entries sources lines end CommandLine named input replied why = absurd why
+  export_ended left left' replies replies' entries sources lines end (NamedTwice same) named input replied why = absurd why
+  export_ended left left' replies replies' entries sources lines end (CannotRead path) named input replied why = absurd why
+  export_ended left left' replies replies' entries sources lines end (TooLong path) named input replied why = absurd why
+  export_ended left left' replies replies' entries sources lines end Tables named input replied why = absurd why
+  export_ended left left' replies replies' entries sources lines end (Input source fault) named input replied why = absurd why
+  export_ended left left' replies replies' entries sources lines end (NotExported cause) named input replied why = record { tables = entries; sources = sources; named = named; end = end; replied = (lines, input, replied); refused = why }
+  export_ended left left' replies replies' entries sources lines end CannotWrite named input replied why = absurd why
+  export_ended left left' replies replies' entries sources lines end NoMemory named input replied why = tt

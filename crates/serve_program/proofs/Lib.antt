@@ -1,3 +1,4 @@
 pub mod Flushed
 pub mod Ended
 pub mod LiveEnded
+pub mod Exports

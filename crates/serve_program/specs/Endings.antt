@@ -1,5 +1,5 @@
 -- The results of the parts of a run.
-use Rattle.std.specs.Prelude.{◌≡◌, ◌⊎◌, Bool, false, ℕ, ◌==◌, List, [], ◌∷◌, ◌++◌, Option, None, IfSome, IsSome, codes, slice_index_or, if◌then◌else◌}
+use Rattle.std.specs.Prelude.{◌≡◌, ◌<◌, ◌≤◌, ◌⊎◌, Bool, false, ℕ, ◌==◌, List, [], ◌∷◌, ◌++◌, map, Option, None, IfSome, IsSome, codes, slice_index_or, if◌then◌else◌}
 use Rattle.std.specs.Fmt.{decimal}
 use Rattle.std.specs.Io.KnownBytes.{Keeps}
 use Rattle.vp8_tables.specs.Rfc.{rfc_entries}
@@ -8,13 +8,22 @@ use Rattle.stream_files.specs.Texts.{written_text}
 use Rattle.stream_files.specs.declared.ivf.Head.{Head}
 use Rattle.stream_files.specs.declared.packets.Packet.{Packet}
 use Rattle.packet_edits.specs.Edits.{Listing}
-use Rattle.packet_edits.specs.Saved.{packets_of, padded_packets_of, restamped}
+use Rattle.packet_edits.specs.Saved.{packets_of, padded_if, padded_packets_of, restamped}
 use Rattle.frame_session.specs.Edits.{list_at}
 use Rattle.std.specs.Borrow.{Bor}
 use Rattle.stream_files.specs.declared.ivf.Ivf.{Ivf}
 use Rattle.frame_session.specs.Answers.{AreIvfs, Means, SourceRefuses}
+use Rattle.frame_session.specs.ExportSizes.{saved_bytes}
+use Rattle.frame_session.specs.Exported.{IsExportFile, IsNotExported}
 use Rattle.frame_session.specs.Live.{CutsOff, LiveMeans}
 use Rattle.frame_session.specs.Sessions.{Now, start}
+use Rattle.frame_session.specs.declared.export.Export.{Export}
+use Rattle.frame_session.specs.declared.refusal.Refusal.{Refusal}
+use Rattle.frame_session.specs.declared.refusal.Refusal.TheVariants as refusals
+use Rattle.frame_session.specs.declared.session.exports.ExportFault.{ExportFault}
+use Rattle.frame_session.specs.declared.session.exports.ExportFault.TheVariants as exports
+use Rattle.lossless_cuts.specs.declared.faults.CutFault.{CutFault}
+use Rattle.lossless_cuts.specs.declared.faults.CutFault.TheVariants as cuts
 use Rattle.frame_session.specs.declared.live.LiveFault.{LiveFault}
 use Rattle.frame_session.specs.declared.live.LiveFault.TheVariants as lives
 use Rattle.frame_session.specs.declared.serving.RunFault.{RunFault}
@@ -22,8 +31,10 @@ use Rattle.frame_session.specs.declared.serving.RunFault.TheVariants as runs
 use Rattle.serve_arguments.specs.CachedStates.{AreStates}
 use Rattle.serve_arguments.specs.Readings.{AreNamed, IsUnread}
 use Rattle.serve_arguments.specs.declared.capacities.Capacity.{Capacity}
+use Rattle.serve_arguments.specs.declared.exports.NotExported.{NotExported}
+use Rattle.serve_arguments.specs.declared.exports.NotExported.TheVariants as unexported
 use Rattle.serve_arguments.specs.declared.fault.Fault.{Fault}
-use Rattle.serve_arguments.specs.declared.fault.Fault.TheVariants.{CannotRead, TooLong, Tables, Input, CannotWrite, NoMemory}
+use Rattle.serve_arguments.specs.declared.fault.Fault.TheVariants.{CannotRead, TooLong, Tables, Input, NotExported, CannotWrite, NoMemory}
 
 -- why the packets were not saved
 abbrev pub IsSaveFault : Fault → Type 0
@@ -51,6 +62,53 @@ saved_packets pads restamps head list =
 abbrev pub saved_text : Bool → Bool → Now → List ℕ
 saved_text pads restamps end = written_text end.head (saved_packets pads restamps end.head (list_at end.lists 0))
 
+-- the session after the export that is asked for: only the number of steps made may have grown, and nothing if none is asked for
+pub record IsAfterExport (is_asked : Bool) (end new : Now) : Type 0 where
+  pub rest : new ≡ record end { decoded = new.decoded }
+  pub steps : end.decoded ≤ new.decoded
+  pub unasked : is_asked ≡ false → new ≡ end
+
+-- the file of an export, padded or not
+abbrev pub exported_text : Bool → Export → List ℕ
+exported_text pads export = written_text export.head (map (padded_if pads) export.packets)
+
+-- the refusal of a frame that is exported
+abbrev pub fault_by_refusal : ℕ → Refusal → Fault
+fault_by_refusal frame (refusals.Packet source place cause) = NotExported (unexported.Broken frame source place cause)
+fault_by_refusal frame refusals.CropOutside = NotExported (unexported.CropOutside frame)
+fault_by_refusal frame _ = NoMemory
+
+-- the error of packets that are exported
+abbrev pub fault_by_cut : CutFault → Fault
+fault_by_cut cuts.Full = NotExported unexported.Full
+fault_by_cut cuts.Place = NotExported unexported.NoHold
+fault_by_cut cuts.Size = NotExported unexported.NoHold
+fault_by_cut cuts.TooLarge = NotExported unexported.NoHold
+fault_by_cut cuts.NoMemory = NoMemory
+
+-- an export's error as the program's
+abbrev pub fault_by_export : ExportFault → Fault
+fault_by_export (exports.Frame frame refusal) = fault_by_refusal frame refusal
+fault_by_export (exports.Changed frame node) = NotExported (unexported.Changed frame node)
+fault_by_export (exports.Packets fault) = fault_by_cut fault
+
+-- the file of an export is too long, padded or not
+pub record IsTooLong (end : Now) : Type 0 where
+  pub file : Export
+  pub is : IsExportFile end file
+  pub pads : Bool
+  pub long : 1073741824 < saved_bytes pads file.packets
+
+-- the frames of a session are not exported for this reason: it is that of the export, or its file is too long
+abbrev pub IsRefusedExport : Now → NotExported → Type 0
+IsRefusedExport end why = ((fault : ExportFault) × IsNotExported end fault × (fault_by_export fault ≡ NotExported why)) ⊎ ((why ≡ unexported.Full) × IsTooLong end)
+
+-- why nothing was exported
+abbrev pub IsExportFault : Now → Fault → Type 0
+IsExportFault end (NotExported why) = IsRefusedExport end why
+IsExportFault end NoMemory = Unit {0}
+IsExportFault end _ = ⊥
+
 -- the report of trailing bytes: nothing if there are none
 abbrev pub spare_text : ℕ → List ℕ
 spare_text spare = if spare == 0 then [] else codes "spare " ++ decimal spare ++ 10 ∷ []
@@ -59,6 +117,11 @@ spare_text spare = if spare == 0 then [] else codes "spare " ++ decimal spare ++
 abbrev pub AreReplied : (requests : List ℕ) → (left replies replies' : Option (List ℕ)) → Now → (tables : TableEntries) → (sources : List (List ℕ)) → Type 0
 AreReplied requests left replies replies' end tables sources =
     (lines : List ℕ) × (requests ≡ codes "-" → IfSome left (λ bytes. lines ≡ bytes)) × IsReplied tables sources lines replies replies' end
+
+-- they were, and then the frames of the session were exported, if that is asked for
+abbrev pub AreAnswered : (requests : List ℕ) → (left replies replies' : Option (List ℕ)) → (is_asked : Bool) → Now → (tables : TableEntries) → (sources : List (List ℕ)) → Type 0
+AreAnswered requests left replies replies' is_asked new tables sources =
+    (end : Now) × AreReplied requests left replies replies' end tables sources × IsAfterExport is_asked end new
 
 -- the bytes of IN, which is source 0
 abbrev pub stream_in : List (List ℕ) → List ℕ
@@ -74,6 +137,15 @@ pub record IsServed (unnamed : List ℕ) (names : List (List ℕ)) (has_tables :
   pub rfc : has_tables ≡ false → tables ≡ rfc_entries
   pub cached : AreStates capacity (stream_in sources) states
 
+-- all requests were answered over the sources with these names, and then the frames of the session were not exported for this reason
+pub record IsUnexported (unnamed : List ℕ) (names : List (List ℕ)) (Replied : Now → TableEntries → List (List ℕ) → Type 0) (why : NotExported) : Type 0 where
+  pub tables : TableEntries
+  pub sources : List (List ℕ)
+  pub named : AreNamed unnamed names sources
+  pub end : Now
+  pub replied : Replied end tables sources
+  pub refused : IsRefusedExport end why
+
 -- why the requests were not answered over the files of these bytes: except for a writer's error, nothing was written
 abbrev pub IsRefused : List (List ℕ) → (frames frames' replies replies' : Option (List ℕ)) → Fault → Type 0
 IsRefused sources frames frames' replies replies' (Input source fault) = SourceRefuses sources source fault × Keeps frames frames' × Keeps replies replies'
@@ -82,13 +154,15 @@ IsRefused sources frames frames' replies replies' CannotWrite = Unit {0}
 IsRefused sources frames frames' replies replies' _ = ⊥
 
 -- why the program exits without an answer to all requests, in the order of its parts: a reading error comes before the first reply, a reading error of
--- the tables or a source before the first byte of the requests is read, and an error in a source's bytes before the first reply
+-- the tables or a source before the first byte of the requests is read, and an error in a source's bytes before the first reply; or after them,
+-- since the frames are not exported
 abbrev pub IsEnded : (unnamed : List ℕ) → (tables : Option (List ℕ)) → (names : List (List ℕ)) → (requests : List ℕ) → (left left' replies replies' : Option (List ℕ)) → Fault → Type 0
 IsEnded unnamed tables names requests left left' replies replies' (CannotRead path) = IsUnread tables names requests left left' path.now × (replies' ≡ replies)
 IsEnded unnamed tables names requests left left' replies replies' (TooLong path) = IsUnread tables names requests left left' path.now × (replies' ≡ replies)
 IsEnded unnamed tables names requests left left' replies replies' Tables = IsSome tables × (left' ≡ left) × (replies' ≡ replies)
 IsEnded unnamed tables names requests left left' replies replies' (Input source fault) =
     (sources : List (List ℕ)) × AreNamed unnamed names sources × SourceRefuses sources source fault × Keeps replies replies'
+IsEnded unnamed tables names requests left left' replies replies' (NotExported why) = IsUnexported unnamed names (AreReplied requests left replies replies') why
 IsEnded unnamed tables names requests left left' replies replies' CannotWrite = Unit {0}
 IsEnded unnamed tables names requests left left' replies replies' NoMemory = Unit {0}
 IsEnded unnamed tables names requests left left' replies replies' _ = ⊥
@@ -110,6 +184,11 @@ pub record IsLiveReplied (tables : TableEntries) (sources : List (List ℕ)) (gi
 abbrev pub AreLiveReplied : (requests : List ℕ) → (left replies replies' : Option (List ℕ)) → Now → (tables : TableEntries) → (sources : List (List ℕ)) → Type 0
 AreLiveReplied requests left replies replies' end tables sources =
     (given : Option (List ℕ)) × IsInput requests left given × IsLiveReplied tables sources given replies replies' end
+
+-- they were, and then the frames of the session were exported, if that is asked for
+abbrev pub AreLiveAnswered : (requests : List ℕ) → (left replies replies' : Option (List ℕ)) → (is_asked : Bool) → Now → (tables : TableEntries) → (sources : List (List ℕ)) → Type 0
+AreLiveAnswered requests left replies replies' is_asked new tables sources =
+    (end : Now) × AreLiveReplied requests left replies replies' end tables sources × IsAfterExport is_asked end new
 
 -- the lines before one that the reader did not give whole were answered over the files of these bytes with these replies
 pub record IsInterrupted (tables : TableEntries) (sources : List (List ℕ)) (given replies replies' : Option (List ℕ)) (fault : LiveFault) : Type 0 where
@@ -156,9 +235,15 @@ abbrev pub IsLiveRefused : (tables : TableEntries) → (sources : List (List ℕ
 IsLiveRefused tables sources requests left replies replies' fault =
     IsRefused sources None None replies replies' fault ⊎ IsUnopened requests replies replies' fault ⊎ IsCutShort tables sources requests left replies replies' fault
 
+-- all lines were answered, and then the frames of the session were not exported
+abbrev pub IsLiveUnexported : (unnamed : List ℕ) → (names : List (List ℕ)) → (requests : List ℕ) → (left replies replies' : Option (List ℕ)) → Fault → Type 0
+IsLiveUnexported unnamed names requests left replies replies' (NotExported why) = IsUnexported unnamed names (AreLiveReplied requests left replies replies') why
+IsLiveUnexported unnamed names requests left replies replies' _ = ⊥
+
 -- why the program exits before it answered all requests that come one after another: as for requests in a list, or the requests were interrupted,
--- and the lines before that were answered
+-- and the lines before that were answered; or after them, since the frames are not exported
 abbrev pub IsLiveEnded : (unnamed : List ℕ) → (tables : Option (List ℕ)) → (names : List (List ℕ)) → (requests : List ℕ) → (left left' replies replies' : Option (List ℕ)) → Fault → Type 0
 IsLiveEnded unnamed tables names requests left left' replies replies' fault =
     IsEnded unnamed tables names requests left left' replies replies' fault
     ⊎ ((entries : TableEntries) × (sources : List (List ℕ)) × AreNamed unnamed names sources × IsCutShort entries sources requests left replies replies' fault)
+    ⊎ IsLiveUnexported unnamed names requests left replies replies' fault

@@ -3,12 +3,15 @@ ghost use Rattle.std.specs.Prelude.{◌≡◌, ◌≤◌, ◌==◌, ◌||◌, []
 ghost use Rattle.std.specs.Io.KnownBytes.{Appends};
 ghost use Rattle.std.specs.Cmp.Lexicographic.{pointwise};
 ghost use Rattle.std.specs.List.{list_any};
+ghost use Rattle.frame_session.specs.Sessions.{frame_count};
+ghost use Rattle.serve_program.specs.Reports.{export_report};
 
-use crate::messages::Messages;
+use crate::exports::Answered;
+use crate::messages::{Messages, UnsavedFile};
 use explanations::{CutRecord, StreamReason, cut_record, stream_reason};
 use output_files::{Taken, Unsaved};
 use program_parts::{Format, InLine, NO_FILE, write_format};
-use serve_arguments::{Fault, Words, parse};
+use serve_arguments::{Argument, Fault, NotExported, Words, parse};
 use std::convert::AsStr;
 use std::fs::{self, File};
 use std::io::{self, Read, Write};
@@ -73,7 +76,7 @@ fn explain_in<R: Files + AllocGlobal, E: Write>(
         ),
         Fault::CommandLine if words.pads_nothing() => writeln!(
             messages.errors,
-            "--pad is for the packets of --save: name a file for them by --save FILE"
+            "--pad is for the packets of --save or --export: name a file for them by --save FILE or --export FILE"
         ),
         Fault::CommandLine if words.restamps_nothing() => writeln!(
             messages.errors,
@@ -88,6 +91,7 @@ fn explain_in<R: Files + AllocGlobal, E: Write>(
         Fault::TooLong(path) => explain_long(words, path, messages),
         Fault::Tables => explain_tables(rt, words, messages),
         Fault::Input { source, fault } => explain_input(rt, words, source, fault, messages),
+        Fault::NotExported(why) => explain_not_exported(words, why, messages.errors),
         Fault::CannotWrite => explain_unwritten(words, messages),
         Fault::NoMemory => writeln!(
             messages.errors,
@@ -313,8 +317,8 @@ fn explain_codec<E: Write>(
 
 /// Explains which file was not written.
 fn explain_unwritten<E: Write>(words: Words<'_>, messages: &mut Messages<'_, E>) -> io::Result<()> {
-    if let Some(why) = messages.unsaved {
-        return explain_unsaved_file(words.saved.unwrap_or(NO_FILE), why, messages.errors);
+    if let Some(file) = messages.unsaved {
+        return explain_unsaved_file(words, file, messages.errors);
     }
     let path = words.frames;
     let shown = InLine(path);
@@ -348,18 +352,67 @@ fn explain_taken<E: Write>(
     }
 }
 
-/// Explains why the packets were not saved.
-fn explain_unsaved_file<E: Write>(path: &str, why: Unsaved, errors: &mut E) -> io::Result<()> {
-    let shown = InLine(path);
-    match why {
-        Unsaved::Make(error) => writeln!(errors, "--save {shown} cannot be created: {error}"),
+/// The path of an option that names a file that is saved.
+fn saved_path<'a>(words: Words<'a>, option: Argument) -> &'a str {
+    match option {
+        Argument::Export => words.exported.unwrap_or(NO_FILE),
+        _ => words.saved.unwrap_or(NO_FILE),
+    }
+}
+
+/// Explains why a file was not saved.
+fn explain_unsaved_file<E: Write>(
+    words: Words<'_>,
+    file: UnsavedFile,
+    errors: &mut E,
+) -> io::Result<()> {
+    let option = file.option.name();
+    let shown = InLine(saved_path(words, file.option));
+    match file.why {
+        Unsaved::Make(error) => writeln!(errors, "{option} {shown} cannot be created: {error}"),
         Unsaved::Write | Unsaved::NoMemory => writeln!(
             errors,
-            "--save {shown} was not written: the disk may be full. A file that was there is as it was"
+            "{option} {shown} was not written: the disk may be full. A file that was there is as it was"
         ),
         Unsaved::Sync(error) | Unsaved::Rename(error) => writeln!(
             errors,
-            "--save {shown} was not written: {error}. A file that was there is as it was"
+            "{option} {shown} was not written: {error}. A file that was there is as it was"
+        ),
+    }
+}
+
+/// Explains why the frames were not exported, and what to do. The replies are written, and nothing is saved.
+fn explain_not_exported<E: Write>(
+    words: Words<'_>,
+    why: NotExported,
+    errors: &mut E,
+) -> io::Result<()> {
+    let shown = InLine(saved_path(words, Argument::Export));
+    match why {
+        NotExported::Changed { frame, node } => writeln!(
+            errors,
+            "--export {shown} keeps packets as they are, and node {node} of the script changes samples of frame {frame}: leave the node out, or pipe OUT into an encoder. Nothing is saved"
+        ),
+        NotExported::Broken {
+            frame,
+            source,
+            place,
+            ..
+        } => writeln!(
+            errors,
+            "--export {shown}: frame {frame} needs packet {place} of source {source}, which is broken: repair the packet, or leave the frame out by a trim. Nothing is saved"
+        ),
+        NotExported::CropOutside { frame } => writeln!(
+            errors,
+            "--export {shown}: a crop of the script reaches past the picture of frame {frame}: leave the crop out. Nothing is saved"
+        ),
+        NotExported::Full => writeln!(
+            errors,
+            "--export {shown} would have more than 1048576 packets or 1073741824 bytes: export the script in parts, by a trim for each. Nothing is saved"
+        ),
+        NotExported::NoHold => writeln!(
+            errors,
+            "--export {shown}: with these tables no packet repeats a frame. Nothing is saved"
         ),
     }
 }
@@ -373,6 +426,24 @@ pub fn explain_end<E: Write>(
 ) -> io::Result<()> {
     explain_spare(words, sources, messages.errors)?;
     explain_unsaved(words, sources.len(), messages)
+}
+
+/// Says what was exported, if that was asked for, and how many decoding steps the run made.
+pub fn explain_export<E: Write>(words: Words<'_>, done: &Answered, errors: &mut E) -> io::Result<()>
+    ensures { OnOk result (Appends (E.contents errors.old) (E.contents errors.new) (export_report words.entry.pads done.now.export (frame_count done.now.session.now) done.now.session.now.decoded)) }
+{
+    let Some(export) = &done.export else {
+        return Ok(());
+    };
+    let frames = done.session.count().1;
+    let packets = export.len();
+    let hidden = export.hidden();
+    let bytes = export.bytes(words.pads);
+    let steps = done.session.decoded();
+    writeln!(
+        errors,
+        "exported {frames} frames as {packets} packets, {hidden} of them hidden, {bytes} bytes; {steps} decoding steps"
+    )
 }
 
 /// Says which sources have edits that `--save` leaves out.

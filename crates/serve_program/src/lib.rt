@@ -3,6 +3,7 @@
 #![tactic(auto)]
 
 mod explain;
+mod exports;
 mod live;
 mod messages;
 mod program;
@@ -11,4 +12,4 @@ mod saving;
 
 pub use explain::{name_explain, name_help};
 pub use program::{run_to, serve};
-pub use serve_arguments::{Argument, Fault, SameFile};
+pub use serve_arguments::{Argument, Fault, NotExported, SameFile};

@@ -1,15 +1,17 @@
 // Requests that are answered as they come.
 ghost use Rattle.std.specs.Prelude.{◌≡◌, ◌≤◌, ◌⊎◌, IfErr, IfOk, is_some, length, map, option_map};
 ghost use Rattle.std.specs.Rc.{rc_slice_items};
+ghost use Rattle.frame_session.specs.Sessions.{Now};
 ghost use Rattle.serve_arguments.specs.CachedStates.{AreStates};
 ghost use Rattle.serve_arguments.specs.Capacities.{IsGiven};
 ghost use Rattle.serve_arguments.specs.CommandLines.{source_names};
-ghost use Rattle.serve_program.specs.Endings.{AreLiveReplied, IsLiveEnded, IsLiveFault, IsLiveRefused, IsLiveReplied, IsSaveFault, IsServed, stream_in};
+ghost use Rattle.serve_program.specs.Endings.{AreLiveAnswered, AreLiveReplied, IsAfterExport, IsExportFault, IsLiveEnded, IsLiveFault, IsLiveRefused, IsLiveReplied, IsSaveFault, IsServed, stream_in};
 
+use crate::exports::answered;
 use crate::messages::Messages;
 use crate::program::{BYTES_AT_ONCE, finish, taken_by};
 use crate::runs::{live_fault, settings_over, shared};
-use crate::saving::{abandon_save, begin_save};
+use crate::saving::{Saves, begin_saves};
 use frame_session::{LiveFault, Session, Settings, run_live_over};
 use output_files::Counted;
 use program_parts::NO_FILE;
@@ -133,9 +135,33 @@ fn run_requests<'a, R: Files + AllocGlobal, I: Read, P: Write, E: Write>(
     }
 }
 
-/// Answers the request lines over the files that were read, as they come, and saves the packets of source 0 if that is asked for: the
-/// new file is made before the first line is read.
-/// Returns the session after the last line.
+/// Exports the frames if that is asked for, saves what was begun, and reports trailing bytes. If the frames are not exported, what was begun is given
+/// up. Returns the session.
+fn finish_live<R: Files + AllocGlobal, E: Write>(
+    rt: &R,
+    session: Session,
+    line: &Accepted<'_>,
+    sources: &[RcSlice<u8>],
+    saves: Saves<'_, R>,
+    messages: &mut Messages<'_, E>,
+) -> Result<Session, Fault<'static>>
+    requires { IsGiven line.now.capacity }
+    ensures after { IfOk result (λ new. IsAfterExport (is_some line.now.words.exported) session.now new.now) }
+    ensures capacity { IfOk result (λ new. new.cache.capacity ≡ session.cache.capacity) }
+    ensures fault { IfErr result (λ fault. IsSaveFault fault ⊎ IsExportFault session.now fault) }
+{
+    match answered(session, line.words) {
+        Ok(done) => finish(rt, done, line, sources, saves, messages),
+        Err(fault) => {
+            saves.abandon();
+            Err(fault)
+        }
+    }
+}
+
+/// Answers the request lines over the files that were read, as they come, exports the frames and saves the packets of source 0 if that is asked for:
+/// the new files are made before the first line is read.
+/// Returns the session after that.
 fn answer_files<'a, R: Files + AllocGlobal, I: Read, O: Write, E: Write>(
     rt: &R,
     line: &Accepted<'a>,
@@ -146,14 +172,14 @@ fn answer_files<'a, R: Files + AllocGlobal, I: Read, O: Write, E: Write>(
 ) -> Result<Session, Fault<'a>>
     requires capacity { IsGiven line.now.capacity }
     requires sources { (1 ≤ length files.sources.items) × (length files.sources.items ≤ 8) }
-    ensures replied { IfOk result (λ session. AreLiveReplied line.now.words.requests.now (I.remaining input.old) (O.contents output.old) (O.contents output.new) session.now files.tables (map (λ bytes. bytes.items) files.sources.items)) }
+    ensures replied { IfOk result (λ session. AreLiveAnswered line.now.words.requests.now (I.remaining input.old) (O.contents output.old) (O.contents output.new) (is_some line.now.words.exported) session.now files.tables (map (λ bytes. bytes.items) files.sources.items)) }
     ensures capacity { IfOk result (λ session. AreStates line.now.capacity (stream_in (map (λ bytes. bytes.items) files.sources.items)) session.cache.capacity) }
-    ensures refused { IfErr result (λ fault. IsLiveRefused files.tables (map (λ bytes. bytes.items) files.sources.items) line.now.words.requests.now (I.remaining input.old) (O.contents output.old) (O.contents output.new) fault ⊎ IsSaveFault fault) }
+    ensures refused { IfErr result (λ fault. IsLiveRefused files.tables (map (λ bytes. bytes.items) files.sources.items) line.now.words.requests.now (I.remaining input.old) (O.contents output.old) (O.contents output.new) fault ⊎ IsSaveFault fault ⊎ ((end : Now) × AreLiveReplied line.now.words.requests.now (I.remaining input.old) (O.contents output.old) (O.contents output.new) end files.tables (map (λ bytes. bytes.items) files.sources.items) × IsExportFault end fault)) }
 {
     let FilesRead { tables, sources } = files;
     let sources = shared(rt.alloc(), sources)?;
     let settings = settings_over(rt.alloc(), tables, line.capacity, sources.as_slice())?;
-    let target = begin_save(rt, line.words, messages)?;
+    let saves = begin_saves(rt, line.words, messages)?;
     let answered = run_requests(
         rt,
         line,
@@ -164,12 +190,9 @@ fn answer_files<'a, R: Files + AllocGlobal, I: Read, O: Write, E: Write>(
         messages,
     );
     match answered {
-        Ok(session) => {
-            finish(rt, &session, line, sources.as_slice(), target, messages)?;
-            Ok(session)
-        }
+        Ok(session) => finish_live(rt, session, line, sources.as_slice(), saves, messages),
         Err(fault) => {
-            abandon_save(target);
+            saves.abandon();
             Err(fault)
         }
     }
@@ -185,7 +208,7 @@ pub fn answer_live<'a, R: Files + AllocGlobal, I: Read, O: Write, E: Write>(
 ) -> Result<Session, Fault<'a>>
     requires capacity { IsGiven line.now.capacity }
     requires paths { length line.now.more.items ≤ 7 }
-    ensures served { IfOk result (λ session. IsServed EMPTY (source_names line.now) (is_some line.now.words.tables) line.now.capacity session.cache.capacity (AreLiveReplied line.now.words.requests.now (I.remaining input.old) (O.contents output.old) (O.contents output.new) session.now)) }
+    ensures served { IfOk result (λ session. IsServed EMPTY (source_names line.now) (is_some line.now.words.tables) line.now.capacity session.cache.capacity (AreLiveAnswered line.now.words.requests.now (I.remaining input.old) (O.contents output.old) (O.contents output.new) (is_some line.now.words.exported) session.now)) }
     ensures ended { IfErr result (IsLiveEnded EMPTY (option_map (λ path. path.now) line.now.words.tables) (source_names line.now) line.now.words.requests.now (I.remaining input.old) (I.remaining input.new) (O.contents output.old) (O.contents output.new)) }
 {
     let files = read_files(rt, line)?;

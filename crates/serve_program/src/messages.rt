@@ -8,11 +8,19 @@ use explanations::{detail_of, is_no_text, write_refused};
 use frame_session::{Observer, Refusal, Session, Size};
 use output_files::{Taken, Unsaved};
 use request_lines::{Line, read_line};
-use serve_arguments::Fault;
+use serve_arguments::{Argument, Fault};
 use std::io::{self, Write};
 
 /// The number of lines of requests that are no text that are explained.
 const MOST_NO_TEXT: u64 = 10;
+
+/// A file that was not saved, and why not.
+#[derive(Clone, Copy, Debug)]
+pub struct UnsavedFile {
+    /// The option that names it: `--save` or `--export`.
+    pub option: Argument,
+    pub why: Unsaved,
+}
 
 /// Standard error, and what is known of a run to explain its end.
 #[derive(Drop)]
@@ -28,8 +36,8 @@ pub struct Messages<'a, E> {
     edited: [bool; 8],
     /// Why the file for the frames could not be created, if it could not be.
     pub refused: Option<io::Error>,
-    /// Why the packets were not saved, if they were not.
-    pub unsaved: Option<Unsaved>,
+    /// The file that was not saved, if one was not.
+    pub unsaved: Option<UnsavedFile>,
     /// The size of the frames, once one was answered.
     size: Option<Size>,
     /// How much the file for the frames took, if the run failed.
@@ -76,13 +84,13 @@ impl<'a, E: Write> Messages<'a, E> {
         Fault::CannotWrite
     }
 
-    /// The error of packets that were not saved.
-    pub fn not_saved(&mut self, why: Unsaved) -> Fault<'static>
-        ensures fault { result ≡ fault_of why }
-        ensures unsaved { self.new.unsaved ≡ Some why }
+    /// The error of a file that was not saved.
+    pub fn not_saved(&mut self, file: UnsavedFile) -> Fault<'static>
+        ensures fault { result ≡ fault_of file.why }
+        ensures unsaved { self.new.unsaved ≡ Some file }
     {
-        self.unsaved = Some(why);
-        Fault::from(why)
+        self.unsaved = Some(file);
+        Fault::from(file.why)
     }
 }
 

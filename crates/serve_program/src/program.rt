@@ -1,22 +1,24 @@
 // The program over a reader and two writers.
-ghost use Rattle.std.specs.Prelude.{◌≡◌, ◌≤◌, ℕ, [], IfOk, IfErr, List, None, OnOk, Option, is_some, length, map, option_map};
+ghost use Rattle.std.specs.Prelude.{◌≡◌, ◌≤◌, ℕ, [], IfOk, IfErr, IfSome, List, None, OnOk, Option, codes, is_some, length, map, option_map};
 ghost use Rattle.std.specs.Io.Buffered.{writer_buffer};
 ghost use Rattle.std.specs.Io.KnownBytes.{Appends};
 ghost use Rattle.std.specs.Rc.{rc_slice_items};
 ghost use Rattle.frame_session.specs.Answers.{Means};
+ghost use Rattle.frame_session.specs.Sessions.{Now};
 ghost use Rattle.serve_arguments.specs.CachedStates.{AreStates};
 ghost use Rattle.serve_arguments.specs.Capacities.{IsGiven};
 ghost use Rattle.serve_arguments.specs.CommandLines.{source_names};
 ghost use Rattle.serve_arguments.specs.Readings.{AreNamed};
-ghost use Rattle.serve_program.specs.Endings.{AreReplied, IsEnded, IsRefused, IsReplied, IsSaveFault, IsServed, spare_text, stream_in};
+ghost use Rattle.serve_program.specs.Endings.{AreAnswered, IsAfterExport, IsEnded, IsRefused, IsReplied, IsSaveFault, IsServed, spare_text, stream_in};
 
-use crate::explain::{explain_end, explain_fault, is_asked};
+use crate::explain::{explain_end, explain_export, explain_fault, is_asked};
+use crate::exports::{Answered, answered};
 use crate::live::answer_live;
 use crate::messages::Messages;
 use crate::runs::{run_fault, settings_over, shared};
-use crate::saving::{begin_save, finish_save};
+use crate::saving::{Saves, begin_saves, finish_saves};
 use frame_session::{Observer, Session, Settings, run_over};
-use output_files::{Counted, Taken, Target};
+use output_files::{Counted, Taken};
 use program_parts::{NO_FILE, exit_status, help_or_mistake};
 use serve_arguments::{
     Accepted, Fault, FilesRead, Inputs, check_places, parse, read_inputs, report_cache,
@@ -128,46 +130,49 @@ pub fn report_spare<E: Write>(session: &Session, errors: &mut E) -> io::Result<(
 }
 
 /// Reports trailing bytes after a run without an error. If `errors` refuses the text, they are not reported.
-/// With `--explain` they are explained, and what a cached state takes is reported.
+/// With `--explain` they are explained, and what was exported and what a cached state takes are reported.
 fn end<E: Write>(
     alloc: Global,
-    session: &Session,
+    done: &Answered,
     line: &Accepted<'_>,
     sources: &[RcSlice<u8>],
     messages: &mut Messages<'_, E>,
 )
     requires { IsGiven line.now.capacity }
 {
-    let _ = report_spare(session, messages.errors);
+    let _ = report_spare(&done.session, messages.errors);
     if messages.explains {
         let _ = explain_end(line.words, sources, messages);
+        let _ = explain_export(line.words, done, messages.errors);
         if let Some(stream) = sources.first() {
-            let decoded = session.decoded();
+            let decoded = done.session.decoded();
             let _ = report_cache(alloc, line.capacity, stream, decoded, messages.errors);
         }
     }
 }
 
-/// Saves the packets of source 0 as it was begun, and reports trailing bytes.
+/// Saves the packets of source 0 and the export of the frames as they were begun, and reports trailing bytes. Returns the session.
 pub fn finish<R: Files + AllocGlobal, E: Write>(
     rt: &R,
-    session: &Session,
+    done: Answered,
     line: &Accepted<'_>,
     sources: &[RcSlice<u8>],
-    target: Option<Target<'_, R>>,
+    saves: Saves<'_, R>,
     messages: &mut Messages<'_, E>,
-) -> Result<(), Fault<'static>>
+) -> Result<Session, Fault<'static>>
     requires { IsGiven line.now.capacity }
-    ensures { IfErr result IsSaveFault }
+    ensures session { IfOk result (λ session. session ≡ done.session) }
+    ensures fault { IfErr result IsSaveFault }
 {
-    finish_save(rt, session, line.words, target, messages)?;
-    end(rt.alloc(), session, line, sources, messages);
-    Ok(())
+    finish_saves(rt, &done, line.words, saves, messages)?;
+    end(rt.alloc(), &done, line, sources, messages);
+    let Answered { session, export: _ } = done;
+    Ok(session)
 }
 
-/// Answers the requests over what was read, and saves the packets of source 0 if that is asked for. Returns the session after the
-/// last request.
-#[tactic(auto, using(crate::proofs::Ended::run_ended, crate::proofs::Ended::save_ended))]
+/// Answers the requests over what was read, exports the frames and saves the packets of source 0 if that is asked for. Returns the session after
+/// that.
+#[tactic(auto, using(crate::proofs::Ended::run_ended, crate::proofs::Ended::save_ended, crate::proofs::Ended::export_ended))]
 fn answer_inputs<R: Files + AllocGlobal, O: Write, E: Write>(
     rt: &R,
     line: &Accepted<'_>,
@@ -178,9 +183,9 @@ fn answer_inputs<R: Files + AllocGlobal, O: Write, E: Write>(
     requires capacity { IsGiven line.now.capacity }
     requires paths { length line.now.more.items ≤ 7 }
     requires named { AreNamed EMPTY (source_names line.now) (map (λ bytes. bytes.items) inputs.files.sources.items) }
-    ensures replied { IfOk result (λ session. IsReplied inputs.files.tables (map (λ bytes. bytes.items) inputs.files.sources.items) inputs.requests.items (O.contents output.old) (O.contents output.new) session.now) }
+    ensures replied { IfOk result (λ session. (end : Now) × IsReplied inputs.files.tables (map (λ bytes. bytes.items) inputs.files.sources.items) inputs.requests.items (O.contents output.old) (O.contents output.new) end × IsAfterExport (is_some line.now.words.exported) end session.now) }
     ensures capacity { IfOk result (λ session. AreStates line.now.capacity (stream_in (map (λ bytes. bytes.items) inputs.files.sources.items)) session.cache.capacity) }
-    ensures ended { IfErr result (λ fault. (left : Option (List ℕ)) → (left' : Option (List ℕ)) → IsEnded EMPTY (option_map (λ path. path.now) line.now.words.tables) (source_names line.now) line.now.words.requests.now left left' (O.contents output.old) (O.contents output.new) fault) }
+    ensures ended { IfErr result (λ fault. (left : Option (List ℕ)) → (left' : Option (List ℕ)) → (line.now.words.requests.now ≡ codes "-" → IfSome left (λ bytes. inputs.requests.items ≡ bytes)) → IsEnded EMPTY (option_map (λ path. path.now) line.now.words.tables) (source_names line.now) line.now.words.requests.now left left' (O.contents output.old) (O.contents output.new) fault) }
 {
     let Inputs { files, requests } = inputs;
     let FilesRead { tables, sources } = files;
@@ -195,9 +200,9 @@ fn answer_inputs<R: Files + AllocGlobal, O: Write, E: Write>(
         output,
         messages,
     )?;
-    let target = begin_save(rt, line.words, messages)?;
-    finish(rt, &session, line, sources.as_slice(), target, messages)?;
-    Ok(session)
+    let done = answered(session, line.words)?;
+    let saves = begin_saves(rt, line.words, messages)?;
+    finish(rt, done, line, sources.as_slice(), saves, messages)
 }
 
 /// Does what an accepted command line asks for. Returns the session after the last request.
@@ -211,7 +216,7 @@ fn answer<'a, R: Files + AllocGlobal, I: Read, O: Write, E: Write>(
 ) -> Result<Session, Fault<'a>>
     requires capacity { IsGiven line.now.capacity }
     requires paths { length line.now.more.items ≤ 7 }
-    ensures served { IfOk result (λ session. IsServed EMPTY (source_names line.now) (is_some line.now.words.tables) line.now.capacity session.cache.capacity (AreReplied line.now.words.requests.now (I.remaining input.old) (O.contents output.old) (O.contents output.new) session.now)) }
+    ensures served { IfOk result (λ session. IsServed EMPTY (source_names line.now) (is_some line.now.words.tables) line.now.capacity session.cache.capacity (AreAnswered line.now.words.requests.now (I.remaining input.old) (O.contents output.old) (O.contents output.new) (is_some line.now.words.exported) session.now)) }
     ensures ended { IfErr result (IsEnded EMPTY (option_map (λ path. path.now) line.now.words.tables) (source_names line.now) line.now.words.requests.now (I.remaining input.old) (I.remaining input.new) (O.contents output.old) (O.contents output.new)) }
 {
     let inputs = read_inputs(rt, line, input)?;
@@ -260,8 +265,9 @@ fn answer_line<'a, R: Files + AllocGlobal, S: AsStr, I: Read, O: Write + Drop, E
 ///
 /// All files are read whole, up to 1,073,741,824 bytes each, before the file for the frames is created: the
 /// tables, IN, the files of `--sources` in their order, the requests. The packets of source 0 are saved after the last
-/// request: a new file is made in the folder of the file, and replaces it when it is whole and on the disk. With `--live`
-/// the new file is made after the files were read, and the requests are not read before: each line is answered when its
+/// request: a new file is made in the folder of the file, and replaces it when it is whole and on the disk. The frames are exported before that, and
+/// their file is saved after it; if they are not exported, nothing is saved. With `--live`
+/// the new files are made after the files were read, and the requests are not read before: each line is answered when its
 /// newline is read, and a line has at most 1,073,741,824 bytes. Replies, help and the version go to `output`; the text of an error, and after a
 /// run without one the number of trailing bytes of all sources together, if there are any, go to `errors`. With `--explain`
 /// each of them is followed by a line that explains it, each refused request has a line, and after a run that made as many decoding steps as

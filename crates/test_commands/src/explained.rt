@@ -464,6 +464,12 @@ fn explains_paths(rt: HostRuntime) {
         "vp8serve: cannot write\n--save no/out cannot be created: No such file or directory (os error 2)\n",
         1,
     );
+    expect_end(
+        &rt,
+        "vp8serve --export no/out --explain",
+        "vp8serve: cannot write\n--export no/out cannot be created: No such file or directory (os error 2)\n",
+        1,
+    );
     clear(&rt, "cut-off.ivf");
 }
 
@@ -473,7 +479,7 @@ fn explains_arguments(rt: HostRuntime) {
     expect_end(
         &rt,
         "vp8serve --pad --explain",
-        "vp8serve: command line\n--pad is for the packets of --save: name a file for them by --save FILE\n",
+        "vp8serve: command line\n--pad is for the packets of --save or --export: name a file for them by --save FILE or --export FILE\n",
         2,
     );
     expect_end(

@@ -1,7 +1,8 @@
 // Errors that end the program: their texts, their statuses, and which of two is reported.
 use crate::expected::{Broken, ONE, check, clear, expect, expect_fault, put};
+use frame_header::Cause;
 use program_parts::tell;
-use serve_arguments::{Argument, Fault, SameFile};
+use serve_arguments::{Argument, Fault, NotExported, SameFile};
 use std::fs::hard_link;
 use std::os::unix::fs::symlink;
 use std::process::Abort;
@@ -66,6 +67,46 @@ fn tells_each_fault(rt: HostRuntime) {
     expect_told(&rt, header, 1, "vp8serve: source 7 Header\n");
 }
 
+/// The reasons why frames are not exported.
+#[test]
+fn tells_what_is_not_exported(rt: HostRuntime) {
+    for (why, text) in [
+        (
+            NotExported::Changed { frame: 12, node: 2 },
+            "vp8serve: frame 12 is changed by node 2\n",
+        ),
+        (
+            NotExported::Broken {
+                frame: 7,
+                source: 0,
+                place: 3,
+                cause: Cause::ShortPacket,
+            },
+            "vp8serve: frame 7 is refused: packet 3 ShortPacket\n",
+        ),
+        (
+            NotExported::Broken {
+                frame: 7,
+                source: 2,
+                place: 3,
+                cause: Cause::ShortPacket,
+            },
+            "vp8serve: frame 7 is refused: source 2 packet 3 ShortPacket\n",
+        ),
+        (
+            NotExported::CropOutside { frame: 0 },
+            "vp8serve: frame 0 is refused: CropOutside\n",
+        ),
+        (NotExported::Full, "vp8serve: too many packets\n"),
+        (
+            NotExported::NoHold,
+            "vp8serve: no packet repeats a frame of this size\n",
+        ),
+    ] {
+        expect_told(&rt, Fault::NotExported(why), 1, text);
+    }
+}
+
 /// Checks each line of a table: a command line, and the text of its error.
 fn expect_table<R: Abort + Files + AllocGlobal>(rt: &R, table: &str) {
     for case in table.lines() {
@@ -80,6 +121,10 @@ vp8serve a b b => command line: OUT and REQUESTS are both b: name another file f
 vp8serve --tables t a b t => command line: OUT and --tables are both t: name another file for OUT
 vp8serve a b --save b => command line: --save and REQUESTS are both b: name another file for --save
 vp8serve a b c --save c => command line: --save and OUT are both c: name another file for --save
+vp8serve a b --export b => command line: --export and REQUESTS are both b: name another file for --export
+vp8serve a b c --export c => command line: --export and OUT are both c: name another file for --export
+vp8serve --tables t --export t => command line: --export and --tables are both t: name another file for --export
+vp8serve a b --save c --export c => command line: --export and --save are both c: name another file for --export
 vp8serve --tables - --save - => command line: --save and --tables are both -: name another file for --save
 vp8serve a b c --sources -:d:c => command line: OUT and --sources are both c: name another file for OUT
 vp8serve a b /dev --save /dev => command line: --save and OUT are both /dev: name another file for --save
@@ -104,6 +149,9 @@ vp8serve - - same.link --tables same.ivf => command line: OUT and --tables are b
 vp8serve - same.ivf - --save same.hard => command line: --save and REQUESTS are both same.hard: name another file for --save
 vp8serve - - - --save same.link --tables ./same.ivf => command line: --save and --tables are both same.link: name another file for --save
 vp8serve - - same.new --save ./same.new => command line: --save and OUT are both ./same.new: name another file for --save
+vp8serve - same.ivf - --export same.hard => command line: --export and REQUESTS are both same.hard: name another file for --export
+vp8serve - - - --save same.link --export ./same.ivf => command line: --export and --save are both ./same.ivf: name another file for --export
+vp8serve - - same.new --export ./same.new => command line: --export and OUT are both ./same.new: name another file for --export
 vp8serve - - same.none --save same.new => command line: --save and OUT are both same.new: name another file for --save
 ";
 
@@ -124,7 +172,7 @@ fn refuses_other_names_of_a_file(rt: HostRuntime) {
 fn takes_devices_named_twice(rt: HostRuntime) {
     expect(
         &rt,
-        "vp8serve - /dev/null /dev/null --save /dev/null",
+        "vp8serve - /dev/null /dev/null --save /dev/null --export /dev/null",
         "count\n",
         "",
         "",
@@ -148,6 +196,8 @@ vp8serve --cache-bytes 17179869184G => command line
 vp8serve --cache-bytes 1M --cache-bytes 1M => command line
 vp8serve --cache 1 --cache-bytes 1M => command line
 vp8serve --save => command line
+vp8serve --export => command line
+vp8serve none.ivf --export a --restamp => command line
 vp8serve none.ivf --pad => command line
 vp8serve none.ivf --restamp => command line
 vp8serve --sources => command line

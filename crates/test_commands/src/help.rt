@@ -32,8 +32,8 @@ packets are saved. Ctrl-C ends the program and saves nothing.
 If a request is refused or the program ends with an error, run it again with
 --explain: a line on standard error says why, and what to do.
 
-The files that are written, OUT and the one of --save, must not be the file of
-another argument. Paths under /dev/ may be named twice.
+The files that are written, OUT and those of --save and --export, must not be
+the file of another argument. Paths under /dev/ may be named twice.
 
 Usage: vp8serve [OPTIONS] [IN] [REQUESTS] [OUT]
 
@@ -48,7 +48,8 @@ Options:
       --cache-bytes <SIZE>  Most bytes of decoded frames to cache instead, for example 64M (K, M, G)
       --tables <FILE>       3012 bytes to use instead of RFC 6386's long tables
       --save <FILE>         IVF file for the packets of IN after the last request, not of other sources
-      --pad                 With --save: a byte 00 after packets that other players do not show
+      --export <FILE>       IVF file for the frames of the script after the last request, without coding again
+      --pad                 With --save or --export: a byte 00 after packets that other players do not show
       --restamp             With --save: new time stamps, without the gaps and jumps of edits
       --live                Answer each request line as it comes, before the next is read
       --explain             Explain refusals and errors on standard error

@@ -7,6 +7,7 @@ use std::alloc::Global;
 use std::process::Abort;
 use std::rt::Files;
 use std::test::Fail;
+use stream_files::EMPTY;
 use vp8_tables::Tables;
 
 #[test]
@@ -147,6 +148,97 @@ fn restamps_saved_packets(rt: HostRuntime) {
     expect(&rt, line, requests, "ok 2\nok 3\n", "", 0);
     check(&rt, "stamped.ivf", PADDED);
     clear(&rt, "stamping.ivf stamped.ivf");
+}
+
+/// A key packet that is hidden and another packet that is shown, both with time stamp 0.
+const EXPORTED: &[u8] =
+    b"DKIF\0\0\x20\0VP80\x10\0\x10\0\x1E\0\0\0\x01\0\0\0\x02\0\0\0\0\0\0\0\x0A\0\0\0\0\0\0\0\0\0\0\0\0\0\0\x9D\x01\x2A\x10\0\x10\0\x03\0\0\0\0\0\0\0\0\0\0\0\x11\0\0";
+
+/// The same, padded.
+const PADDED_EXPORT: &[u8] =
+    b"DKIF\0\0\x20\0VP80\x10\0\x10\0\x1E\0\0\0\x01\0\0\0\x02\0\0\0\0\0\0\0\x0B\0\0\0\0\0\0\0\0\0\0\0\0\0\0\x9D\x01\x2A\x10\0\x10\0\0\x04\0\0\0\0\0\0\0\0\0\0\0\x11\0\0\0";
+
+/// The frames of the script are exported: frame 1 alone needs the key packet, hidden. The packets are saved too. IN may be the file.
+#[test]
+fn exports_frames(rt: HostRuntime) {
+    put(&rt, "exporting.ivf", ONE);
+    let requests = "insert 1 1 110000\ninsert 2 2 -\nscript trim 0 1 1\n";
+    let replies = "ok 2\nok 3\nok 3\n";
+    for line in [
+        "vp8serve exporting.ivf - - --export exported.ivf --save edited.ivf",
+        "vp8serve exporting.ivf - - --export exported.ivf --save edited.ivf --live",
+    ] {
+        expect(&rt, line, requests, replies, "", 0);
+        check(&rt, "exported.ivf", EXPORTED);
+        check(&rt, "edited.ivf", EDITED);
+    }
+    let line = "vp8serve exporting.ivf - - --export exported.ivf --pad";
+    expect(&rt, line, requests, replies, "", 0);
+    check(&rt, "exported.ivf", PADDED_EXPORT);
+    let line = "vp8serve exporting.ivf - - --export exporting.ivf --explain";
+    let told = "exported 1 frames as 2 packets, 1 of them hidden, 69 bytes; 2 decoding steps\n";
+    expect(&rt, line, requests, replies, told, 0);
+    check(&rt, "exporting.ivf", EXPORTED);
+    clear(&rt, "exporting.ivf exported.ivf edited.ivf");
+}
+
+/// A script of no frames: a file of no packets, 0 by 0.
+#[test]
+fn exports_no_frames(rt: HostRuntime) {
+    let line = "vp8serve - - - --export none.out";
+    expect(&rt, line, "count\n", "packets 0 frames 0\n", "", 0);
+    check(&rt, "none.out", &EMPTY);
+    clear(&rt, "none.out");
+}
+
+/// A frame that cannot be exported is reported after the replies, and nothing is written, by --save neither. With --explain the next line
+/// says what to do.
+#[test]
+fn tells_what_it_does_not_export(rt: HostRuntime) {
+    put(&rt, "refusing.ivf", ONE);
+    put(&rt, "old.ivf", b"old");
+    put(&rt, "older.ivf", b"older");
+    let changed = "script fade 0 0 1 128 128\nframe 0\n";
+    let told = "vp8serve: frame 0 is changed by node 1\n";
+    for line in [
+        "vp8serve refusing.ivf - - --export old.ivf --save older.ivf",
+        "vp8serve refusing.ivf - - --export old.ivf --save older.ivf --live",
+    ] {
+        expect(&rt, line, changed, "ok 1\nserved 0\n", told, 1);
+        check(&rt, "old.ivf", b"old");
+        check(&rt, "older.ivf", b"older");
+    }
+    let line = "vp8serve refusing.ivf - - --export old.ivf --explain";
+    let told =
+        "vp8serve: frame 0 is changed by node 1\n--export old.ivf keeps packets as they are, and node 1 of the script changes samples of frame 0: leave the node out, or pipe OUT into an encoder. Nothing is saved\n";
+    expect(&rt, line, changed, "ok 1\nserved 0\n", told, 1);
+    let broken = "insert 1 0 1100\n";
+    let told =
+        "vp8serve: frame 1 is refused: packet 1 ShortPacket\n--export old.ivf: frame 1 needs packet 1 of source 0, which is broken: repair the packet, or leave the frame out by a trim. Nothing is saved\n";
+    expect(&rt, line, broken, "ok 2\n", told, 1);
+    let outside = "script crop 0 0 0 18 2\n";
+    let told =
+        "vp8serve: frame 0 is refused: CropOutside\n--export old.ivf: a crop of the script reaches past the picture of frame 0: leave the crop out. Nothing is saved\n";
+    expect(&rt, line, outside, "ok 1\n", told, 1);
+    check(&rt, "old.ivf", b"old");
+    clear(&rt, "refusing.ivf old.ivf older.ivf");
+}
+
+/// A file of --export that cannot be made: --save is given up too.
+#[test]
+fn tells_an_export_that_fails(rt: HostRuntime) {
+    put(&rt, "kept.ivf", b"kept");
+    for line in [
+        "vp8serve --export none/out --save kept.ivf",
+        "vp8serve --export none/out --save kept.ivf --live",
+    ] {
+        let mut output = Vec::new(rt.alloc());
+        let mut errors = Vec::new(rt.alloc());
+        let status = run_line(&rt, line, &mut b"".as_slice(), &mut output, &mut errors);
+        assert!(rt; status == 1 && errors.as_slice() == b"vp8serve: cannot write\n".as_slice());
+        check(&rt, "kept.ivf", b"kept");
+    }
+    clear(&rt, "kept.ivf");
 }
 
 /// A save that fails is reported after the replies, and then trailing bytes are not reported.

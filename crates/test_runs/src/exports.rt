@@ -1,10 +1,10 @@
 use frame_header::{Cause, is_shown};
-use frame_session::{Export, ExportFault, Refusal, Session};
+use frame_session::{CutFault, Export, ExportFault, Refusal, Session};
 use std::alloc::Global;
 use std::process::Abort;
 use std::test::Fail;
 use stream_files::{Head, Packet, ivf_read};
-use test_fixtures::{INTER, KEY, WIDE_KEY, ivf_of};
+use test_fixtures::{HIDDEN, INTER, KEY, WIDE_KEY, ivf_of};
 use vp8_tables::Tables;
 
 /// A packet of an export: its time stamp, the index of the packet that it copies, and whether it is shown.
@@ -63,6 +63,8 @@ fn expect_export<R: Abort>(rt: &R, case: &Case, export: &Export) {
         scale: 1,
     };
     assert!(rt; export.head == head);
+    let hidden = rows.iter().filter(|(_, _, shown)| !shown).count();
+    assert!(rt; export.len() == rows.len() && export.hidden() == hidden);
     expect_rows(rt, case, export.packets.as_slice(), rows);
 }
 
@@ -123,6 +125,28 @@ const CUTS: &[Case] = &[
         script: b"trim 0 0 1; trim 0 3 1; splice 1 2",
         answer: Ok((16, 16, &[(0, 0, true), (1, 2, false), (1, 3, true)])),
     },
+    // Frames in reverse order.
+    Case {
+        packets: &[KEY, INTER],
+        script: b"trim 0 1 1; trim 0 0 1; splice 1 2",
+        answer: Ok((16, 16, &[(0, 0, false), (0, 1, true), (1, 0, true)])),
+    },
+    // A hidden packet in a lead.
+    Case {
+        packets: &[KEY, HIDDEN, INTER, INTER],
+        script: b"trim 0 2 1",
+        answer: Ok((
+            16,
+            16,
+            &[(0, 0, false), (0, 1, false), (0, 2, false), (0, 3, true)],
+        )),
+    },
+    // Packets of no bytes are not in a lead.
+    Case {
+        packets: &[KEY, &[], INTER, INTER],
+        script: b"trim 0 3 1",
+        answer: Ok((16, 16, &[(0, 0, false), (0, 2, false), (0, 3, true)])),
+    },
     Case {
         packets: &[KEY, WIDE_KEY],
         script: b"-",
@@ -150,7 +174,45 @@ const REFUSED: &[Case] = &[
     Case {
         packets: SIX,
         script: b"fade 0 2 2 256 0",
-        answer: Err(ExportFault::Changed { frame: 3 }),
+        answer: Err(ExportFault::Changed { frame: 3, node: 1 }),
+    },
+    // The first node that changes samples, after one that keeps them.
+    Case {
+        packets: SIX,
+        script: b"crop 0 0 0 16 16; fade 1 0 1 128 128; crop 2 0 0 8 8",
+        answer: Err(ExportFault::Changed { frame: 0, node: 2 }),
+    },
+    // A crop past the picture is a refusal, also after a node that changes samples.
+    Case {
+        packets: SIX,
+        script: b"crop 0 8 0 10 4",
+        answer: Err(ExportFault::Frame {
+            frame: 0,
+            refusal: Refusal::CropOutside,
+        }),
+    },
+    Case {
+        packets: SIX,
+        script: b"fade 0 0 1 128 128; crop 1 8 0 10 4",
+        answer: Err(ExportFault::Frame {
+            frame: 0,
+            refusal: Refusal::CropOutside,
+        }),
+    },
+    // The first frame is reported: one that is changed before one that is refused.
+    Case {
+        packets: &[KEY, &[0x11, 0], INTER],
+        script: b"crop 0 0 0 8 8",
+        answer: Err(ExportFault::Changed { frame: 0, node: 1 }),
+    },
+    // 17 frames, 16 times doubled.
+    Case {
+        packets: &[
+            KEY, INTER, INTER, INTER, INTER, INTER, INTER, INTER, INTER, INTER, INTER, INTER,
+            INTER, INTER, INTER, INTER, INTER,
+        ],
+        script: b"splice 0 0;splice 1 1;splice 2 2;splice 3 3;splice 4 4;splice 5 5;splice 6 6;splice 7 7;splice 8 8;splice 9 9;splice 10 10;splice 11 11;splice 12 12;splice 13 13;splice 14 14;splice 15 15",
+        answer: Err(ExportFault::Packets(CutFault::Full)),
     },
     Case {
         packets: &[KEY, &[0x11, 0], INTER],
@@ -175,3 +237,16 @@ const BROKEN: Refusal = Refusal::Packet {
     place: 1,
     cause: Cause::ShortPacket,
 };
+
+// The size of the first frame that was served does not matter. Each packet has a record of 12 bytes more, a padded one a byte more than that.
+#[test]
+fn sizes_do_not_refuse_exports(rt: HostRuntime) -> Result<(), Fail> {
+    let mut session = session_of(rt.alloc(), &[KEY, WIDE_KEY])?;
+    assert!(rt; session.frame(1).is_ok() && session.frame(0).is_err());
+    let export = session.export().map_err(|_| "no export")?;
+    assert!(rt; export.head.width == 16 && export.packets.len() == 2);
+    assert!(rt; export.bytes(false) == 32 + 2 * 22 && export.bytes(true) == 32 + 2 * 23);
+    let mut file = Vec::new(rt.alloc());
+    assert!(rt; export.save(&mut file, false).is_ok() && file.len() == 76);
+    Ok(())
+}

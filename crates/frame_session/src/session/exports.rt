@@ -1,22 +1,24 @@
 // The frames of a session as packets.
-ghost use Rattle.std.specs.Prelude.{◌≡◌, true, [], None, IfOk, length, map, slice_get};
-ghost use Rattle.std.specs.List.{list_all};
+ghost use Rattle.std.specs.Prelude.{◌≡◌, ◌≤◌, [], Err, None, IfErr, IfOk, IfSome, length, map, slice_get};
 ghost use Rattle.lossless_cuts.specs.Laws.{ExportsShowTheirFrames};
+ghost use Rattle.lossless_cuts.specs.Limits.{IsTooLarge};
 ghost use Rattle.lossless_cuts.specs.Plans.{exported};
-ghost use Rattle.frame_session.specs.Exported.{HasTarget, HaveTargets, IsExportFile, export_head, keeps_samples, streams_in, units_at};
-ghost use Rattle.frame_session.specs.Sessions.{frame_count};
+ghost use Rattle.frame_session.specs.Exported.{HasTarget, HaveTargets, IsChanged, IsExportFile, IsFrameFault, IsNotExported, IsPackingFault, export_head, streams_in, units_at, unsized};
+ghost use Rattle.frame_session.specs.IsOrNoMemory.{IsOrNoMemory};
+ghost use Rattle.frame_session.specs.Sessions.{frame_count, frame_of};
 ghost use Rattle.packet_times.specs.Durations.{units_in};
 ghost use Rattle.packet_times.specs.Stamps.{stamped};
 ghost use Rattle.std.specs.Option.{option_map_or};
 
 use super::Session;
+use crate::export::Export;
 use crate::refusal::Refusal;
 use lossless_cuts::laws::exports_show_their_frames;
 use lossless_cuts::{CutFault, Target, export_packets, prove_bytes};
 use packet_edits::Store;
 use packet_times::stamped;
 use pixel_planes::NoMemory;
-use script_nodes::{Step, Trace};
+use script_nodes::changed_nodes;
 use stream_files::{Bytes, Head, MAX_PACKETS, Packets};
 use thiserror::Error;
 
@@ -26,52 +28,19 @@ pub enum ExportFault {
     /// A request for this frame would be refused, not for its size.
     #[error("frame {frame} is refused: {refusal}")]
     Frame { frame: u64, refusal: Refusal },
-    /// The script changes samples of this frame.
-    #[error("the script changes samples of frame {frame}")]
-    Changed { frame: u64 },
-    /// There would be too many packets, or no memory for them.
+    /// The script changes samples of this frame: `node` is the number of the first node that does, 1 for the first one of the script.
+    #[error("frame {frame} is changed by node {node}")]
+    Changed { frame: u64, node: u64 },
+    /// There would be too many packets or bytes, or no memory for them.
     #[error("{0}")]
     Packets(CutFault),
 }
 
-/// The frames of a session as a file: its packets with their time stamps, and its head, which has the rate and scale of
-/// source 0 and the size of the first frame, 0x0 if there is none.
-#[derive(Debug, Drop)]
-pub struct Export {
-    pub head: Head,
-    pub packets: Packets,
-}
-
-/// The packet of a frame, and whether the script changes no sample of it.
+/// The packet of a frame, and the number of the first node that changes samples of it, if one does.
 #[derive(Clone, Copy)]
 struct Origin {
     target: Target,
-    keeps: bool,
-}
-
-/// Whether a step changes no sample of a picture of this size.
-fn keeps_samples(step: &Step, width: u16, height: u16) -> bool
-    ensures { result ≡ keeps_samples width height step.now }
-{
-    match step {
-        Step::Cut(area) => {
-            area.x == 0
-                && area.y == 0
-                && area.width == u64::from(width)
-                && area.height == u64::from(height)
-        }
-        Step::Weigh(weight) => *weight == 256,
-    }
-}
-
-/// Whether no step of a trace does.
-fn keeps_all(trace: &Trace, width: u16, height: u16) -> bool
-    ensures { result ≡ list_all (keeps_samples width height) trace.now }
-{
-    trace
-        .steps()
-        .iter()
-        .all(|step| keeps_samples(step, width, height))
+    changed: Option<u64>,
 }
 
 /// How long the packet at an index is shown, in the units of a head; 0 if there is no such packet.
@@ -85,47 +54,70 @@ fn units_of_packet(list: &Store, place: usize, head: Head) -> u64
     }
 }
 
+/// The first of some numbers, if there is one.
+fn first_of(numbers: &[u64]) -> Option<u64>
+    ensures { result ≡ slice_get numbers.now 0 }
+{
+    match numbers {
+        [first, ..] => Some(*first),
+        [] => None,
+    }
+}
+
 impl Session {
-    /// The packet of frame `n`, and whether the script changes no sample of it.
+    /// The packet of frame `n`, and the number of the first node that changes samples of it.
     fn origin_of(&mut self, n: u64) -> Result<Origin, Refusal>
-        ensures target { IfOk result (λ found. found.keeps ≡ true → HasTarget self.old.now n found.target) }
+        ensures target { IfOk result (λ found. found.changed ≡ None → HasTarget self.old.now n found.target) }
+        ensures changed { IfOk result (λ found. IfSome found.changed (IsChanged self.old.now n)) }
+        ensures refused { IfErr result (λ refusal. IsOrNoMemory (frame_of (unsized self.old.now) n) (Err refusal)) }
         ensures after { self.new.now ≡ record self.old.now { decoded = self.new.now.decoded } }
+        ensures rises { self.old.now.decoded ≤ self.new.now.decoded }
+        ensures capacity { self.new.cache.capacity ≡ self.old.cache.capacity }
     {
         let counts = self.shown_counts();
         let Some((source, frame, trace)) = self.script.trace(&counts, n) else {
             return Err(Refusal::NoSuchFrame);
         };
+        let Some(steps) = self.script.node_steps(&counts, n) else {
+            return Err(Refusal::NoSuchFrame);
+        };
+        self.script.prove_nodes();
         let Some(place) = self.shown_place(source, frame) else {
             return Err(Refusal::NoSuchFrame);
         };
         let picture = self.decoded_at(source, place)?;
         packet_edits::laws::shown_list_is_of_shown_packets();
+        script_nodes::laws::steps_are_of_nodes();
         prove_bytes(&picture);
         let width = picture.width();
         let height = picture.height();
-        let keeps = keeps_all(&trace, width, height);
+        if trace.size(width, height).is_err() {
+            return Err(Refusal::CropOutside);
+        }
+        let nodes = changed_nodes(&steps, width, height);
+        let changed = first_of(&nodes);
         let target = Target {
             source,
             place,
             width,
             height,
         };
-        Ok(Origin { target, keeps })
+        Ok(Origin { target, changed })
     }
 
     /// The packet of frame `n`, if the script changes no sample of it.
     fn export_target(&mut self, n: u64) -> Result<Target, ExportFault>
         ensures target { IfOk result (HasTarget self.old.now n) }
+        ensures fault { IfErr result (IsFrameFault self.old.now n) }
         ensures after { self.new.now ≡ record self.old.now { decoded = self.new.now.decoded } }
+        ensures rises { self.old.now.decoded ≤ self.new.now.decoded }
+        ensures capacity { self.new.cache.capacity ≡ self.old.cache.capacity }
     {
         match self.origin_of(n) {
-            Ok(found) => {
-                if found.keeps {
-                    Ok(found.target)
-                } else {
-                    Err(ExportFault::Changed { frame: n })
-                }
-            }
+            Ok(found) => match found.changed {
+                Some(node) => Err(ExportFault::Changed { frame: n, node }),
+                None => Ok(found.target),
+            },
             Err(refusal) => Err(ExportFault::Frame { frame: n, refusal }),
         }
     }
@@ -140,9 +132,13 @@ impl Session {
     /// The packets of the first frames, this many.
     #[tactic(auto, using(crate::proofs::ExportedFrames::steps_only))]
     fn export_targets(&mut self, count: u64) -> Result<Vec<Target>, ExportFault>
+        requires { count ≤ frame_count self.old.now }
         ensures targets { IfOk result (λ targets. HaveTargets self.old.now 0 targets.items) }
         ensures count { IfOk result (λ targets. length targets.items ≡ count) }
+        ensures fault { IfErr result (IsNotExported self.old.now) }
         ensures after { self.new.now ≡ record self.old.now { decoded = self.new.now.decoded } }
+        ensures rises { self.old.now.decoded ≤ self.new.now.decoded }
+        ensures capacity { self.new.cache.capacity ≡ self.old.cache.capacity }
     {
         let mut targets = self.no_targets();
         'frames: for n in 0..count {
@@ -156,14 +152,18 @@ impl Session {
 
     /// The packets that show these frames.
     fn packets_of(&self, targets: &[Target]) -> Result<Vec<Bytes>, CutFault>
-        ensures { IfOk result (λ packets. packets.items ≡ exported self.now.now.tables (streams_in self.now.now) None targets.now) }
+        ensures value { IfOk result (λ packets. packets.items ≡ exported self.now.now.tables (streams_in self.now.now) None targets.now) }
+        ensures few { IfOk result (λ packets. length packets.items ≤ 1048576) }
+        ensures full { IfErr result (λ fault. fault ≡ CutFault.Full → IsTooLarge (exported self.now.now.tables (streams_in self.now.now) None targets.now)) }
     {
         export_packets(self.alloc, &self.tables, &self.stores, targets)
     }
 
     /// The same, with the error of an export.
     fn export_packed(&self, targets: &[Target]) -> Result<Vec<Bytes>, ExportFault>
-        ensures { IfOk result (λ packets. packets.items ≡ exported self.now.now.tables (streams_in self.now.now) None targets.now) }
+        ensures value { IfOk result (λ packets. packets.items ≡ exported self.now.now.tables (streams_in self.now.now) None targets.now) }
+        ensures few { IfOk result (λ packets. length packets.items ≤ 1048576) }
+        ensures fault { IfErr result (IsPackingFault self.now.now targets.now) }
     {
         match self.packets_of(targets) {
             Ok(packets) => Ok(packets),
@@ -211,7 +211,8 @@ impl Session {
 
     /// The packets with the time stamps of these frames.
     fn stamp_packets(&self, targets: &[Target], packets: Vec<Bytes>) -> Result<Packets, ExportFault>
-        ensures { IfOk result (λ file. file ≡ stamped 0 (map (units_at self.now.now) targets.now) packets.items) }
+        ensures file { IfOk result (λ file. file ≡ stamped 0 (map (units_at self.now.now) targets.now) packets.items) }
+        ensures fault { IfErr result (λ fault. fault ≡ ExportFault.Packets CutFault.NoMemory) }
     {
         let Ok(units) = self.units_of(targets) else {
             return Err(ExportFault::Packets(CutFault::NoMemory));
@@ -242,11 +243,16 @@ impl Session {
     /// frame has time stamp 0, and each other one that of the frame before it plus the duration of that frame's packet. A
     /// hidden packet has the time stamp of the next frame.
     ///
-    /// `Frame` for the first frame that is refused, `Changed` for the first one of which the script changes
-    /// samples, and `Packets` if there would be more than 1,048,576 packets, or no memory for them.
+    /// The first frame that cannot be exported is reported: as `Frame` if a request for it would be refused, not for its size, or as
+    /// `Changed` with the first node of the script that changes samples of it. `Packets` with `Full` if there would be more than
+    /// 1,048,576 packets, or more than 1,073,741,824 bytes as an IVF file, with `Size` or `TooLarge` if a hold packet cannot be forged, and with
+    /// `NoMemory`.
     pub fn export(&mut self) -> Result<Export, ExportFault>
         ensures file { IfOk result (IsExportFile self.old.now) }
+        ensures fault { IfErr result (IsNotExported self.old.now) }
         ensures after { self.new.now ≡ record self.old.now { decoded = self.new.now.decoded } }
+        ensures rises { self.old.now.decoded ≤ self.new.now.decoded }
+        ensures capacity { self.new.cache.capacity ≡ self.old.cache.capacity }
     {
         self.prove_exports();
         let count = self.frames();
