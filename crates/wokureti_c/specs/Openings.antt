@@ -51,15 +51,15 @@ OpenRefuses bytes ends states tables faults.Tables = (fault : TableFault) × (en
 OpenRefuses bytes ends states tables (faults.File source fault) = SourceRefuses (files_in bytes ends) source fault
 OpenRefuses bytes ends states tables faults.Memory = (files : List Ivf) × AreIvfs (files_in bytes ends) files
 
--- the number of an error, and what is told of it
-abbrev pub Tells : OpenFault → ℕ → Fault → Type 0
-Tells faults.Argument number told = number ≡ 1
-Tells faults.Tables number told = number ≡ 6
-Tells (faults.File source fault) number told = (number ≡ 2) × (told.source ≡ source) × (told.cause ≡ number_of_file_fault fault)
-Tells faults.Memory number told = number ≡ 3
+-- the number of an error, and what is reported of it
+abbrev pub Reports : OpenFault → ℕ → Fault → Type 0
+Reports faults.Argument number reported = number ≡ 1
+Reports faults.Tables number reported = number ≡ 6
+Reports (faults.File source fault) number reported = (number ≡ 2) × (reported.source ≡ source) × (reported.cause ≡ number_of_file_fault fault)
+Reports faults.Memory number reported = number ≡ 3
 
--- the call that opens a session returned a number that is not 0, and told this
-pub record IsNotOpened (bytes ends : List ℕ) (states : ℕ) (tables : List ℕ) (number : ℕ) (told : Fault) : Type 0 where
+-- the call that opens a session returned a number that is not 0, and reported this
+pub record IsNotOpened (bytes ends : List ℕ) (states : ℕ) (tables : List ℕ) (number : ℕ) (reported : Fault) : Type 0 where
   pub fault : OpenFault
   pub refuses : OpenRefuses bytes ends states tables fault
-  pub tells : Tells fault number told
+  pub reports : Reports fault number reported

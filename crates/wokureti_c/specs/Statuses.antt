@@ -1,9 +1,13 @@
 -- The numbers of refusals and errors.
-use Rattle.std.specs.Prelude.{ℕ}
+use Rattle.std.specs.Prelude.{ℕ, ◌+◌, ◌*◌}
 use Rattle.frame_session.specs.declared.refusal.Refusal.{Refusal}
 use Rattle.frame_session.specs.declared.refusal.Refusal.TheVariants as refusals
 use Rattle.stream_files.specs.declared.ivf.IvfFault.{IvfFault}
 use Rattle.stream_files.specs.declared.ivf.IvfFault.TheVariants as faults
+
+-- the number of a version, by its three numbers
+abbrev pub version_number : (major minor patch : ℕ) → ℕ
+version_number major minor patch = 10000 * major + 100 * minor + patch
 
 -- the number of a refusal
 abbrev pub number_of_refusal : Refusal → ℕ

@@ -3,6 +3,7 @@ ghost use Rattle.std.specs.Prelude.{◌≡◌, ◌<◌, None, Some, length as co
 ghost use Rattle.wokureti_c.specs.Calls.{IsAnswered, IsExplained, IsRefused, IsSaved, IsServed, IsTooLarge, Over};
 ghost use Rattle.wokureti_c.specs.Openings.{IsNotOpened, IsOpened, files_in};
 ghost use Rattle.wokureti_c.specs.Rooms.{with_bytes};
+ghost use Rattle.wokureti_c.specs.Statuses.{version_number};
 ghost use Rattle.wokureti_c.specs.declared.engine.Engine.{Engine};
 
 use crate::engine::Engine;
@@ -14,10 +15,12 @@ use crate::rooms::copy;
 use crate::statuses::{CLOSED, MEMORY, OK};
 use std::alloc::Global;
 
-/// The version of the library: 10,000 times the first number, 100 times the second, and the third.
+/// The version of the library, 0.11.0: 10,000 times the first number, 100 times the second, and the third.
 #[unsafe(no_mangle)]
-pub extern "C" fn wk_version() -> u32 {
-    1000
+pub extern "C" fn wk_version() -> u32
+    ensures { result ≡ version_number 0 11 0 }
+{
+    1100
 }
 
 /// Ends the session of a handle, if it holds one. The handle holds nothing afterwards.
@@ -40,16 +43,16 @@ pub extern "C" fn wk_open(
     ends: &[usize],
     states: u16,
     tables: &[u8],
-    told: &mut Fault,
+    reported: &mut Fault,
 ) -> u32
     ensures opened { result ≡ 0 → (engine : Engine) × (handle.new.held ≡ Some engine) × IsOpened (files_in files.now ends.now) states tables.now engine }
-    ensures refused { 0 < result → IsNotOpened files.now ends.now states tables.now result told.new }
+    ensures refused { 0 < result → IsNotOpened files.now ends.now states tables.now result reported.new }
     ensures closed { 0 < result → handle.new.held ≡ None }
 {
     wk_close(handle, alloc);
     let session = match open(alloc, files, ends, states, tables) {
         Ok(session) => session,
-        Err(fault) => return fault.tell(told),
+        Err(fault) => return fault.report(reported),
     };
     let engine = Engine {
         session,
@@ -65,7 +68,7 @@ pub extern "C" fn wk_open(
 }
 
 /// Puts the three planes of frame `n` of the current script into rooms of the caller's, whose rows lie the strides
-/// of `shown` apart. Its size is told, also where there is too little room.
+/// of `shown` apart. Its size is reported, also where there is too little room.
 #[unsafe(no_mangle)]
 pub extern "C" fn wk_frame(
     handle: &mut Handle,
@@ -145,7 +148,7 @@ pub extern "C" fn wk_save(handle: &mut Handle, alloc: Global, pads: bool, length
     status
 }
 
-/// Copies the text that the last request or save left to the front of a room, and tells its length, also where there is
+/// Copies the text that the last request or save left to the front of a room, and reports its length, also where there is
 /// too little room.
 #[unsafe(no_mangle)]
 pub extern "C" fn wk_text(

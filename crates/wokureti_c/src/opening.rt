@@ -2,7 +2,7 @@
 ghost use Rattle.std.specs.Prelude.{◌≡◌, ◌≤◌, IfErr, IfOk, IfSome, None, Some, [], Err, false, length};
 ghost use Rattle.vp8_tables.specs.Tables.{TableEntries, entries_of};
 ghost use Rattle.frame_session.specs.Answers.{Means, texts_of};
-ghost use Rattle.wokureti_c.specs.Openings.{AreTables, OpenRefuses, Tells, are_ends_from, files_in};
+ghost use Rattle.wokureti_c.specs.Openings.{AreTables, OpenRefuses, Reports, are_ends_from, files_in};
 
 use crate::frames::Fault;
 use crate::statuses::{ARGUMENT, FILE, MEMORY, TABLES, number_of_file_fault};
@@ -27,17 +27,17 @@ pub enum OpenFault {
 }
 
 impl OpenFault {
-    /// The number of the error. The source of a file and the number of its error are told.
-    pub fn tell(self, told: &mut Fault) -> u32
-        ensures { Tells self result told.new }
+    /// The number of the error. The source of a file and the number of its error are reported.
+    pub fn report(self, reported: &mut Fault) -> u32
+        ensures { Reports self result reported.new }
     {
         match self {
             OpenFault::Argument => ARGUMENT,
             OpenFault::Tables => TABLES,
             OpenFault::Memory => MEMORY,
             OpenFault::File { source, fault } => {
-                told.source = source as u64;
-                told.cause = number_of_file_fault(fault);
+                reported.source = source as u64;
+                reported.cause = number_of_file_fault(fault);
                 FILE
             }
         }

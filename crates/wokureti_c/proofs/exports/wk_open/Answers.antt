@@ -5,7 +5,7 @@ use Rattle.wokureti_c.proofs.exports.wk_open.Goals as goal
 pub returns-in_default-clause-refused : goal.returns-in_default-clause-refused
 returns-in_default-clause-refused c failed =
     let means = c.in-Ok.ensures.opened.2 in
-    record { fault = Memory; refuses = (means.files, means.are); tells = refl }
+    record { fault = Memory; refuses = (means.files, means.are); reports = refl }
 
 pub returns-clause-opened : goal.returns-clause-opened
 returns-clause-opened c opened =
