@@ -1,4 +1,4 @@
 pub mod Flushed
 pub mod Ended
 pub mod LiveEnded
-pub mod Exports
+pub mod Unexported

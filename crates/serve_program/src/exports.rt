@@ -63,7 +63,7 @@ fn export_fault(fault: ExportFault) -> Fault<'static>
 }
 
 /// The export of the frames of a session, if its file is not too long, padded or not.
-#[tactic(auto, using(crate::proofs::Exports::export_refused))]
+#[tactic(auto, using(crate::proofs::Unexported::export_refused))]
 fn export_of(session: &mut Session, pads: bool) -> Result<Export, Fault<'static>>
     ensures file { IfOk result (IsExportFile session.old.now) }
     ensures fault { IfErr result (IsExportFault session.old.now) }
@@ -81,7 +81,7 @@ fn export_of(session: &mut Session, pads: bool) -> Result<Export, Fault<'static>
 }
 
 /// Exports the frames of a session, if the arguments ask for it.
-pub fn answered(session: Session, words: Words<'_>) -> Result<Answered, Fault<'static>>
+pub fn with_export(session: Session, words: Words<'_>) -> Result<Answered, Fault<'static>>
     ensures after { IfOk result (λ done. IsAfterExport (is_some words.entry.exported) session.now done.session.now) }
     ensures capacity { IfOk result (λ done. done.session.cache.capacity ≡ session.cache.capacity) }
     ensures asked { IfOk result (λ done. is_some done.export ≡ is_some words.entry.exported) }

@@ -7,7 +7,7 @@ ghost use Rattle.serve_arguments.specs.Capacities.{IsGiven};
 ghost use Rattle.serve_arguments.specs.CommandLines.{source_names};
 ghost use Rattle.serve_program.specs.Endings.{AreLiveAnswered, AreLiveReplied, IsAfterExport, IsExportFault, IsLiveEnded, IsLiveFault, IsLiveRefused, IsLiveReplied, IsSaveFault, IsServed, stream_in};
 
-use crate::exports::answered;
+use crate::exports::with_export;
 use crate::messages::Messages;
 use crate::program::{BYTES_AT_ONCE, finish, taken_by};
 use crate::runs::{live_fault, settings_over, shared};
@@ -150,7 +150,7 @@ fn finish_live<R: Files + AllocGlobal, E: Write>(
     ensures capacity { IfOk result (λ new. new.cache.capacity ≡ session.cache.capacity) }
     ensures fault { IfErr result (λ fault. IsSaveFault fault ⊎ IsExportFault session.now fault) }
 {
-    match answered(session, line.words) {
+    match with_export(session, line.words) {
         Ok(done) => finish(rt, done, line, sources, saves, messages),
         Err(fault) => {
             saves.abandon();

@@ -12,7 +12,7 @@ ghost use Rattle.serve_arguments.specs.Readings.{AreNamed};
 ghost use Rattle.serve_program.specs.Endings.{AreAnswered, IsAfterExport, IsEnded, IsRefused, IsReplied, IsSaveFault, IsServed, spare_text, stream_in};
 
 use crate::explain::{explain_end, explain_export, explain_fault, is_asked};
-use crate::exports::{Answered, answered};
+use crate::exports::{Answered, with_export};
 use crate::live::answer_live;
 use crate::messages::Messages;
 use crate::runs::{run_fault, settings_over, shared};
@@ -200,7 +200,7 @@ fn answer_inputs<R: Files + AllocGlobal, O: Write, E: Write>(
         output,
         messages,
     )?;
-    let done = answered(session, line.words)?;
+    let done = with_export(session, line.words)?;
     let saves = begin_saves(rt, line.words, messages)?;
     finish(rt, done, line, sources.as_slice(), saves, messages)
 }
