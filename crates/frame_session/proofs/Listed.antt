@@ -1,5 +1,5 @@
 -- Replies of several lines.
-use Rattle.std.proofs.Common.{◌≡◌, ℕ, suc, ◌+◌, ◌-◌, ◌≤◌, ◌<◌, ◌++◌, ◌∷◌, [], false, List, Result, take, drop, length, map, min, nat_lt, refl, sym, ap, subst, ◌∙◌, arith, append-nil, rules, tests}
+use Rattle.std.proofs.Common.{◌≡◌, ℕ, ◌+◌, ◌-◌, ◌≤◌, ◌++◌, ◌∷◌, [], false, List, take, drop, length, map, min, nat_lt, sym, ap, ◌∙◌, append-nil, rules, tests}
 use Rattle.std.specs.List.{concat, range_with_len}
 use Rattle.std.proofs.lemmas.List.{length-drop, length-map, length-take, take_min}
 use Rattle.std.proofs.lemmas.List.Folds.{concat-append}
@@ -10,10 +10,9 @@ use Rattle.stream_facts.specs.Facts.{facts_in, first_position}
 use Rattle.stream_facts.specs.Json.{object_of}
 use Rattle.stream_facts.proofs.Positions.{facts_count}
 use Rattle.packet_lists.specs.Lines.{first_record, lines_from, lines_of}
-use Rattle.frame_session.specs.declared.refusal.Refusal.TheVariants as refusals
 use Rattle.frame_session.specs.Origins.{origin_line, origins_answer}
 use Rattle.frame_session.specs.Questions.{list_answer}
-use Rattle.frame_session.specs.Replies.{lines_line, lines_reply, refused_line}
+use Rattle.frame_session.specs.Replies.{lines_line}
 use Rattle.frame_session.specs.Sessions.{Now, frame_count}
 
 -- as many lines follow an index as packets

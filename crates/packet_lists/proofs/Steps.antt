@@ -1,5 +1,5 @@
 -- The position and the lines after one more packet.
-use Rattle.std.proofs.Common.{◌≡◌, ℕ, zero, suc, ◌+◌, ◌≤◌, ◌<◌, Bool, true, false, List, [], ◌∷◌, ◌++◌, Option, Some, None, take, drop, map, length, option_map, slice_get, is_ok, refl, sym, ap, ◌∙◌, arith, add-zero, zero-add, add-one, add-suc, suc-add}
+use Rattle.std.proofs.Common.{◌≡◌, ℕ, zero, suc, ◌+◌, ◌≤◌, Bool, true, false, List, [], ◌∷◌, ◌++◌, Some, take, drop, map, length, option_map, slice_get, is_ok, refl, sym, ap, ◌∙◌, arith, add-zero, zero-add, add-one, add-suc, suc-add}
 use Rattle.std.specs.Int.{from_bool}
 use Rattle.std.proofs.lemmas.List.{length-take-le}
 use Rattle.std.proofs.lemmas.Option.{slice_get-map}

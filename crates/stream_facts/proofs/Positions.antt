@@ -1,5 +1,5 @@
 -- The position after packets, by their number, their lengths and the last key packet.
-use Rattle.std.proofs.Common.{◌≡◌, ℕ, zero, suc, ◌+◌, ◌-◌, ◌^◌, ◌≤◌, ◌<◌, Bool, true, false, not, ◌&&◌, ◌||◌, List, [], ◌∷◌, ◌++◌, Option, Some, None, Result, Ok, Err, ◌==◌, drop, take, length, map, min, option_map, slice_get, is_ok, refl, sym, ap, ◌∙◌, arith, add-zero, rules, tests}
+use Rattle.std.proofs.Common.{◌≡◌, ℕ, zero, suc, ◌+◌, Bool, true, false, not, ◌&&◌, ◌||◌, List, [], ◌∷◌, ◌++◌, Option, Some, None, Result, Ok, Err, ◌==◌, take, length, option_map, slice_get, is_ok, refl, sym, ap, ◌∙◌, arith, add-zero, rules, tests}
 use Rattle.std.specs.Int.{from_bool}
 use Rattle.std.specs.Option.{option_map_or}
 use Rattle.stream_files.specs.declared.packets.Packet.{Packet}
@@ -11,7 +11,6 @@ use Rattle.frame_header.specs.declared.cause.Cause.TheVariants.{ShortPacket}
 use Rattle.frame_header.specs.declared.context.Context.{Context}
 use Rattle.frame_header.specs.declared.outline.Outline.{Outline}
 use Rattle.frame_header.specs.declared.tag_fields.Tag.{Tag}
-use Rattle.stream_facts.specs.declared.facts.Facts.{Facts}
 use Rattle.stream_facts.specs.declared.facts.Position.{Position}
 use Rattle.stream_facts.specs.Facts.{end_of_record, facts_from, facts_of, fields_in, follows_after, follows_by, header_facts, position_after, position_over}
 

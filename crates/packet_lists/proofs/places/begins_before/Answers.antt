@@ -1,4 +1,4 @@
-use Rattle.std.proofs.Common.{◌≡◌, ℕ, ap, sym, ◌∙◌}
+use Rattle.std.proofs.Common.{ℕ, ap, sym, ◌∙◌}
 use Rattle.stream_facts.specs.Facts.{end_of_record}
 use Rattle.packet_lists.proofs.Steps.{begins_next}
 use Rattle.packet_lists.proofs.places.begins_before.Goals as goal

@@ -1,8 +1,7 @@
-use Rattle.std.proofs.Common.{◌≡◌, ◌≤◌, ℕ, ◌+◌, Some, slice_get, sym, ap, ◌∙◌, arith}
+use Rattle.std.proofs.Common.{◌≡◌, ◌≤◌, sym, ap, ◌∙◌, arith}
 use Rattle.stream_files.specs.declared.packets.Packet.{Packet}
 use Rattle.stream_facts.specs.declared.facts.Position.{Position}
 use Rattle.stream_facts.specs.Facts.{position_after}
-use Rattle.packet_lists.specs.Places.{position_at}
 use Rattle.packet_lists.proofs.Steps.{frames_few, packet_here, packets_before, position_next}
 use Rattle.packet_lists.proofs.places.position_before.Goals as goal
 

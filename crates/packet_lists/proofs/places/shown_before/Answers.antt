@@ -1,4 +1,4 @@
-use Rattle.std.proofs.Common.{◌≡◌, ◌≤◌, ℕ, ◌+◌, ◌<◌, Some, slice_get, length, sym, subst, arith}
+use Rattle.std.proofs.Common.{◌≡◌, ℕ, Some, slice_get, sym, subst, arith}
 use Rattle.packet_edits.specs.Shown.{shown_indexes, stream_of}
 use Rattle.packet_lists.proofs.Counts.{split}
 use Rattle.packet_lists.proofs.places.shown_before.Goals as goal
