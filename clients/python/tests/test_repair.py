@@ -1,5 +1,6 @@
 """wokureti repair: damage of each kind, what is mended, and that sound streams stay as they are."""
 
+import mmap
 import os
 import pathlib
 import random
@@ -7,9 +8,10 @@ import re
 import struct
 import subprocess
 import unittest
+from unittest import mock
 
 from support import DATA, ODD, SMALL, TOP, Case, command, packets_of, serve, start_python
-from wokureti import ivf, programs, repair, salvage
+from wokureti import commands, ivf, programs, repair, salvage
 from wokureti.differences import edits_between
 
 CHECKS = TOP / "crates/gate_checks/data"
@@ -406,6 +408,44 @@ class Sizes(RepairCase):
         status, lines, found = self.run_it(self.data[:place] + bytes(range(1, 90)) + self.data[place:])
         self.assertEqual((status, found), (1, self.packets))
         self.assertIn("lead to no record", lines[0])
+
+
+class Parts(RepairCase):
+    """A long stream, which is listed and checked in parts."""
+
+    LIMIT = 60
+
+    def mended(self, data, **sizes):
+        said = []
+        with mock.patch.multiple(repair, **{"PART": repair.PART, **sizes}):
+            found = repair.repair(data, programs.find("vp8serve"), programs.find("vp8list"), stage=said.append)
+        return (found.lines, found.changes, found.left, [(packet.stamp, bytes(packet.data)) for packet in found.packets]), said
+
+    def test_as_in_one_piece(self):
+        choose = random.Random(11)
+        packets = [(100 * turn + place, data) for turn in range(6) for place, data in enumerate(data for _, data in self.packets)]
+        keys = [place for place, (_, data) in enumerate(packets) if ivf.is_key(data)]
+        cases = {"clean": packets, "two bytes": [(stamp, data[:2] if stamp == 333 else data) for stamp, data in packets], "twice": packets[:250] + packets[249:]}
+        cases["hole before a key"], cases["hole after a key"] = packets[: keys[7] - 1] + packets[keys[7] :], packets[: keys[8] + 1] + packets[keys[8] + 2 :]
+        cases["late"] = packets[:199] + [packets[200], packets[199]] + packets[201:]
+        for turn in range(4):
+            at = choose.randrange(600)
+            cases[f"bytes {turn}"] = [(stamp, bytes(choose.randrange(256) if place > 20 else byte for place, byte in enumerate(data)) if stamp == at else data) for stamp, data in packets]
+        for name, found in cases.items():
+            data = text_of(found)
+            whole, said = self.mended(data)
+            self.assertFalse([text for text in said if "parts" in text])
+            parts, said = self.mended(data, PART=3000, LEAST_PART=40)
+            self.assertEqual(parts, whole, name)
+            self.assertGreater(len([text for text in said if re.search(r"checking .*, \d+ of \d+ parts", text)]), 0 if name == "clean" else -1)
+
+    def test_a_mapped_file_is_read_as_any(self):
+        data = self.data[:9000] + bytes(512) + self.data[9512:]
+        (self.room / "in.ivf").write_bytes(data)
+        with mock.patch.object(commands, "LEAST_MAPPED", 0):
+            mapped = commands.read_all(self.room / "in.ivf")
+        self.assertIsInstance(mapped, mmap.mmap)
+        self.assertEqual(self.mended(mapped)[0], self.mended(data)[0])
 
 
 class Differences(unittest.TestCase):

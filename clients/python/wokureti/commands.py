@@ -2,6 +2,7 @@
 
 import argparse
 import itertools
+import mmap
 import os
 import signal
 import sys
@@ -19,6 +20,8 @@ VP8LIST, or installed with it, or on the PATH. An exit status of 70 says that wo
 """
 # The exit status of a mistake of this program, EX_SOFTWARE of sysexits.h: no command means anything else by it.
 MISTAKE = 70
+# Bytes of a file that is mapped and not read, at least.
+LEAST_MAPPED = 64 << 20
 
 
 # What each command reads.
@@ -385,10 +388,13 @@ def as_file(path):
 
 
 def read_all(path):
+    """The bytes of a file. A large one is mapped: its pages are read when they are needed, and need not stay in memory."""
     if path == "-":
         return b""
     with open(path, "rb") as file:
-        return file.read()
+        if os.fstat(file.fileno()).st_size < LEAST_MAPPED:
+            return file.read()
+        return mmap.mmap(file.fileno(), 0, access=mmap.ACCESS_READ)
 
 
 def salvage_count(data):

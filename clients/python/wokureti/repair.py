@@ -2,8 +2,10 @@
 
 import bisect
 import collections
+import concurrent.futures
 import fractions
 import json
+import os
 from typing import NamedTuple
 
 from . import facts, ivf, runs, salvage, times
@@ -19,6 +21,8 @@ MOST_HOLE = 10000
 CONSTANT = 0.8
 # Guesses at packets with a wrong size that are tried one after the other.
 MOST_GUESSES = 30
+# A long stream is listed and checked in parts of so many bytes and packets, each with some packets of the next one, so many at a time.
+PART, LEAST_PART, OVERLAP, AT_A_TIME = 64 << 20, 100, 8, 4
 # What a kind of finding means.
 DAMAGE = {"past_end": "read past its end", "unread": "not read to its end"}
 # What a kind of finding says of the packets around one.
@@ -75,8 +79,7 @@ class Repair:
     def list_outlines(self):
         if not self.packets:
             return []
-        self.stage(f"listing {len(self.packets):,} packets")
-        found = self.list_of(self.lister_run())
+        found = self.listed()
         # What is refused because of others is listed again, each after a key packet.
         again = [place for place, outline in enumerate(found) if outline.cause in facts.OF_OTHERS]
         if again:
@@ -86,6 +89,38 @@ class Repair:
             for place, outline in zip(again, listed):
                 found[place] = outline
         return found
+
+    def listed(self):
+        what = f"listing {len(self.packets):,} packets"
+        self.stage(what)
+        parts = self.parts()
+        if len(parts) == 1:
+            return self.list_of(self.lister_run())
+        return [outline for found in self.by_parts(parts, 0, what) for outline in self.list_of(iter(found))]
+
+    def parts(self):
+        """Ranges of packets that begin at key packets, each to be listed or checked by itself."""
+        found, start, size = [], 0, 0
+        for place, packet in enumerate(self.packets):
+            if size >= PART and place - start >= LEAST_PART and ivf.is_key(packet.data):
+                found.append((start, place))
+                start, size = place, 0
+            size += len(packet.data)
+        return [*found, (start, len(self.packets))]
+
+    def by_parts(self, parts, overlap, what, *options, statuses=(0,)):
+        """What vp8list prints of each part, with so many packets of the next one, in order."""
+        def run(part):
+            given = ((packet.stamp, packet.data) for packet in self.packets[part[0] : part[1] + overlap])
+            return list(facts.run_on(self.lister, given, *options, statuses=statuses))
+
+        pool = concurrent.futures.ThreadPoolExecutor(min(AT_A_TIME, len(os.sched_getaffinity(0))))
+        try:
+            for done, found in enumerate(pool.map(run, parts), 1):
+                self.stage(f"{what}, {done} of {len(parts)} parts")
+                yield found
+        finally:
+            pool.shutdown(cancel_futures=True)
 
     def list_of(self, lines):
         return [Outline(bool(flags & facts.KEY), bool(flags & facts.SHOWN), cause) for flags, _, cause in facts.outlines(lines)]
@@ -110,10 +145,23 @@ class Repair:
     def findings(self):
         """What vp8list --check says of the packets. They are checked once, as long as they stay."""
         if self.checked[0] is not self.packets:
-            self.stage(f"checking {len(self.packets):,} packets")
+            what = f"checking {len(self.packets):,} packets"
+            self.stage(what)
+            parts = self.parts()
+            if len(parts) > 1 and not self.is_damaged(parts, what):
+                self.checked = (self.packets, [])
+                return []
             lines = self.lister_run(*self.check_words(), statuses=(0, 1))
             self.checked = (self.packets, list(map(json.loads, lines)))
         return self.checked[1]
+
+    def is_damaged(self, parts, what):
+        """Whether a part has damage. If none has, the whole stream has none: what depends on packets before a key packet, a break in constant steps
+        or a packet that comes twice, is seen in the part that has both."""
+        for lines in self.by_parts(parts, OVERLAP, what, *self.check_words(), statuses=(0, 1)):
+            if any(finding["severity"] == "damage" and finding["packet"] is not None for finding in map(json.loads, lines)):
+                return True
+        return False
 
     def check_words(self):
         return ["--check", "--json"] + (["--tables", self.tables] if self.tables else [])
