@@ -252,6 +252,29 @@ def by_hand(browser, folder):
         yield "chromium: the saved file has other frames"
     browser.click("#undo")
     browser.wait("page.count === args[0] && !page.isBusy", len(whole))
+    yield from mended(browser)
+
+
+def mended(browser):
+    """A packet is refused: its frame says why, the frames up to the next key packet are red, and the repair leaves none."""
+    head, packets = ivf.read_packets(TOP / "crates/gate_clips/data/scene-cuts.ivf")
+    packets[3] = (packets[3][0], bytes(2))
+    given = base64.b64encode(b"".join(ivf.pieces(head, len(packets), packets))).decode()
+    browser.run("await page.open(new File([Uint8Array.from(atob(args[0]), (letter) => letter.charCodeAt(0))], 'broken.ivf'))", given)
+    browser.wait("page.refused.size > 0 && page.refused.has(3)")
+    browser.run("await page.go(3)")
+    text = browser.wait("!page.isBusy && document.getElementById('refusal').textContent")
+    if text != "Frame 3 is refused: packet 3 has 2 bytes, a tag needs 3":
+        yield f"chromium: the refusal is {text!r}"
+    browser.click("#repair")
+    browser.wait("document.getElementById('status').textContent.startsWith('Repaired')")
+    browser.wait("document.getElementById('refusal').hidden && page.count === args[0]", len(packets))
+    browser.run("await page.client.call('check', 0, 1e9)")
+    if browser.run("return page.refused.size"):
+        yield "chromium: a frame is refused after the repair"
+    said = browser.run("return page.open(new File([Uint8Array.of(0x1a, 0x45, 0xdf, 0xa3)], 'clip.webm')).catch((error) => error.message)")
+    if "ffmpeg" not in said:
+        yield f"chromium: a WebM file: {said}"
 
 
 def colour_of(path):

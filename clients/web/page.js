@@ -1,7 +1,8 @@
 "use strict";
 
 const find = (id) => document.getElementById(id);
-const CHECK_TIME = 50;
+const CHECK_TIME = 20;
+const PLAY_TIME = 200;
 
 /** The page: a stream, the frame that is shown, and the selection. */
 class Page {
@@ -72,6 +73,8 @@ class Page {
   /** Looks for refused frames while nothing else is asked for, and marks them. */
   async check(revision) {
     for (let next = 0; next < this.count; ) {
+      if (this.playing) await new Promise((resolve) => setTimeout(resolve, PLAY_TIME));
+      if (this.playing) continue;
       const found = await this.client.call("check", next, CHECK_TIME);
       if (revision !== this.revision) return;
       if (found.frame !== undefined) this.refused.set(found.frame, found.reason);
