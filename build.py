@@ -1,5 +1,5 @@
 #!/usr/bin/env python3
-"""Proves and builds vp8serve and vp8list: build.py [--cpu x86-64-v2|x86-64-v3] [--ready | --verify | --dist | --library]
+"""Proves and builds vp8serve and vp8list: build.py [--cpu x86-64-v2|x86-64-v3] [--ready | --verify | --dist | --library | --web]
 
 Without an option it proves the crates that the two programs need, builds both for this processor, and puts them into bin/, next to
 bin/wokureti, which starts the Python client. It works on a copy of these crates outside the checkout, so it can be interrupted: what was
@@ -11,8 +11,10 @@ proved by then is kept. If nothing has changed since the last time, it does noth
             With --built they are taken from crates/, where `rt ci` has proved them
   --dist    the same, and packs them with the client into a new dist/, if VERSION is new
   --library builds the C library into bin/: libwokureti.so.0, libwokureti.a, wokureti.h and a file for pkg-config. --built as above
+  --web     builds the page without a server into bin/web: the library's LLVM module, compiled for WebAssembly, outside the verdict. --built as above
 
-Python 3.9 and its standard library suffice for --ready; the others need the Rattle kit, the last three gcc too, and two of them the C library's libc.a.
+Python 3.9 and its standard library suffice for --ready; the others need the Rattle kit, --verify, --dist and --library gcc too, and the first two of them the C
+library's libc.a.
 """
 
 import argparse
@@ -184,6 +186,20 @@ def make_library(cpu, is_proved):
     return 0
 
 
+def make_web(is_proved):
+    """Builds the page without a server."""
+    from release import web
+
+    check_kit()
+    if is_proved:
+        with tempfile.TemporaryDirectory() as folder:
+            web.build(pathlib.Path(folder), BIN / "web", True, say)
+    else:
+        with room_of() as room:
+            web.build(room, BIN / "web", False, say)
+    return 0
+
+
 def names_of(sources, objects, programs, libraries):
     """The lines of dist/SOURCES."""
     from release import library, linked
@@ -261,12 +277,13 @@ def make_dist(is_proved):
 def main():
     parser = argparse.ArgumentParser(description=__doc__, formatter_class=argparse.RawDescriptionHelpFormatter)
     parser.add_argument("--cpu", default=os.environ.get("WOKURETI_CPU", ""), metavar="NAME", help="x86-64-v2 or x86-64-v3; also the variable WOKURETI_CPU")
-    parser.add_argument("--built", action="store_true", help="with --verify, --dist and --library: rt ci has proved the crates here")
+    parser.add_argument("--built", action="store_true", help="with --verify, --dist, --library and --web: rt ci has proved the crates here")
     what = parser.add_mutually_exclusive_group()
     what.add_argument("--ready", nargs="?", const="build.py", metavar="SCRIPT")
     what.add_argument("--verify", action="store_true")
     what.add_argument("--dist", action="store_true")
     what.add_argument("--library", action="store_true")
+    what.add_argument("--web", action="store_true")
     given = parser.parse_args()
     try:
         if given.verify:
@@ -275,6 +292,8 @@ def main():
             return make_dist(given.built)
         if given.library:
             return make_library(processor(given.cpu), given.built)
+        if given.web:
+            return make_web(given.built)
         Speaker.name = given.ready or Speaker.name
         (ready if given.ready else build)(processor(given.cpu))
     except Failed as failed:

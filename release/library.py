@@ -21,8 +21,9 @@ Cflags: -I${{prefix}}
 """
 
 
-def archive(room, cpu, is_proved, say):
-    """The archive of the library for a processor. If `is_proved`, rt ci has proved the crates below it in this checkout."""
+def in_copy(room, is_proved, say, words):
+    """Runs a command in a copy of the library's crate, over the proved crates below it, and returns the copy. If `is_proved`, rt ci has proved these in this
+    checkout."""
     crates = needed((CRATE,))
     folder = room / "library"
     proving.copy_files(crates, folder)
@@ -36,11 +37,16 @@ def archive(room, cpu, is_proved, say):
                 for made in (room / "common", room / "vp8serve"):
                     proving.take_libraries(set(crates) - {CRATE}, made, folder)
                 proving.run(["rt", "all", "check", "--jobs", str(proving.jobs())], folder, log)
-            proving.run(["rt", "lib", "--cpu", cpu], folder / "crates" / CRATE, log)
+            proving.run(words, folder / "crates" / CRATE, log)
         except Failed as failed:
             text = (room / "library.log").read_text(encoding="utf-8", errors="replace")
             raise Failed(f"{text[-2000:]}no library was built: {failed}") from None
-    return folder / "crates" / CRATE / "out" / f"lib{CRATE}.a"
+    return folder / "crates" / CRATE
+
+
+def archive(room, cpu, is_proved, say):
+    """The archive of the library for a processor."""
+    return in_copy(room, is_proved, say, ["rt", "lib", "--cpu", cpu]) / "out" / f"lib{CRATE}.a"
 
 
 def ran(*words):
