@@ -162,7 +162,7 @@ def export(contents, lines, out, room):
         run(contents.program, contents.inputs, lines, between, out.pad, contents.tables)
     except Ended as ended:
         # The file on the way has a name that says nothing.
-        text = ended.text.replace(f"--export {between}", os.fsdecode(out.path)).removeprefix("vp8serve: ")
+        text = ended.text.replace(f"--export {between}", os.path.basename(os.fsdecode(out.path))).removeprefix("vp8serve: ")
         raise Ended(ended.status, text) from None
     served = Frames(contents).served()
     with open(between, "rb") as file:
