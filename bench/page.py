@@ -1,6 +1,6 @@
 #!/usr/bin/env python3
-"""Times the page of `wokureti open` in Debian's chromium: from opening to the first picture, from an edit to the new picture, steps of many edits,
-and playback.
+"""Times the page of `wokureti open` in Debian's chromium: from opening to the first picture, from a key to the next picture, from an edit to the new picture, steps of
+many edits, how long a frame waits meanwhile, and playback.
 
     bench/page.py CLIP-OF-640x360 CLIP-OF-1920x1080
 
@@ -68,6 +68,43 @@ EDITS = """
     return times;"""
 
 
+# From a key to the next picture on the canvas: frames that were not shown before, one after the other, and then back over the same frames.
+STEPS = """
+    const { picture } = wokureti.viewer;
+    const press = (key) => {
+      const since = performance.now();
+      return new Promise((done) => {
+        const { paint } = picture;
+        picture.paint = function (...given) {
+          delete picture.paint;
+          paint.apply(this, given);
+          requestAnimationFrame(() => done(performance.now() - since));
+        };
+        document.getElementById("timeline").dispatchEvent(new KeyboardEvent("keydown", { key, bubbles: true, cancelable: true }));
+      });
+    };
+    await wokureti.model.go(200);
+    await new Promise((done) => setTimeout(done, 1000));
+    const times = [];
+    for (const key of ["ArrowRight", "ArrowLeft"]) {
+      for (let turn = 0; turn < 20; turn++) {
+        times.push(await press(key));
+        await new Promise((done) => setTimeout(done, 150));
+      }
+    }
+    return times;"""
+
+
+def steps(browser, clip, name):
+    page = Page(browser, clip)
+    page.open()
+    browser.wait("wokureti.findings.check && wokureti.findings.check.over", seconds=120)
+    times = browser.run(STEPS)
+    on, back = times[:20], times[20:]
+    print(f"{name}: from a key to the next picture {statistics.median(on):.0f} ms (at most {max(on):.0f}), back {statistics.median(back):.0f} ms (at most {max(back):.0f})", flush=True)
+    page.end()
+
+
 def edits(browser, clip, name):
     page = Page(browser, clip)
     page.open()
@@ -82,6 +119,17 @@ def edits(browser, clip, name):
 LARGE = """
     const { model, editing } = wokureti;
     const times = [];
+    // The longest time that a frame waits which is asked for meanwhile.
+    let [waited, isOn] = [0, true];
+    const ask = async () => {
+      for (let frame = 0; isOn; frame = (frame + 1) % 50) {
+        const since = performance.now();
+        await fetch(new URL(`../frames/${frame}.y4m`, document.baseURI), { cache: "no-store" });
+        waited = Math.max(waited, (performance.now() - since) / 1000);
+        await new Promise((done) => setTimeout(done, 5));
+      }
+    };
+    const asked = ask();
     const timed = async (act) => {
       const since = performance.now();
       await act();
@@ -94,7 +142,9 @@ LARGE = """
     await editing.undo();
     model.select(1000, 4000);
     await timed(() => editing.hold());
-    return [model.packets, ...times];"""
+    isOn = false;
+    await asked;
+    return [model.packets, ...times, waited];"""
 
 
 def large_steps(browser, path, count):
@@ -102,7 +152,7 @@ def large_steps(browser, path, count):
     page.open()
     browser.wait("wokureti.model.session.listed", seconds=300)
     packets, *times = browser.run(LARGE)
-    words = ("10,000 packets deleted", "undone", "deleted again", "3,000 held")
+    words = ("10,000 packets deleted", "undone", "deleted again", "3,000 held", "a frame waited at most")
     said = ", ".join(f"{word} {seconds:.1f} s" for word, seconds in zip(words, times))
     print(f"large steps in {count:,} packets: {said}{'' if packets == count else f', and {packets} packets'}", flush=True)
     page.end()
@@ -140,10 +190,12 @@ def main():
             path = room / f"{count}.ivf"
             make_million(path, count)
             opening(browser, path, count)
-        large_steps(browser, room / "100000.ivf", 100_000)
+        for count in (100_000, 1 << 20):
+            large_steps(browser, room / f"{count}.ivf", count)
         for clip, size in ((small, "640x360"), (large, "1920x1080")):
             link = room / f"{size}.ivf"
             link.symlink_to(clip)
+            steps(browser, link, size)
             edits(browser, link, size)
             playback(browser, link, size)
 

@@ -30,6 +30,8 @@ from library import firefox  # noqa: E402
 from wokureti import Session, containers, exports, ivf, programs  # noqa: E402
 
 WIDTH, HEIGHT = 160, 120
+# How often a browser plays a file, at most.
+TURNS = 3
 
 QUIET = {"stdin": subprocess.DEVNULL, "timeout": 300, "check": True, "capture_output": True}
 SOUNDS = {
@@ -267,11 +269,15 @@ def seek(dice, out, wanted, room, plays):
 
 def watch(name, player, out, numbers, pictures):
     """What is wrong with a file in a browser."""
-    played = player.play(os.path.basename(out))
-    if "error" in played:
-        return [f"{out}: {name}: {played['error']}"]
+    for _ in range(TURNS):
+        # On a busy machine a browser may not paint the last picture.
+        played = player.play(os.path.basename(out))
+        if "error" in played:
+            return [f"{out}: {name}: {played['error']}"]
+        first, last = (nearest(played[one], pictures) for one in ("first", "last"))
+        if (first, last) == (numbers[0], numbers[-1]):
+            break
     picture, sound = lengths(out)
-    first, last = (nearest(played[one], pictures) for one in ("first", "last"))
     said = []
     if (first, last) != (numbers[0], numbers[-1]):
         said.append(f"{out}: {name} begins with frame {first} of the clip and ends with {last}, and not with {numbers[0]} and {numbers[-1]}")

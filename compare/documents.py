@@ -29,6 +29,18 @@ def blocks(text):
     return found
 
 
+def without_exports(text, name):
+    """The text without the chapters that need an option of vp8serve that this one does not have."""
+    helped = subprocess.run([f"{TOP}/bin/vp8serve", "--help"], capture_output=True, text=True, check=True).stdout
+    if "--export" in helped:
+        return text
+    first, *chapters = text.split("\n## ")
+    for chapter in chapters:
+        if " --export " in chapter:
+            print(f"{name}: skipped, since vp8serve has no --export: {chapter.splitlines()[0]}")
+    return "\n## ".join([first, *(chapter for chapter in chapters if " --export " not in chapter)])
+
+
 def complete(command):
     """Whether bash reads this as whole commands."""
     return subprocess.run(["bash", "-n", "-c", command], capture_output=True).returncode == 0
@@ -42,7 +54,7 @@ def on_three():
 
 def run(path, folder):
     wrong = 0
-    commands = blocks(path.read_text(encoding="utf-8"))
+    commands = blocks(without_exports(path.read_text(encoding="utf-8"), path.name))
     script = "".join(f"{command}\necho '--end--' \n" for command, _ in commands)
     programs = f"{TOP}/bin"
     path_of_programs = f"{folder}/bin:{programs}:{os.environ['PATH']}"

@@ -1003,6 +1003,9 @@ def shots_and_fades(browser, room, clip, other):
     browser.wait("wokureti.model.frames === 100")
     wanted = "trim 0 0 20; trim 0 60 20; splice 1 2; trim 0 20 40; splice 3 4; trim 0 80 20; splice 5 6"
     expect(page.members("session")["script"] == wanted, f"the script after X is {page.members('session')['script']}")
+    exports = page.members("session")["exports"]
+    if exports:
+        export_shots(browser, room, clip, wanted)
     # Four shots: 20, 20, 40 and 20 frames. The handle at the end of the third one is dragged to the left, that at the beginning of the first to the right.
     browser.wait("document.getElementById('strip').dataset.shots === '4'")
     box = browser.run("const box = document.getElementById('strip').getBoundingClientRect(); return [box.left, box.top, box.width]")
@@ -1013,6 +1016,7 @@ def shots_and_fades(browser, room, clip, other):
     script = page.members("session")["script"]
     wanted = "trim 0 0 20; fade 1 0 5 0 256; trim 0 60 20; splice 2 3; trim 0 20 40; fade 5 30 10 256 0; splice 4 6; trim 0 80 20; splice 7 8"
     expect(script == wanted, f"the script with fades is {script}")
+    expect(not exports or browser.run("return document.getElementById('export').classList.contains('off')"), "a fade can be exported")
     with Session(clip) as session:
         session.script(*script.split("; "))
         for frame in (0, 3, 39, 75, 79, 80):
@@ -1042,6 +1046,25 @@ def shots_and_fades(browser, room, clip, other):
     page.quiet("shots, fades and PSNR")
     page.end()
     say("shots: moved and cut out by keys, fades dragged on the strip, frames as vp8serve serves them; the PSNR of 250 frames as a curve")
+
+
+def export_shots(browser, room, clip, script):
+    """Export gives a file with the frames of a script."""
+    browser.click("#export")
+    browser.wait("document.getElementById('status').textContent.startsWith('exported shots-export.ivf: 0:00:04.000, 100 frames, in ')", seconds=300)
+    text = browser.run("""
+        const { exported } = await import(new URL("interface.js", document.baseURI));
+        const bytes = new Uint8Array(await (await exported()).file.arrayBuffer());
+        let text = "";
+        for (const byte of bytes) text += String.fromCharCode(byte);
+        return btoa(text);""")
+    path = room / "export.ivf"
+    path.write_bytes(base64.b64decode(text))
+    with Session(clip) as before, Session(path) as after:
+        before.script(*script.split("; "))
+        same = [one.i420() == other.i420() for one, other in zip(before.frames(), after.frames())]
+    expect(same == [True] * 100, f"{same.count(True)} of {len(same)} frames of the export are those of the script")
+    say("export: 100 frames of four shots as packets, byte for byte")
 
 
 def door(browser, room, clip):

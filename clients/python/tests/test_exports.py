@@ -1,5 +1,6 @@
 """wokureti cut, join and export."""
 
+import json
 import os
 import pathlib
 import unittest
@@ -182,6 +183,7 @@ class OnThePage(test_page.PageCase):
         self.step("delete 11", "script trim 0 4 100")
         status, headers, body = self.ask("/exported")
         self.assertEqual((status, headers["Content-Disposition"]), (200, 'attachment; filename="small-export.ivf"'))
+        self.assertRegex(headers["X-Exported"], r"0:00:00\.\d+, 7 frames, in 11 packets, 4 of them hidden: .* of the file")
         path = self.folder() / "out.ivf"
         path.write_bytes(body)
         with self.session(SMALL) as one, self.session(path) as other:
@@ -193,7 +195,8 @@ class OnThePage(test_page.PageCase):
         self.assertEqual(self.members("/session")["changing"], [2, "fade 1 0 5 0 256"])
         status, _, body = self.ask("/exported")
         self.assertEqual(status, 409)
-        self.assertIn(b"frame 0", body)
+        self.assertRegex(json.loads(body)["error"], r"frame \d.*node \d")
+        self.assertNotIn(self.live.room.name.encode(), body)
         self.assertEqual(list(pathlib.Path(self.live.room.name).glob("tmp*")), [])
 
     @needs_ffmpeg

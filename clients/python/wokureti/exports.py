@@ -158,7 +158,12 @@ def export(contents, lines, out, room):
     written. Files that are made on the way are in the folder `room`."""
     check_program(contents.program)
     between = os.path.join(room, "exported.ivf")
-    run(contents.program, contents.inputs, lines, between, out.pad, contents.tables)
+    try:
+        run(contents.program, contents.inputs, lines, between, out.pad, contents.tables)
+    except Ended as ended:
+        # The file on the way has a name that says nothing.
+        text = ended.text.replace(f"--export {between}", os.path.basename(os.fsdecode(out.path))).removeprefix("vp8serve: ")
+        raise Ended(ended.status, text) from None
     served = Frames(contents).served()
     with open(between, "rb") as file:
         head, index = ivf.read_index(file.fileno())

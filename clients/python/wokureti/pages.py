@@ -585,13 +585,13 @@ class PageRoutes(Routes):
             path = os.path.join(folder, f"exported{ending}")
             out = exports.Output(path, self.live.pad, self.live.sound, self.live.notice)
             try:
-                exports.export(contents, lines, out, folder)
+                told = exports.export(contents, lines, out, folder)
             except (ValueError, Ended) as error:
                 raise Refuse(409 if self.live.revision == revision else 412, str(error)) from None
             if self.live.revision != revision:
                 raise Refuse(412, "the stream was changed", revision=self.live.revision)
             file = open(path, "rb")
-        return Response(200, CONTAINERS[ending], length=os.fstat(file.fileno()).st_size, headers=self.attached(ending, "export"), pieces=pieces_of(file))
+        return Response(200, CONTAINERS[ending], length=os.fstat(file.fileno()).st_size, headers=[*self.attached(ending, "export"), ("X-Exported", told.text())], pieces=pieces_of(file))
 
     def change(self, request):
         """An edit, several as one step, which may have a title, `undo`, `redo` or `save`, which may be of a source."""

@@ -21,6 +21,12 @@ export class Unreachable extends Error {}
 export const waiting = new Map();
 let next = 0;
 
+/** The name that an answer gives its file. */
+export function nameIn(disposition) {
+  const found = /filename="([^"]+)"/.exec(disposition || "");
+  return found ? found[1] : "exported";
+}
+
 /** Sends a request. A refusal is an answer with a header of its own, since a browser reports other statuses as errors of the page. */
 async function ask(path, options, what) {
   const number = next++;
@@ -65,6 +71,12 @@ export async function change(lines, revision, title = "") {
 /** Saves the packets of a source, and returns the name of the file. */
 export async function save(source) {
   return (await (await post("edits", { line: "save", source }, "the packets to be saved")).json()).reply;
+}
+
+/** The frames that are shown as a file: its bytes, its name, and what it has. */
+export async function exported() {
+  const answer = await ask("exported", {}, "the export");
+  return { file: await answer.blob(), name: nameIn(answer.headers.get("Content-Disposition")), said: answer.headers.get("X-Exported") };
 }
 
 /** Opens a stream of the folder as the last source, and returns its number. */

@@ -6,6 +6,7 @@ import { Cropping } from "./cropping.js";
 import { Cutting } from "./cutting.js";
 import { Editing, savedText } from "./editing.js";
 import { EditList } from "./edit_list.js";
+import { Exporting } from "./exporting.js";
 import { Findings } from "./findings.js";
 import { Fragment, parse } from "./fragment.js";
 import { Frames } from "./frames.js";
@@ -47,6 +48,7 @@ timeline.ondraw = () => {
 const cutting = new Cutting(model, editing, status);
 const strip = new Strip(model, editing, status);
 new Adding(model, status);
+new Exporting(status);
 new Cropping(model, cutting, viewer.picture, status);
 editing.viewer = viewer;
 
