@@ -31,7 +31,7 @@ use Rattle.frame_session.specs.declared.serving.RunFault.TheVariants as runs
 use Rattle.serve_arguments.specs.CachedStates.{AreStates}
 use Rattle.serve_arguments.specs.Readings.{AreNamed, IsUnread}
 use Rattle.serve_arguments.specs.declared.capacities.Capacity.{Capacity}
-use Rattle.serve_arguments.specs.declared.exports.NotExported.{NotExported}
+use Rattle.serve_arguments.specs.declared.exports.NotExported.{NotExported as Unexported}
 use Rattle.serve_arguments.specs.declared.exports.NotExported.TheVariants as unexported
 use Rattle.serve_arguments.specs.declared.fault.Fault.{Fault}
 use Rattle.serve_arguments.specs.declared.fault.Fault.TheVariants.{CannotRead, TooLong, Tables, Input, NotExported, CannotWrite, NoMemory}
@@ -100,7 +100,7 @@ pub record IsTooLong (end : Now) : Type 0 where
   pub long : 1073741824 < saved_bytes pads file.packets
 
 -- the frames of a session are not exported for this reason: it is that of the export, or its file is too long
-abbrev pub IsRefusedExport : Now → NotExported → Type 0
+abbrev pub IsRefusedExport : Now → Unexported → Type 0
 IsRefusedExport end why = ((fault : ExportFault) × IsNotExported end fault × (fault_by_export fault ≡ NotExported why)) ⊎ ((why ≡ unexported.Full) × IsTooLong end)
 
 -- why nothing was exported
@@ -138,7 +138,7 @@ pub record IsServed (unnamed : List ℕ) (names : List (List ℕ)) (has_tables :
   pub cached : AreStates capacity (stream_in sources) states
 
 -- all requests were answered over the sources with these names, and then the frames of the session were not exported for this reason
-pub record IsUnexported (unnamed : List ℕ) (names : List (List ℕ)) (Replied : Now → TableEntries → List (List ℕ) → Type 0) (why : NotExported) : Type 0 where
+pub record IsUnexported (unnamed : List ℕ) (names : List (List ℕ)) (Replied : Now → TableEntries → List (List ℕ) → Type 0) (why : Unexported) : Type 0 where
   pub tables : TableEntries
   pub sources : List (List ℕ)
   pub named : AreNamed unnamed names sources

@@ -4,11 +4,12 @@ ghost use Rattle.std.specs.Io.KnownBytes.{Appends};
 ghost use Rattle.std.specs.Cmp.Lexicographic.{pointwise};
 ghost use Rattle.std.specs.List.{list_any};
 ghost use Rattle.frame_session.specs.Sessions.{frame_count};
-ghost use Rattle.serve_program.specs.Reports.{export_report};
+ghost use Rattle.serve_program.specs.Reports.{export_line, export_report, numbers_line};
 
 use crate::exports::Answered;
 use crate::messages::{Messages, UnsavedFile};
 use explanations::{CutRecord, StreamReason, cut_record, stream_reason};
+use frame_session::Export;
 use output_files::{Taken, Unsaved};
 use program_parts::{Format, InLine, NO_FILE, write_format};
 use serve_arguments::{Argument, Fault, NotExported, Words, parse};
@@ -428,22 +429,52 @@ pub fn explain_end<E: Write>(
     explain_unsaved(words, sources.len(), messages)
 }
 
-/// Says what was exported, if that was asked for, and how many decoding steps the run made.
+/// Writes the numbers of an export.
+fn write_numbers<E: Write>(
+    frames: u64,
+    packets: usize,
+    hidden: usize,
+    bytes: u64,
+    steps: u64,
+    errors: &mut E,
+) -> io::Result<()>
+    ensures { OnOk result (Appends (E.contents errors.old) (E.contents errors.new) (numbers_line frames packets hidden bytes steps)) }
+{
+    write!(
+        errors,
+        "exported {frames} frames as {packets} packets, {hidden} of them hidden, "
+    )?;
+    writeln!(errors, "{bytes} bytes; {steps} decoding steps")
+}
+
+/// Says what was exported, with the number of frames of the script and of decoding steps of the run.
+fn write_export<E: Write>(
+    export: &Export,
+    pads: bool,
+    frames: u64,
+    steps: u64,
+    errors: &mut E,
+) -> io::Result<()>
+    ensures { OnOk result (Appends (E.contents errors.old) (E.contents errors.new) (export_line pads export.now frames steps)) }
+{
+    let packets = export.len();
+    let hidden = export.hidden();
+    let bytes = export.bytes(pads);
+    write_numbers(frames, packets, hidden, bytes, steps, errors)
+}
+
+/// Says what was exported, if that was asked for.
 pub fn explain_export<E: Write>(words: Words<'_>, done: &Answered, errors: &mut E) -> io::Result<()>
     ensures { OnOk result (Appends (E.contents errors.old) (E.contents errors.new) (export_report words.entry.pads done.now.export (frame_count done.now.session.now) done.now.session.now.decoded)) }
 {
-    let Some(export) = &done.export else {
-        return Ok(());
-    };
-    let frames = done.session.count().1;
-    let packets = export.len();
-    let hidden = export.hidden();
-    let bytes = export.bytes(words.pads);
-    let steps = done.session.decoded();
-    writeln!(
-        errors,
-        "exported {frames} frames as {packets} packets, {hidden} of them hidden, {bytes} bytes; {steps} decoding steps"
-    )
+    match &done.export {
+        None => Ok(()),
+        Some(export) => {
+            let frames = done.session.count().1;
+            let steps = done.session.decoded();
+            write_export(export, words.pads, frames, steps, errors)
+        }
+    }
 }
 
 /// Says which sources have edits that `--save` leaves out.

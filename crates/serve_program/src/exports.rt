@@ -1,5 +1,5 @@
 // The export of the frames of a session.
-ghost use Rattle.std.specs.Prelude.{◌≡◌, IfErr, IfOk, IfSome, is_some};
+ghost use Rattle.std.specs.Prelude.{◌≡◌, IfErr, IfOk, IfSome, is_some, true};
 ghost use Rattle.frame_session.specs.Exported.{IsExportFile};
 ghost use Rattle.serve_program.specs.Endings.{IsAfterExport, IsExportFault, fault_by_cut, fault_by_export, fault_by_refusal};
 
@@ -63,7 +63,7 @@ fn export_fault(fault: ExportFault) -> Fault<'static>
 }
 
 /// The export of the frames of a session, if its file is not too long, padded or not.
-#[tactic(auto, using(crate::proofs::Unexported::export_refused))]
+#[tactic(auto, using(crate::proofs::Unexported::export_refused, crate::proofs::Unexported::too_long, crate::proofs::Unexported::after_asked))]
 fn export_of(session: &mut Session, pads: bool) -> Result<Export, Fault<'static>>
     ensures file { IfOk result (IsExportFile session.old.now) }
     ensures fault { IfErr result (IsExportFault session.old.now) }
@@ -81,6 +81,7 @@ fn export_of(session: &mut Session, pads: bool) -> Result<Export, Fault<'static>
 }
 
 /// Exports the frames of a session, if the arguments ask for it.
+#[tactic(auto, using(crate::proofs::Unexported::after_unasked, crate::proofs::Unexported::after_some))]
 pub fn with_export(session: Session, words: Words<'_>) -> Result<Answered, Fault<'static>>
     ensures after { IfOk result (λ done. IsAfterExport (is_some words.entry.exported) session.now done.session.now) }
     ensures capacity { IfOk result (λ done. done.session.cache.capacity ≡ session.cache.capacity) }
