@@ -9,10 +9,10 @@ use Rattle.frame_session.specs.declared.export.Export.{Export}
 
 -- the two parts of the line of an export: its packets, and what they take
 abbrev pub packets_part : (frames packets hidden : ℕ) → List ℕ
-packets_part frames packets hidden = codes "exported " ++ decimal frames ++ codes " frames as " ++ decimal packets ++ codes " packets, " ++ decimal hidden ++ codes " of them hidden, "
+packets_part frames packets hidden = codes "exported " ++ (decimal frames ++ (codes " frames as " ++ (decimal packets ++ (codes " packets, " ++ (decimal hidden ++ codes " of them hidden, ")))))
 
 abbrev pub size_part : (bytes steps : ℕ) → List ℕ
-size_part bytes steps = decimal bytes ++ codes " bytes; " ++ decimal steps ++ codes " decoding steps\n"
+size_part bytes steps = decimal bytes ++ (codes " bytes; " ++ (decimal steps ++ codes " decoding steps\n"))
 
 -- the line with these numbers
 abbrev pub numbers_line : (frames packets hidden bytes steps : ℕ) → List ℕ
