@@ -57,7 +57,7 @@ class Requests(Case):
         with self.session(CLIP) as stream:
             stream.hide(3)
             stream.replace(10, b"\x11\x00")
-            stream.delete(0)
+            stream.delete(1)
             stream.hold(7)
             count = stream.count().packets
             found = [facts for first in range(0, count, 7) for facts in stream.list_packets(first, 7)]
