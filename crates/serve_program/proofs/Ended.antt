@@ -1,5 +1,5 @@
 -- Why the program exits, part by part.
-use Rattle.std.proofs.Common.{◌≡◌, ℕ, List, Option, None, refl}
+use Rattle.std.proofs.Common.{◌≡◌, ◌⊎◌, inl, inr, ℕ, List, Option, None, refl}
 use Rattle.program_parts.specs.declared.fault.FileFault.{FileFault}
 use Rattle.program_parts.specs.declared.fault.FileFault.TheVariants as files
 use Rattle.serve_arguments.specs.Readings.{AreNamed, IsInputFault}
@@ -54,3 +54,8 @@ module _ (unnamed : List ℕ) (tables : Option (List ℕ)) (names : List (List �
   export_ended left left' replies replies' entries sources lines end (NotExported cause) named input replied why = record { tables = entries; sources = sources; named = named; end = end; replied = (lines, input, replied); refused = why }
   export_ended left left' replies replies' entries sources lines end CannotWrite named input replied why = absurd why
   export_ended left left' replies replies' entries sources lines end NoMemory named input replied why = tt
+
+  -- the packets were not saved, or the frames not exported
+  pub finish_ended : (left left' replies replies' : Option (List ℕ)) (entries : TableEntries) (sources : List (List ℕ)) (lines : List ℕ) (end : Now) (fault : Fault) → AreNamed unnamed names sources → (requests ≡ codes "-" → IfSome left (λ bytes. lines ≡ bytes)) → IsReplied entries sources lines replies replies' end → IsSaveFault fault ⊎ IsExportFault end fault → IsEnded unnamed tables names requests left left' replies replies' fault
+  finish_ended left left' replies replies' entries sources lines end fault named input replied (inl unsaved) = save_ended left left' replies replies' fault unsaved
+  finish_ended left left' replies replies' entries sources lines end fault named input replied (inr why) = export_ended left left' replies replies' entries sources lines end fault named input replied why

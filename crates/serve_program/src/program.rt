@@ -1,5 +1,5 @@
 // The program over a reader and two writers.
-ghost use Rattle.std.specs.Prelude.{◌≡◌, ◌≤◌, ℕ, [], IfOk, IfErr, IfSome, List, None, OnOk, Option, codes, is_some, length, map, option_map};
+ghost use Rattle.std.specs.Prelude.{◌≡◌, ◌≤◌, ◌⊎◌, ℕ, [], IfOk, IfErr, IfSome, List, None, OnOk, Option, codes, is_some, length, map, option_map};
 ghost use Rattle.std.specs.Io.Buffered.{writer_buffer};
 ghost use Rattle.std.specs.Io.KnownBytes.{Appends};
 ghost use Rattle.std.specs.Rc.{rc_slice_items};
@@ -9,7 +9,7 @@ ghost use Rattle.serve_arguments.specs.CachedStates.{AreStates};
 ghost use Rattle.serve_arguments.specs.Capacities.{IsGiven};
 ghost use Rattle.serve_arguments.specs.CommandLines.{source_names};
 ghost use Rattle.serve_arguments.specs.Readings.{AreNamed};
-ghost use Rattle.serve_program.specs.Endings.{AreAnswered, IsAfterExport, IsEnded, IsRefused, IsReplied, IsSaveFault, IsServed, spare_text, stream_in};
+ghost use Rattle.serve_program.specs.Endings.{AreAnswered, IsAfterExport, IsEnded, IsExportFault, IsRefused, IsReplied, IsSaveFault, IsServed, spare_text, stream_in};
 
 use crate::explain::{explain_end, explain_export, explain_fault, is_asked};
 use crate::exports::{Answered, with_export};
@@ -170,9 +170,27 @@ pub fn finish<R: Files + AllocGlobal, E: Write>(
     Ok(session)
 }
 
+/// Exports the frames if that is asked for, then begins the saves and finishes them. Returns the session.
+fn finish_batch<R: Files + AllocGlobal, E: Write>(
+    rt: &R,
+    session: Session,
+    line: &Accepted<'_>,
+    sources: &[RcSlice<u8>],
+    messages: &mut Messages<'_, E>,
+) -> Result<Session, Fault<'static>>
+    requires { IsGiven line.now.capacity }
+    ensures after { IfOk result (λ new. IsAfterExport (is_some line.now.words.exported) session.now new.now) }
+    ensures capacity { IfOk result (λ new. new.cache.capacity ≡ session.cache.capacity) }
+    ensures fault { IfErr result (λ fault. IsSaveFault fault ⊎ IsExportFault session.now fault) }
+{
+    let done = with_export(session, line.words)?;
+    let saves = begin_saves(rt, line.words, messages)?;
+    finish(rt, done, line, sources, saves, messages)
+}
+
 /// Answers the requests over what was read, exports the frames and saves the packets of source 0 if that is asked for. Returns the session after
 /// that.
-#[tactic(auto, using(crate::proofs::Ended::run_ended, crate::proofs::Ended::save_ended, crate::proofs::Ended::export_ended))]
+#[tactic(auto, using(crate::proofs::Ended::run_ended, crate::proofs::Ended::save_ended, crate::proofs::Ended::finish_ended))]
 fn answer_inputs<R: Files + AllocGlobal, O: Write, E: Write>(
     rt: &R,
     line: &Accepted<'_>,
@@ -200,9 +218,7 @@ fn answer_inputs<R: Files + AllocGlobal, O: Write, E: Write>(
         output,
         messages,
     )?;
-    let done = with_export(session, line.words)?;
-    let saves = begin_saves(rt, line.words, messages)?;
-    finish(rt, done, line, sources.as_slice(), saves, messages)
+    finish_batch(rt, session, line, sources.as_slice(), messages)
 }
 
 /// Does what an accepted command line asks for. Returns the session after the last request.
