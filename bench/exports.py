@@ -38,7 +38,7 @@ def timed(words, text=""):
 
 def make(path):
     picture = "mandelbrot=size=640x360:rate=30,noise=alls=8:allf=t"
-    run(["ffmpeg", "-nostdin", "-v", "error", "-y", "-f", "lavfi", "-i", picture, "-frames:v", 300, "-c:v", "libvpx", "-deadline", "realtime", "-cpu-used", 8, "-b:v", "1500k", "-g", 60, "-auto-alt-ref", 0, path])
+    run(["ffmpeg", "-nostdin", "-v", "error", "-y", "-f", "lavfi", "-i", picture, "-frames:v", 300, "-c:v", "libvpx", "-deadline", "realtime", "-cpu-used", 8, "-b:v", "1500k", "-g", 30, "-auto-alt-ref", 0, path])
 
 
 def scripts(dice, count):

@@ -10,6 +10,7 @@ says more.
 """
 
 import argparse
+import contextlib
 import functools
 import http.server
 import json
@@ -203,10 +204,12 @@ def main():
     dice, wrong, counts = random.Random(given.seed), 0, dict.fromkeys(("files", "frames"), 0)
     can_export = exports.has_option(programs.find("vp8serve"), "--export")
     tools = [name for name in ("ffmpeg", "mkvinfo", *READERS, "ffplay") if shutil.which(name)]
-    versions = []
     print("read by Python's av" if containers.has_av() else "read by ffmpeg", "and cut at any frame" if can_export else "and cut at key packets: vp8serve has no --export")
-    with tempfile.TemporaryDirectory() as room:
-        players = {name: Player(make_browser(), room) for name, make_browser in browsers().items()}
+    with tempfile.TemporaryDirectory() as room, contextlib.ExitStack() as stack:
+        players = {}
+        for name, make_browser in browsers().items():
+            players[name] = Player(make_browser(), room)
+            stack.callback(players[name].close)
         for name in SOUNDS:
             clip = os.path.join(room, f"{name}.webm")
             make(name, clip)
@@ -222,9 +225,7 @@ def main():
                 counts["files"] += 1
                 counts["frames"] += len(numbers)
                 print(*said, sep="\n", end="\n" if said else "")
-        for name, player in players.items():
-            versions.append(f"{name} {player.browser.version}")
-            player.close()
+        versions = [f"{name} {player.browser.version}" for name, player in players.items()]
     skipped = [name for name in ("mkvinfo", *READERS, "ffplay") if name not in tools] + [name for name in ("chromium", "firefox") if name not in players]
     print(*(f"skipped: {name}" for name in skipped), sep="\n", end="\n" if skipped else "")
     print(f"{counts['files']} files, {counts['frames']} frames, by {', '.join([*tools, *versions])}: {wrong} wrong")

@@ -160,6 +160,7 @@ class Ivf(Case):
             (("join", SMALL, room / "none.ivf", room / "out.ivf"), "none.ivf"),
             (("cut", SMALL, room / "out.mp4", "--from", "3"), "no .mp4 file is written. Name it .webm or .mkv"),
             (("repair", SMALL, room / "out.MOV"), "no .mov file is written"),
+            (("join", SMALL, SMALL, "-"), "the output is a file: name it"),
         ):
             status, out, errors = wokureti(*words)
             self.assertEqual((status, out, (room / "out.ivf").read_text()), (2, b"", "before"))

@@ -30,7 +30,9 @@ def ending_of(path):
 
 
 def check_ending(path):
-    """`ValueError` if packets would be written to a file that is called as one of another form."""
+    """`ValueError` if packets would be written to a file that is called as one of another form, or to standard output."""
+    if os.fsdecode(path) == "-":
+        raise ValueError("the output is a file: name it")
     ending = os.path.splitext(os.fsdecode(path))[1].lower()
     if ending in OTHERS:
         raise ValueError(f"{path}: no {ending} file is written. Name it .webm or .mkv, with the sound, or .ivf")
