@@ -1,7 +1,7 @@
 """Keeps the LLVM module that rattle makes of a static library: bitcode.py RT FOLDER CPU OUT
 
-In the crate FOLDER rattle proves and builds the library, with a toolchain whose clang is a script that copies its input to OUT, and then calls the kit's clang. The
-libraries below it are proved before. The command is the one of the kit's own code.
+In the crate FOLDER rattle proves and builds the library, with a toolchain whose clang is a script that copies its input to OUT. It then calls the kit's clang at -O0, since
+nothing uses that object file. The libraries below the crate are proved before. The command is the one of the kit's own code.
 """
 
 import pathlib
@@ -14,7 +14,7 @@ from stamps import module_of  # noqa: E402
 
 CLANG = """#!/bin/sh
 for word in "$@"; do case "$word" in *.bc) cp "$word" {out};; esac; done
-exec {clang} "$@"
+exec {clang} "$@" -O0
 """
 
 

@@ -286,11 +286,18 @@ def colour_of(path):
     return [*rgb[at : at + 3], 255]
 
 
+def stale():
+    """Files of the page that are not those of clients/web."""
+    own = [path for path in (TOP / "clients/web").iterdir() if path.name != "heap.c"]
+    differ = [path.name for path in own if not (PAGE / path.name).is_file() or (PAGE / path.name).read_bytes() != path.read_bytes()]
+    return [f"{PAGE} has another {name} than clients/web: ./build.py --web" for name in sorted(differ)]
+
+
 def main():
     if not (PAGE / "module.js").is_file():
         print("skipped: the page without a server is not built: ./build.py --web makes it")
         return 0
-    wrong, chance = [], random.Random(75)
+    wrong, chance = stale(), random.Random(75)
     words = node_words() if shutil.which("node") else None
     with tempfile.TemporaryDirectory() as name:
         folder = pathlib.Path(name)
