@@ -198,6 +198,53 @@ def decoded(name, path, room):
         return file.read()
 
 
+class Totals:
+    """What was compared so far."""
+
+    def __init__(self):
+        self.scripts = self.frames = self.packets = self.hidden = self.wrong = 0
+
+    def text(self):
+        return f"{self.scripts} scripts, {self.frames} frames, {self.packets} packets, {self.hidden} of them hidden: {self.wrong} wrong"
+
+
+def random_case(dice, clips):
+    """One or two clips of one size, a script, and the source and frame of each of its frames."""
+    one = dice.choice(clips)
+    others = [it for it in clips if it.size == one.size and it is not one]
+    mine = [one] + ([dice.choice(others)] if others and dice.random() < 0.6 else [])
+    script, origins = random_script(dice, mine)
+    if dice.random() < 0.02:
+        # Without a script: the clip's own packets, but for those that change nothing.
+        return [one], "", [(0, n) for n in range(len(one.shown))]
+    return mine, script, origins
+
+
+def compare(case, decoders, is_model, room, totals):
+    """What is wrong with the packets of a script."""
+    clips, script, origins = case
+    targets = [(source, clips[source].shown[n]) for source, n in origins]
+    packets = exported(clips, targets, hold_packet(clips[0].size, room))
+    want, size = served(clips, script or "-", len(targets), room)
+    out, said = f"{room}/export.ivf", []
+    if is_model:
+        with open(out, "wb") as file:
+            file.write(ivf(clips[0].head, packets))
+    else:
+        said += check_export(clips, targets, packets, export(clips, script, out))
+    got = {name: decoded(name, out, room) for name in decoders}
+    if not is_model:
+        export([Clip(out)], "", f"{room}/again.ivf")
+        got["the export of the export"] = decoded("vpxdec", f"{room}/again.ivf", room)
+    for name, data in got.items():
+        if data != want:
+            first = next((n for n in range(len(targets)) if data[n * size : (n + 1) * size] != want[n * size : (n + 1) * size]), len(targets))
+            said.append(f"{name}: {len(data) / size:g} of {len(targets)} frames, the first wrong one {first}")
+    totals.scripts, totals.frames, totals.packets = totals.scripts + 1, totals.frames + len(targets), totals.packets + len(packets)
+    totals.hidden, totals.wrong = totals.hidden + sum(not shown for shown, _ in packets), totals.wrong + len(said)
+    return said
+
+
 def main():
     words = argparse.ArgumentParser(description=__doc__.splitlines()[0])
     words.add_argument("clips", nargs="*", default=real_streams())
@@ -210,40 +257,19 @@ def main():
     if not is_there and not args.model:
         raise SystemExit(f"{VP8SERVE} has no --export: compare/exports.py --model compares the packets of the definition")
     decoders = ["vpxdec"] + ["ffmpeg"] * (not args.no_ffmpeg)
-    dice, clips, wrong, frames, leads, written = random.Random(args.seed), [it for it in map(Clip, args.clips) if len(it.sizes) == 1], 0, 0, 0, 0
+    dice, totals = random.Random(args.seed), Totals()
+    clips = [it for it in map(Clip, args.clips) if len(it.sizes) == 1]
     with tempfile.TemporaryDirectory() as room:
         clips += [with_drops(dice, clip, f"{room}/drops-{number}.ivf") for number, clip in enumerate(clips)]
-        for number in range(args.scripts):
-            one = dice.choice(clips)
-            others = [it for it in clips if it.size == one.size and it is not one]
-            mine = [one] + ([dice.choice(others)] if others and dice.random() < 0.6 else [])
-            script, origins = random_script(dice, mine)
-            if dice.random() < 0.02:
-                # Without a script: the clip's own packets, but for those that change nothing.
-                mine, script, origins = [one], "", [(0, n) for n in range(len(one.shown))]
-            targets = [(source, mine[source].shown[n]) for source, n in origins]
-            packets = exported(mine, targets, hold_packet(one.size, room))
-            want, size = served(mine, script or "-", len(targets), room)
-            out, said = f"{room}/export.ivf", []
-            if args.model:
-                with open(out, "wb") as file:
-                    file.write(ivf(one.head, packets))
-            else:
-                said += check_export(mine, targets, packets, export(mine, script, out))
-            got = {name: decoded(name, out, room) for name in decoders}
-            if not args.model:
-                export([Clip(out)], "", f"{room}/again.ivf")
-                got["the export of the export"] = decoded("vpxdec", f"{room}/again.ivf", room)
-            for name, data in got.items():
-                if data != want:
-                    first = next((n for n in range(len(targets)) if data[n * size : (n + 1) * size] != want[n * size : (n + 1) * size]), len(targets))
-                    said.append(f"{name}: {len(data) / size:g} of {len(targets)} frames, the first wrong one {first}")
-            for text in said:
-                print(f"script {number} of {[os.path.basename(it.path) for it in mine]}: {script}: {text}", flush=True)
-            wrong += len(said)
-            frames, leads, written = frames + len(targets), leads + sum(not shown for shown, _ in packets), written + len(packets)
-    print(f"{args.scripts} scripts, {frames} frames, {written} packets, {leads} of them hidden: {wrong} wrong")
-    return 1 if wrong else 0
+        try:
+            for number in range(args.scripts):
+                case = random_case(dice, clips)
+                for text in compare(case, decoders, args.model, room, totals):
+                    print(f"script {number} of {[os.path.basename(it.path) for it in case[0]]}: {case[1]}: {text}", flush=True)
+        except KeyboardInterrupt:
+            print(f"interrupted after {totals.scripts} scripts")
+    print(totals.text())
+    return 1 if totals.wrong else 0
 
 
 if __name__ == "__main__":
