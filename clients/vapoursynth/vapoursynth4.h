@@ -1,4 +1,4 @@
-/* The part of VapourSynth's interface for plugins, version 4, that wokureti.c uses, declared anew from its documentation
+/* The part of VapourSynth's interface for plugins, version 4, that wokureti.c uses, declared anew after its API 4
  * (vapoursynth.com/doc/api/vapoursynth4.h.html): the names are VapourSynth's, and a member that is not used is a gap. Where the compiler
  * finds VapourSynth's own header, that one is taken, and this file declares nothing. */
 #ifndef WOKURETI_VAPOURSYNTH4_H
