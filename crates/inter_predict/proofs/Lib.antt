@@ -5,5 +5,6 @@ pub mod PairedLanes
 pub mod Predicted
 pub mod StripRows
 pub mod TappedLanes
+pub mod SummedLanes
 pub mod TapSums
 pub mod Twice

@@ -10,7 +10,7 @@ use std::simd::prelude::*;
 
 /// The lanes of `added` less the lanes of `taken`, clamped at 0.
 #[inline(always)]
-fn clamped_rests<const N: usize>(added: Simd<u16, N>, taken: Simd<u16, N>) -> Simd<u16, N>
+pub fn clamped_rests<const N: usize>(added: Simd<u16, N>, taken: Simd<u16, N>) -> Simd<u16, N>
     ensures { result ≡ zip2 (λ a b. a - b) added.entry taken.entry }
 {
     added.saturating_sub(taken)

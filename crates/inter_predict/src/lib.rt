@@ -14,6 +14,7 @@ mod samples;
 mod sources;
 mod strips;
 mod taps;
+mod weights;
 mod windows;
 
 pub use blocks::{block, block_in, pair_in};
