@@ -122,11 +122,6 @@ parts_four n as1 bs cs ds es fs uppers highs threes a b c d e f upper high three
     (bytes.0 lane less) (bytes.1 lane less) (bytes.2 lane less) (bytes.3 lane less) (bytes.4 lane less) (bytes.5 lane less)
     (middle.each lane less) (upper_is lane less) (inner.each lane less) (high_is lane less) (step.each lane less) (three_is lane less) (sum.each lane less)
 
--- the sample for a sum as 16 bits hold it, which is that of the parts that are added and taken
-sample_of : (sum added taken : ℕ) → sum < 65536 → (sum + taken) % 65536 ≡ added % 65536 → added ≤ 255 * 160 → taken ≤ 255 * 32 → min (((sum + 8256) % 65536 - 8192) / 128) 255 ≡ min ((added + 64 - taken) / 128) 255
-sample_of sum added taken fits same most_added most_taken =
-    let rest : (sum + 8256) % 65536 - 8192 ≡ added + 64 - taken = omega arith in
-    ap (λ (x : ℕ). min (x / 128) 255) rest
-
+-- sums that are raised and lowered again, clamped at 0
 pub raised_lanes : (n : ℕ) (sums : List ℕ) → length sums ≡ n → (lane : ℕ) → lane < n → slice_index (zip2 (λ a b. a - b) (plus sums (replicate n 8256)) (replicate n 8192)) lane ≡ (slice_index sums lane + 8256) % 65536 - 8192
 raised_lanes n sums long = (combined (λ a b. a - b) n _ _ _ _ (plus_lanes n _ _ _ _ (own n sums long) (splat n 8256)) (splat n 8192)).each

@@ -52,13 +52,14 @@ fn filter_across<const N: usize, S: Samples<N>>(
     ensures other { S.width < N → IsStrip (λ column row. tapped_from taps (S.sample rows.samples) (S.width + column) (row * rows.stride + rows.start)) strip.first (N - S.width) strip.height strip.stride other.old other.new }
 {
     if taps.are_two() {
-        let taps = taps.as_two();
-        stored::<N, Across<S>, S>(Across { rows, taps }, strip, out, other);
+        let weights = taps.as_two();
+        stored::<N, Across<S, Taps>, S>(Across { rows, weights }, strip, out, other);
     } else if taps.are_four() {
-        let taps = taps.as_four();
-        stored::<N, Across<S>, S>(Across { rows, taps }, strip, out, other);
+        let weights = taps.as_four();
+        stored::<N, Across<S, Taps>, S>(Across { rows, weights }, strip, out, other);
     } else {
-        stored::<N, Across<S>, S>(Across { rows, taps }, strip, out, other);
+        let weights = taps;
+        stored::<N, Across<S, Taps>, S>(Across { rows, weights }, strip, out, other);
     }
 }
 
@@ -85,14 +86,14 @@ fn filter_both<const N: usize, S: Samples<N>>(
 {
     let Filters { across, down } = filters;
     if filters.are_two() {
-        let taps = across.as_two();
-        two_down::<N, Across<S>, S>(Across { rows, taps }, down, strip, out, other);
+        let weights = across.as_two();
+        two_down::<N, Across<S, Taps>, S>(Across { rows, weights }, down, strip, out, other);
     } else if across.are_four() {
-        let taps = across.as_four();
-        wide_down::<N, Across<S>, S>(Across { rows, taps }, down, strip, out, other);
+        let weights = across.as_four();
+        wide_down::<N, Across<S, Taps>, S>(Across { rows, weights }, down, strip, out, other);
     } else {
-        let taps = across;
-        wide_down::<N, Across<S>, S>(Across { rows, taps }, down, strip, out, other);
+        let weights = across;
+        wide_down::<N, Across<S, Taps>, S>(Across { rows, weights }, down, strip, out, other);
     }
 }
 

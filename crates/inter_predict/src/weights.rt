@@ -1,9 +1,9 @@
 //! The six-tap filters as sums of shifted samples.
 
-ghost use Rattle.std.specs.Prelude.{◌≡◌, ℕ, [], ◌∷◌, ◌+◌, ◌-◌, ◌*◌, ◌/◌, ◌%◌, ◌^◌, ◌<◌, min, slice_index};
+ghost use Rattle.std.specs.Prelude.{◌≡◌, ℕ, ◌+◌, ◌-◌, ◌*◌, ◌/◌, ◌%◌, ◌^◌, ◌<◌, min, slice_index};
 ghost use Rattle.inter_predict.specs.declared.taps.Taps.{Taps};
-ghost use Rattle.inter_predict.specs.Kernels.{IsTaps, taps_of};
-ghost use Rattle.inter_predict.specs.Weights.{AreSamples, AreSix, weighed_at};
+ghost use Rattle.inter_predict.specs.Kernels.{IsTaps, six_taps};
+ghost use Rattle.inter_predict.specs.Weights.{AreSamples, weighed_by};
 
 use crate::lanes::{added, clamped_rests, clamped_samples, taken, whole_samples};
 use crate::taps::Taps;
@@ -11,19 +11,24 @@ use crate::taps::Taps;
 use std::simd::Simd;
 use std::simd::prelude::*;
 
-/// Six lines of samples in lanes of 16 bits: those that the taps of a filter weigh.
-pub type Six<const N: usize> = [Simd<u16, N>; 6];
-
 /// The taps of a filter, as lines of samples are weighed with them.
 pub trait Weights<const N: usize>: Copy {
     // the taps
     ghost taps: { Self → Taps };
 
     /// The samples that the taps return for six lines of samples.
-    fn weighed(self, six: Six<N>) -> Simd<u16, N>
+    fn weighed(
+        self,
+        a: Simd<u16, N>,
+        b: Simd<u16, N>,
+        c: Simd<u16, N>,
+        d: Simd<u16, N>,
+        e: Simd<u16, N>,
+        f: Simd<u16, N>,
+    ) -> Simd<u16, N>
         requires small { IsTaps (taps self) }
-        requires samples { AreSix N six }
-        ensures { (lane : ℕ) → lane < N → slice_index result lane ≡ weighed_at (taps self) six.entry lane };
+        requires samples { AreSamples N a × AreSamples N b × AreSamples N c × AreSamples N d × AreSamples N e × AreSamples N f }
+        ensures { (lane : ℕ) → lane < N → slice_index result lane ≡ weighed_by (taps self) (slice_index a.entry lane) (slice_index b.entry lane) (slice_index c.entry lane) (slice_index d.entry lane) (slice_index e.entry lane) (slice_index f.entry lane) };
 }
 
 /// By products.
@@ -31,14 +36,22 @@ impl<const N: usize> Weights<N> for Taps {
     ghost taps = { λ taps. taps };
 
     #[inline(always)]
-    fn weighed(self, six: Six<N>) -> Simd<u16, N>
+    fn weighed(
+        self,
+        a: Simd<u16, N>,
+        b: Simd<u16, N>,
+        c: Simd<u16, N>,
+        d: Simd<u16, N>,
+        e: Simd<u16, N>,
+        f: Simd<u16, N>,
+    ) -> Simd<u16, N>
         requires small { IsTaps self }
-        requires samples { AreSix N six }
-        ensures { (lane : ℕ) → lane < N → slice_index result lane ≡ weighed_at self six.entry lane }
+        requires samples { AreSamples N a × AreSamples N b × AreSamples N c × AreSamples N d × AreSamples N e × AreSamples N f }
+        ensures { (lane : ℕ) → lane < N → slice_index result lane ≡ weighed_by self (slice_index a.entry lane) (slice_index b.entry lane) (slice_index c.entry lane) (slice_index d.entry lane) (slice_index e.entry lane) (slice_index f.entry lane) }
     {
         whole_samples(
-            added(six[0], six[2], six[3], six[5], self),
-            taken(six[1], six[4], self),
+            added(a, c, d, f, self),
+            taken(b, e, self),
         )
     }
 }
@@ -139,14 +152,22 @@ fn rounded<const N: usize>(sums: Simd<u16, N>) -> Simd<u16, N>
 pub struct OneEighth;
 
 impl<const N: usize> Weights<N> for OneEighth {
-    ghost taps = { λ own. taps_of (0 ∷ 6 ∷ 123 ∷ 12 ∷ 1 ∷ 0 ∷ []) };
+    ghost taps = { λ own. six_taps 1 };
 
     #[inline(always)]
-    fn weighed(self, six: Six<N>) -> Simd<u16, N>
-        requires samples { AreSix N six }
-        ensures { (lane : ℕ) → lane < N → slice_index result lane ≡ weighed_at (taps_of (0 ∷ 6 ∷ 123 ∷ 12 ∷ 1 ∷ 0 ∷ [])) six.entry lane }
+    fn weighed(
+        self,
+        a: Simd<u16, N>,
+        b: Simd<u16, N>,
+        c: Simd<u16, N>,
+        d: Simd<u16, N>,
+        e: Simd<u16, N>,
+        f: Simd<u16, N>,
+    ) -> Simd<u16, N>
+        requires samples { AreSamples N a × AreSamples N b × AreSamples N c × AreSamples N d × AreSamples N e × AreSamples N f }
+        ensures { (lane : ℕ) → lane < N → slice_index result lane ≡ weighed_by (six_taps 1) (slice_index a.entry lane) (slice_index b.entry lane) (slice_index c.entry lane) (slice_index d.entry lane) (slice_index e.entry lane) (slice_index f.entry lane) }
     {
-        rounded(sum_one(six[1], six[2], six[3], six[4]))
+        rounded(sum_one(b, c, d, e))
     }
 }
 
@@ -155,14 +176,22 @@ impl<const N: usize> Weights<N> for OneEighth {
 pub struct TwoEighths;
 
 impl<const N: usize> Weights<N> for TwoEighths {
-    ghost taps = { λ own. taps_of (2 ∷ 11 ∷ 108 ∷ 36 ∷ 8 ∷ 1 ∷ []) };
+    ghost taps = { λ own. six_taps 2 };
 
     #[inline(always)]
-    fn weighed(self, six: Six<N>) -> Simd<u16, N>
-        requires samples { AreSix N six }
-        ensures { (lane : ℕ) → lane < N → slice_index result lane ≡ weighed_at (taps_of (2 ∷ 11 ∷ 108 ∷ 36 ∷ 8 ∷ 1 ∷ [])) six.entry lane }
+    fn weighed(
+        self,
+        a: Simd<u16, N>,
+        b: Simd<u16, N>,
+        c: Simd<u16, N>,
+        d: Simd<u16, N>,
+        e: Simd<u16, N>,
+        f: Simd<u16, N>,
+    ) -> Simd<u16, N>
+        requires samples { AreSamples N a × AreSamples N b × AreSamples N c × AreSamples N d × AreSamples N e × AreSamples N f }
+        ensures { (lane : ℕ) → lane < N → slice_index result lane ≡ weighed_by (six_taps 2) (slice_index a.entry lane) (slice_index b.entry lane) (slice_index c.entry lane) (slice_index d.entry lane) (slice_index e.entry lane) (slice_index f.entry lane) }
     {
-        rounded(sum_two(six[0], six[1], six[2], six[3], six[4], six[5]))
+        rounded(sum_two(a, b, c, d, e, f))
     }
 }
 
@@ -171,14 +200,22 @@ impl<const N: usize> Weights<N> for TwoEighths {
 pub struct ThreeEighths;
 
 impl<const N: usize> Weights<N> for ThreeEighths {
-    ghost taps = { λ own. taps_of (0 ∷ 9 ∷ 93 ∷ 50 ∷ 6 ∷ 0 ∷ []) };
+    ghost taps = { λ own. six_taps 3 };
 
     #[inline(always)]
-    fn weighed(self, six: Six<N>) -> Simd<u16, N>
-        requires samples { AreSix N six }
-        ensures { (lane : ℕ) → lane < N → slice_index result lane ≡ weighed_at (taps_of (0 ∷ 9 ∷ 93 ∷ 50 ∷ 6 ∷ 0 ∷ [])) six.entry lane }
+    fn weighed(
+        self,
+        a: Simd<u16, N>,
+        b: Simd<u16, N>,
+        c: Simd<u16, N>,
+        d: Simd<u16, N>,
+        e: Simd<u16, N>,
+        f: Simd<u16, N>,
+    ) -> Simd<u16, N>
+        requires samples { AreSamples N a × AreSamples N b × AreSamples N c × AreSamples N d × AreSamples N e × AreSamples N f }
+        ensures { (lane : ℕ) → lane < N → slice_index result lane ≡ weighed_by (six_taps 3) (slice_index a.entry lane) (slice_index b.entry lane) (slice_index c.entry lane) (slice_index d.entry lane) (slice_index e.entry lane) (slice_index f.entry lane) }
     {
-        rounded(sum_three(six[1], six[2], six[3], six[4]))
+        rounded(sum_three(b, c, d, e))
     }
 }
 
@@ -187,14 +224,22 @@ impl<const N: usize> Weights<N> for ThreeEighths {
 pub struct FourEighths;
 
 impl<const N: usize> Weights<N> for FourEighths {
-    ghost taps = { λ own. taps_of (3 ∷ 16 ∷ 77 ∷ 77 ∷ 16 ∷ 3 ∷ []) };
+    ghost taps = { λ own. six_taps 4 };
 
     #[inline(always)]
-    fn weighed(self, six: Six<N>) -> Simd<u16, N>
-        requires samples { AreSix N six }
-        ensures { (lane : ℕ) → lane < N → slice_index result lane ≡ weighed_at (taps_of (3 ∷ 16 ∷ 77 ∷ 77 ∷ 16 ∷ 3 ∷ [])) six.entry lane }
+    fn weighed(
+        self,
+        a: Simd<u16, N>,
+        b: Simd<u16, N>,
+        c: Simd<u16, N>,
+        d: Simd<u16, N>,
+        e: Simd<u16, N>,
+        f: Simd<u16, N>,
+    ) -> Simd<u16, N>
+        requires samples { AreSamples N a × AreSamples N b × AreSamples N c × AreSamples N d × AreSamples N e × AreSamples N f }
+        ensures { (lane : ℕ) → lane < N → slice_index result lane ≡ weighed_by (six_taps 4) (slice_index a.entry lane) (slice_index b.entry lane) (slice_index c.entry lane) (slice_index d.entry lane) (slice_index e.entry lane) (slice_index f.entry lane) }
     {
-        rounded(sum_four(six[0], six[1], six[2], six[3], six[4], six[5]))
+        rounded(sum_four(a, b, c, d, e, f))
     }
 }
 
@@ -203,14 +248,22 @@ impl<const N: usize> Weights<N> for FourEighths {
 pub struct FiveEighths;
 
 impl<const N: usize> Weights<N> for FiveEighths {
-    ghost taps = { λ own. taps_of (0 ∷ 6 ∷ 50 ∷ 93 ∷ 9 ∷ 0 ∷ []) };
+    ghost taps = { λ own. six_taps 5 };
 
     #[inline(always)]
-    fn weighed(self, six: Six<N>) -> Simd<u16, N>
-        requires samples { AreSix N six }
-        ensures { (lane : ℕ) → lane < N → slice_index result lane ≡ weighed_at (taps_of (0 ∷ 6 ∷ 50 ∷ 93 ∷ 9 ∷ 0 ∷ [])) six.entry lane }
+    fn weighed(
+        self,
+        a: Simd<u16, N>,
+        b: Simd<u16, N>,
+        c: Simd<u16, N>,
+        d: Simd<u16, N>,
+        e: Simd<u16, N>,
+        f: Simd<u16, N>,
+    ) -> Simd<u16, N>
+        requires samples { AreSamples N a × AreSamples N b × AreSamples N c × AreSamples N d × AreSamples N e × AreSamples N f }
+        ensures { (lane : ℕ) → lane < N → slice_index result lane ≡ weighed_by (six_taps 5) (slice_index a.entry lane) (slice_index b.entry lane) (slice_index c.entry lane) (slice_index d.entry lane) (slice_index e.entry lane) (slice_index f.entry lane) }
     {
-        rounded(sum_three(six[4], six[3], six[2], six[1]))
+        rounded(sum_three(e, d, c, b))
     }
 }
 
@@ -219,14 +272,22 @@ impl<const N: usize> Weights<N> for FiveEighths {
 pub struct SixEighths;
 
 impl<const N: usize> Weights<N> for SixEighths {
-    ghost taps = { λ own. taps_of (1 ∷ 8 ∷ 36 ∷ 108 ∷ 11 ∷ 2 ∷ []) };
+    ghost taps = { λ own. six_taps 6 };
 
     #[inline(always)]
-    fn weighed(self, six: Six<N>) -> Simd<u16, N>
-        requires samples { AreSix N six }
-        ensures { (lane : ℕ) → lane < N → slice_index result lane ≡ weighed_at (taps_of (1 ∷ 8 ∷ 36 ∷ 108 ∷ 11 ∷ 2 ∷ [])) six.entry lane }
+    fn weighed(
+        self,
+        a: Simd<u16, N>,
+        b: Simd<u16, N>,
+        c: Simd<u16, N>,
+        d: Simd<u16, N>,
+        e: Simd<u16, N>,
+        f: Simd<u16, N>,
+    ) -> Simd<u16, N>
+        requires samples { AreSamples N a × AreSamples N b × AreSamples N c × AreSamples N d × AreSamples N e × AreSamples N f }
+        ensures { (lane : ℕ) → lane < N → slice_index result lane ≡ weighed_by (six_taps 6) (slice_index a.entry lane) (slice_index b.entry lane) (slice_index c.entry lane) (slice_index d.entry lane) (slice_index e.entry lane) (slice_index f.entry lane) }
     {
-        rounded(sum_two(six[5], six[4], six[3], six[2], six[1], six[0]))
+        rounded(sum_two(f, e, d, c, b, a))
     }
 }
 
@@ -235,13 +296,21 @@ impl<const N: usize> Weights<N> for SixEighths {
 pub struct SevenEighths;
 
 impl<const N: usize> Weights<N> for SevenEighths {
-    ghost taps = { λ own. taps_of (0 ∷ 1 ∷ 12 ∷ 123 ∷ 6 ∷ 0 ∷ []) };
+    ghost taps = { λ own. six_taps 7 };
 
     #[inline(always)]
-    fn weighed(self, six: Six<N>) -> Simd<u16, N>
-        requires samples { AreSix N six }
-        ensures { (lane : ℕ) → lane < N → slice_index result lane ≡ weighed_at (taps_of (0 ∷ 1 ∷ 12 ∷ 123 ∷ 6 ∷ 0 ∷ [])) six.entry lane }
+    fn weighed(
+        self,
+        a: Simd<u16, N>,
+        b: Simd<u16, N>,
+        c: Simd<u16, N>,
+        d: Simd<u16, N>,
+        e: Simd<u16, N>,
+        f: Simd<u16, N>,
+    ) -> Simd<u16, N>
+        requires samples { AreSamples N a × AreSamples N b × AreSamples N c × AreSamples N d × AreSamples N e × AreSamples N f }
+        ensures { (lane : ℕ) → lane < N → slice_index result lane ≡ weighed_by (six_taps 7) (slice_index a.entry lane) (slice_index b.entry lane) (slice_index c.entry lane) (slice_index d.entry lane) (slice_index e.entry lane) (slice_index f.entry lane) }
     {
-        rounded(sum_one(six[4], six[3], six[2], six[1]))
+        rounded(sum_one(e, d, c, b))
     }
 }
