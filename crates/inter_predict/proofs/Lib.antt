@@ -1,5 +1,6 @@
 pub mod FilterLaws
 pub mod HeldLanes
+pub mod KeptLines
 pub mod FarPieces
 pub mod PairedLanes
 pub mod Predicted

@@ -1,6 +1,6 @@
 -- Sums of shifted samples in lanes of 16 bits.
-use Rattle.std.specs.Prelude.{min, replicate, slice_index}
-use Rattle.std.proofs.Common.{◌≡◌, ℕ, ◌+◌, ◌-◌, ◌<◌, ◌*◌, ◌/◌, ◌%◌, ◌^◌, ◌≤◌, List, length, ap, ◌∙◌, arith}
+use Rattle.std.specs.Prelude.{replicate, slice_index}
+use Rattle.std.proofs.Common.{◌≡◌, ℕ, ◌+◌, ◌-◌, ◌<◌, ◌*◌, ◌%◌, ◌^◌, List, length, ap, ◌∙◌, arith}
 use lib.Lanes.{zip2}
 use Rattle.inter_predict.specs.Weights.{AreSamples}
 use Rattle.inter_predict.proofs.TappedLanes.{IsLanes, combined, own, plus, splat}

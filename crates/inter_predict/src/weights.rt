@@ -7,7 +7,6 @@ ghost use Rattle.inter_predict.specs.Weights.{AreSamples, weighed_by};
 
 use crate::lanes::{added, clamped_rests, clamped_samples, taken, whole_samples};
 use crate::taps::Taps;
-
 use std::simd::Simd;
 use std::simd::prelude::*;
 
@@ -49,10 +48,7 @@ impl<const N: usize> Weights<N> for Taps {
         requires samples { AreSamples N a × AreSamples N b × AreSamples N c × AreSamples N d × AreSamples N e × AreSamples N f }
         ensures { (lane : ℕ) → lane < N → slice_index result lane ≡ weighed_by self (slice_index a.entry lane) (slice_index b.entry lane) (slice_index c.entry lane) (slice_index d.entry lane) (slice_index e.entry lane) (slice_index f.entry lane) }
     {
-        whole_samples(
-            added(a, c, d, f, self),
-            taken(b, e, self),
-        )
+        whole_samples(added(a, c, d, f, self), taken(b, e, self))
     }
 }
 
@@ -145,7 +141,6 @@ fn rounded<const N: usize>(sums: Simd<u16, N>) -> Simd<u16, N>
     let raised = sums + Simd::<u16, N>::splat(8256);
     clamped_samples(clamped_rests(raised, Simd::<u16, N>::splat(8192)))
 }
-
 
 /// The six-tap filter for an eighth, by shifts and sums.
 #[derive(Clone, Copy)]
