@@ -5,4 +5,5 @@ pub mod Blocks
 pub mod BlockRows
 pub mod Ends
 pub mod Stale
+pub mod Rows
 pub mod Worked

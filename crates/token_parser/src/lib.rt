@@ -6,6 +6,7 @@ mod block_tokens;
 pub mod laws;
 mod macroblocks;
 mod places;
+mod rows;
 mod sizes;
 mod tokens;
 

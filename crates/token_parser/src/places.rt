@@ -8,7 +8,7 @@ const BANDS: [usize; 16] = [0, 1, 2, 3, 6, 4, 5, 6, 6, 6, 6, 6, 6, 6, 6, 7];
 
 /// The offset of the probabilities of each index's band within its kind: a band has 3 contexts by
 /// 11 nodes.
-const BAND_STARTS: [usize; 16] = [
+pub(crate) const BAND_STARTS: [usize; 16] = [
     0, 33, 66, 99, 198, 132, 165, 198, 198, 198, 198, 198, 198, 198, 198, 231,
 ];
 
