@@ -3,7 +3,8 @@
 ghost use Rattle.std.specs.Prelude.{◌≡◌, ◌-◌, ◌<◌, ◌≤◌, false, true, nat_lt, pos, replicate, if◌then◌else◌};
 ghost use Rattle.token_parser.specs.Tokens.{signed_size, tokens_from};
 
-use crate::places::{ZIGZAG, nodes_at};
+use crate::places::ZIGZAG;
+use crate::rows::Rows;
 use crate::sizes::read_size;
 use bool_coder::Decoder;
 
@@ -23,7 +24,7 @@ fn read_sign(reader: &mut Decoder, size: u16) -> i16
 #[inline]
 fn read_more_tokens(
     reader: &mut Decoder,
-    probs: &[u8; 1056],
+    rows: &Rows,
     kind: usize,
     first: usize,
     flags: usize,
@@ -32,24 +33,24 @@ fn read_more_tokens(
     requires kind { kind < 4 }
     requires first { first < 16 }
     requires context { flags < 3 }
-    ensures value { tokens_from (16 - first) probs.now kind first flags true coefficients.old reader.old ≡ ((coefficients.new, result), reader.new) }
+    ensures value { tokens_from (16 - first) rows.now kind first flags true coefficients.old reader.old ≡ ((coefficients.new, result), reader.new) }
     ensures least { first ≤ result }
     ensures most { result ≤ 16 }
 {
     let mut place = first;
     let mut context = flags;
-    let mut nodes = nodes_at(probs, kind, place, context);
+    let mut nodes = rows.nodes_at(kind, place, context);
     'tokens: loop {
-        if reader.bit(nodes[1]) {
-            let size = read_size(reader, nodes);
+        if nodes.bit(reader, 1) {
+            let size = read_size(reader, &nodes);
             coefficients[ZIGZAG[place]] = read_sign(reader, size);
             place += 1;
             if place == 16 {
                 return 16;
             }
             context = if size > 1 { 2 } else { 1 };
-            nodes = nodes_at(probs, kind, place, context);
-            if !reader.bit(nodes[0]) {
+            nodes = rows.nodes_at(kind, place, context);
+            if !nodes.bit(reader, 0) {
                 return place;
             }
         } else {
@@ -58,7 +59,7 @@ fn read_more_tokens(
                 return 16;
             }
             context = 0;
-            nodes = nodes_at(probs, kind, place, context);
+            nodes = rows.nodes_at(kind, place, context);
         }
     }
 }
@@ -68,7 +69,7 @@ fn read_more_tokens(
 #[inline(never)]
 fn read_rest(
     decoder: &mut Decoder,
-    probs: &[u8; 1056],
+    rows: &Rows,
     kind: usize,
     first: usize,
     flags: usize,
@@ -77,12 +78,12 @@ fn read_rest(
     requires kind { kind < 4 }
     requires first { first < 16 }
     requires context { flags < 3 }
-    ensures value { tokens_from (16 - first) probs.now kind first flags true coefficients.old decoder.old ≡ ((coefficients.new, result), decoder.new) }
+    ensures value { tokens_from (16 - first) rows.now kind first flags true coefficients.old decoder.old ≡ ((coefficients.new, result), decoder.new) }
     ensures least { first ≤ result }
     ensures most { result ≤ 16 }
 {
     let mut reader = decoder.copied();
-    let end = read_more_tokens(&mut reader, probs, kind, first, flags, coefficients);
+    let end = read_more_tokens(&mut reader, rows, kind, first, flags, coefficients);
     *decoder = reader;
     end
 }
@@ -92,7 +93,7 @@ fn read_rest(
 #[inline(always)]
 pub(crate) fn read_tokens(
     reader: &mut Decoder,
-    probs: &[u8; 1056],
+    rows: &Rows,
     kind: usize,
     first: usize,
     flags: usize,
@@ -101,13 +102,13 @@ pub(crate) fn read_tokens(
     requires kind { kind < 4 }
     requires first { first < 16 }
     requires context { flags < 3 }
-    ensures value { tokens_from (16 - first) probs.now kind first flags false coefficients.old reader.old ≡ ((coefficients.new, result), reader.new) }
+    ensures value { tokens_from (16 - first) rows.now kind first flags false coefficients.old reader.old ≡ ((coefficients.new, result), reader.new) }
     ensures least { first ≤ result }
     ensures most { result ≤ 16 }
 {
-    if reader.bit(nodes_at(probs, kind, first, flags)[0]) {
+    if rows.nodes_at(kind, first, flags).bit(reader, 0) {
         let mut local = reader.copied();
-        let end = read_rest(&mut local, probs, kind, first, flags, coefficients);
+        let end = read_rest(&mut local, rows, kind, first, flags, coefficients);
         *reader = local;
         end
     } else {
@@ -120,7 +121,7 @@ pub(crate) fn read_tokens(
 #[inline(always)]
 pub(crate) fn read_fresh_tokens(
     reader: &mut Decoder,
-    probs: &[u8; 1056],
+    rows: &Rows,
     kind: usize,
     first: usize,
     flags: usize,
@@ -129,13 +130,13 @@ pub(crate) fn read_fresh_tokens(
     requires kind { kind < 4 }
     requires first { first < 16 }
     requires context { flags < 3 }
-    ensures value { tokens_from (16 - first) probs.now kind first flags false (replicate 16 (pos 0)) reader.old ≡ ((if nat_lt first result then coefficients.new else replicate 16 (pos 0), result), reader.new) }
+    ensures value { tokens_from (16 - first) rows.now kind first flags false (replicate 16 (pos 0)) reader.old ≡ ((if nat_lt first result then coefficients.new else replicate 16 (pos 0), result), reader.new) }
     ensures most { result ≤ 16 }
 {
-    if reader.bit(nodes_at(probs, kind, first, flags)[0]) {
+    if rows.nodes_at(kind, first, flags).bit(reader, 0) {
         *coefficients = [0; 16];
         let mut local = reader.copied();
-        let end = read_rest(&mut local, probs, kind, first, flags, coefficients);
+        let end = read_rest(&mut local, rows, kind, first, flags, coefficients);
         *reader = local;
         end
     } else {

@@ -11,4 +11,5 @@ mod sizes;
 mod tokens;
 
 pub use macroblocks::{read_macroblock, read_next_macroblock, skip_macroblock};
+pub use rows::Rows;
 pub use tokens::Tokens;

@@ -8,6 +8,7 @@ ghost use Rattle.token_parser.specs.Stale.{without_stale, seen};
 
 use crate::block_position::BlockPosition;
 use crate::block_tokens::{read_fresh_tokens, read_tokens};
+use crate::rows::Rows;
 use crate::tokens::Tokens;
 use bool_coder::Decoder;
 
@@ -67,21 +68,21 @@ fn first_position(has_y2: bool, index: usize) -> usize
 #[inline(always)]
 fn read_block(
     reader: &mut Decoder,
-    probs: &[u8; 1056],
+    rows: &Rows,
     at: BlockPosition,
     clears: bool,
     tokens: &mut Tokens,
 )
     requires { IsInside at }
-    ensures value { (has_y2 : Bool) → first_position has_y2 at.index ≡ at.first → (clears ≡ true → slice_index_or tokens.old.ends at.index 0 ≡ 0) → block probs.now at (seen clears has_y2 tokens.old) reader.old ≡ (seen clears has_y2 tokens.new, reader.new) }
+    ensures value { (has_y2 : Bool) → first_position has_y2 at.index ≡ at.first → (clears ≡ true → slice_index_or tokens.old.ends at.index 0 ≡ 0) → block rows.now at (seen clears has_y2 tokens.old) reader.old ≡ (seen clears has_y2 tokens.new, reader.new) }
     ensures others { (k : ℕ) → k ≢ at.index → slice_index_or tokens.new.ends k 0 ≡ slice_index_or tokens.old.ends k 0 }
 {
     let flags = tokens.left[at.left] as usize + tokens.above[at.above] as usize;
     let coefficients = &mut tokens.coefficients[at.index];
     let end = if clears {
-        read_fresh_tokens(reader, probs, at.kind, at.first, flags, coefficients)
+        read_fresh_tokens(reader, rows, at.kind, at.first, flags, coefficients)
     } else {
-        read_tokens(reader, probs, at.kind, at.first, flags, coefficients)
+        read_tokens(reader, rows, at.kind, at.first, flags, coefficients)
     };
     let has_token = end > at.first;
     tokens.above[at.above] = has_token;
@@ -93,14 +94,14 @@ fn read_block(
 #[inline(always)]
 fn read_row(
     reader: &mut Decoder,
-    probs: &[u8; 1056],
+    rows: &Rows,
     at: BlockPosition,
     count: usize,
     clears: bool,
     tokens: &mut Tokens,
 )
     requires { IsRowInside count at }
-    ensures { (has_y2 : Bool) → ((n : ℕ) → n < count → first_position has_y2 (at.index + n) ≡ at.first) → (clears ≡ true → (n : ℕ) → n < count → slice_index_or tokens.old.ends (at.index + n) 0 ≡ 0) → row count probs.now at (seen clears has_y2 tokens.old) reader.old ≡ (seen clears has_y2 tokens.new, reader.new) }
+    ensures { (has_y2 : Bool) → ((n : ℕ) → n < count → first_position has_y2 (at.index + n) ≡ at.first) → (clears ≡ true → (n : ℕ) → n < count → slice_index_or tokens.old.ends (at.index + n) 0 ≡ 0) → row count rows.now at (seen clears has_y2 tokens.old) reader.old ≡ (seen clears has_y2 tokens.new, reader.new) }
 {
     for n in 0..count {
         let here = BlockPosition {
@@ -108,7 +109,7 @@ fn read_row(
             above: at.above + n,
             ..at
         };
-        read_block(reader, probs, here, clears, tokens);
+        read_block(reader, rows, here, clears, tokens);
     }
 }
 
@@ -131,15 +132,15 @@ fn luma_row(has_y2: bool, y: usize) -> BlockPosition
 #[inline(always)]
 fn read_luma(
     reader: &mut Decoder,
-    probs: &[u8; 1056],
+    rows: &Rows,
     has_y2: bool,
     clears: bool,
     tokens: &mut Tokens,
 )
-    ensures { (before : Tokens) (r : Reader) → (clears ≡ true → before.ends ≡ replicate 25 0) → first_blocks 1 probs.now has_y2 before r ≡ (seen clears has_y2 tokens.old, reader.old) → first_blocks 17 probs.now has_y2 before r ≡ (seen clears has_y2 tokens.new, reader.new) }
+    ensures { (before : Tokens) (r : Reader) → (clears ≡ true → before.ends ≡ replicate 25 0) → first_blocks 1 rows.now has_y2 before r ≡ (seen clears has_y2 tokens.old, reader.old) → first_blocks 17 rows.now has_y2 before r ≡ (seen clears has_y2 tokens.new, reader.new) }
 {
     for y in 0..4usize {
-        read_row(reader, probs, luma_row(has_y2, y), 4, clears, tokens);
+        read_row(reader, rows, luma_row(has_y2, y), 4, clears, tokens);
     }
 }
 
@@ -147,12 +148,12 @@ fn read_luma(
 #[inline(always)]
 fn read_chroma(
     reader: &mut Decoder,
-    probs: &[u8; 1056],
+    rows: &Rows,
     has_y2: bool,
     clears: bool,
     tokens: &mut Tokens,
 )
-    ensures { (before : Tokens) (r : Reader) → (clears ≡ true → before.ends ≡ replicate 25 0) → first_blocks 17 probs.now has_y2 before r ≡ (seen clears has_y2 tokens.old, reader.old) → first_blocks 25 probs.now has_y2 before r ≡ (seen clears has_y2 tokens.new, reader.new) }
+    ensures { (before : Tokens) (r : Reader) → (clears ≡ true → before.ends ≡ replicate 25 0) → first_blocks 17 rows.now has_y2 before r ≡ (seen clears has_y2 tokens.old, reader.old) → first_blocks 25 rows.now has_y2 before r ≡ (seen clears has_y2 tokens.new, reader.new) }
 {
     for y in 0..4usize {
         let at = BlockPosition {
@@ -162,7 +163,7 @@ fn read_chroma(
             above: 4 + y / 2 * 2,
             left: 4 + y,
         };
-        read_row(reader, probs, at, 2, clears, tokens);
+        read_row(reader, rows, at, 2, clears, tokens);
     }
 }
 
@@ -170,25 +171,25 @@ fn read_chroma(
 #[inline(always)]
 fn read_blocks(
     decoder: &mut Decoder,
-    probs: &[u8; 1056],
+    rows: &Rows,
     has_y2: bool,
     clears: bool,
     tokens: &mut Tokens,
 )
     requires { clears ≡ true → tokens.old.ends ≡ replicate 25 0 }
-    ensures { macroblock probs.now has_y2 (seen clears has_y2 tokens.old) decoder.old ≡ (seen clears has_y2 tokens.new, decoder.new) }
+    ensures { macroblock rows.now has_y2 (seen clears has_y2 tokens.old) decoder.old ≡ (seen clears has_y2 tokens.new, decoder.new) }
 {
     let mut reader = decoder.copied();
     if has_y2 {
-        read_block(&mut reader, probs, Y2, clears, tokens);
+        read_block(&mut reader, rows, Y2, clears, tokens);
     }
-    read_luma(&mut reader, probs, has_y2, clears, tokens);
-    read_chroma(&mut reader, probs, has_y2, clears, tokens);
+    read_luma(&mut reader, rows, has_y2, clears, tokens);
+    read_chroma(&mut reader, rows, has_y2, clears, tokens);
     *decoder = reader;
 }
 
 /// Reads the tokens of a macroblock: of Y2 if it has one, of 16 blocks of luma, 4 of U and 4 of V
-/// (RFC 6386, section 13). `probabilities` has 4 kinds by 8 bands by 3 contexts by 11 nodes.
+/// (RFC 6386, section 13). The rows are those of the frame's probabilities.
 ///
 /// `tokens.above` and `tokens.left` are the flags of the macroblocks above and to the left, and
 /// become its own. Each coefficient that is not 0 is written over the previous value, and no other
@@ -196,13 +197,13 @@ fn read_blocks(
 #[inline(never)]
 pub fn read_macroblock(
     decoder: &mut Decoder,
-    probabilities: &[u8; 1056],
+    rows: &Rows,
     has_y2: bool,
     tokens: &mut Tokens,
 )
-    ensures { macroblock probabilities.now has_y2 tokens.old decoder.old ≡ (tokens.new, decoder.new) }
+    ensures { macroblock rows.now has_y2 tokens.old decoder.old ≡ (tokens.new, decoder.new) }
 {
-    read_blocks(decoder, probabilities, has_y2, false, tokens);
+    read_blocks(decoder, rows, has_y2, false, tokens);
 }
 
 /// The same over the tokens of another macroblock, whose coefficients and ends do not count. Blocks
@@ -211,14 +212,14 @@ pub fn read_macroblock(
 #[inline(never)]
 pub fn read_next_macroblock(
     decoder: &mut Decoder,
-    probabilities: &[u8; 1056],
+    rows: &Rows,
     has_y2: bool,
     tokens: &mut Tokens,
 )
-    ensures { macroblock probabilities.now has_y2 (cleared tokens.old) decoder.old ≡ (without_stale has_y2 tokens.new, decoder.new) }
+    ensures { macroblock rows.now has_y2 (cleared tokens.old) decoder.old ≡ (without_stale has_y2 tokens.new, decoder.new) }
 {
     tokens.ends = [0; 25];
-    read_blocks(decoder, probabilities, has_y2, true, tokens);
+    read_blocks(decoder, rows, has_y2, true, tokens);
 }
 
 /// The flags of a macroblock without tokens.

@@ -1,8 +1,5 @@
 //! The order of the coefficients of a block, and their probabilities.
 
-ghost use Rattle.std.specs.Prelude.{◌≡◌, ◌<◌, length};
-ghost use Rattle.token_parser.specs.Tokens.{nodes_at};
-
 /// The band of each index (`coeff_bands` in RFC 6386, section 13.3), which the contracts cite.
 const BANDS: [usize; 16] = [0, 1, 2, 3, 6, 4, 5, 6, 6, 6, 6, 6, 6, 6, 6, 7];
 
@@ -14,16 +11,3 @@ pub(crate) const BAND_STARTS: [usize; 16] = [
 
 /// The raster index of the coefficient at each index (`zigzag` in RFC 6386, section 13).
 pub(crate) const ZIGZAG: [usize; 16] = [0, 1, 4, 8, 5, 2, 3, 6, 9, 12, 13, 10, 7, 11, 14, 15];
-
-/// The probabilities of the 11 nodes of the token tree: `context` is 0, 1 or 2 by the last token.
-#[inline]
-pub(crate) fn nodes_at(probs: &[u8; 1056], kind: usize, place: usize, context: usize) -> &[u8]
-    requires kind { kind < 4 }
-    requires place { place < 16 }
-    requires context { context < 3 }
-    ensures value { result.now ≡ nodes_at probs.now kind place context }
-    ensures count { length result.now ≡ 11 }
-{
-    let start = kind * 264 + BAND_STARTS[place] + context * 11;
-    &probs[start..start + 11]
-}

@@ -1,9 +1,8 @@
 //! The probabilities of tokens, as bits are read with them.
 
-ghost use Rattle.std.specs.Prelude.{◌≡◌, ◌+◌, ◌*◌, ◌<◌, ◌≤◌, ℕ, length, slice_index, slice_index_or, slice_range};
-ghost use Rattle.bool_coder.specs.Odds.{AreOdds, odds_of, prob_in};
+ghost use Rattle.std.specs.Prelude.{◌≡◌, ◌<◌, length, map, replicate, slice_index};
+ghost use Rattle.bool_coder.specs.Odds.{odds_of};
 ghost use Rattle.bool_coder.specs.Reader.{read};
-ghost use Rattle.token_parser.specs.Rows.{band_start};
 ghost use Rattle.token_parser.specs.Tokens.{nodes_at};
 
 use crate::places::BAND_STARTS;
@@ -11,7 +10,7 @@ use bool_coder::{Decoder, Odds};
 use std::marker::Model;
 
 /// The odds of the 11 nodes of the token tree at an index of a block. Contracts see the probabilities.
-#[derive(Clone, Copy)]
+#[derive(Drop)]
 pub struct Nodes<'a> {
     odds: &'a [Odds],
 }
@@ -36,5 +35,73 @@ impl<'a> Nodes<'a> {
         ensures { read (slice_index self.now node) reader.old ≡ (result, reader.new) }
     {
         reader.bit_by(self.odds[node])
+    }
+}
+
+/// The odds of all nodes: 16 indices of each of 4 kinds, 3 contexts by 11 nodes each. They are made once a frame. Contracts see the
+/// probabilities of the frame.
+#[derive(Drop)]
+pub struct Rows {
+    probs: [u8; 1056],
+    odds: [Odds; 2112],
+}
+
+impl Model for Rows {
+    ghost use Rattle.std.specs.Prelude.{ℕ, List};
+    ghost use Rattle.token_parser.specs.Rows.{AreRows};
+
+    ghost Value = { List ℕ };
+
+    ghost view = { λ rows. rows.probs };
+
+    ghost invariant = { λ rows. AreRows 64 rows.probs rows.odds };
+}
+
+/// The odds of probabilities.
+#[inline(always)]
+fn make_row(probs: &[u8], odds: &mut [Odds])
+    requires { length probs.now ≡ length odds.old }
+    ensures { odds.new ≡ map odds_of probs.now }
+{
+    for k in 0..probs.len() {
+        odds[k] = Odds::of(probs[k]);
+    }
+}
+
+impl Rows {
+    /// The rows of probabilities that are 0.
+    pub fn new() -> Rows
+        ensures { result ≡ replicate 1056 0 }
+    {
+        Rows {
+            probs: [0; 1056],
+            odds: [Odds::of(0); 2112],
+        }
+    }
+
+    /// Makes the rows of these probabilities: 4 kinds by 8 bands by 3 contexts by 11 nodes.
+    pub fn set(&mut self, probs: &[u8; 1056])
+        ensures { self.new ≡ probs.now }
+    {
+        self.probs = *probs;
+        for row in 0..64usize {
+            let start = row / 16 * 264 + BAND_STARTS[row % 16];
+            make_row(&probs[start..start + 33], &mut self.odds[row * 33..row * 33 + 33]);
+        }
+    }
+
+    /// The nodes at an index of a block of a kind. `context` is 0, 1 or 2 by the last token.
+    #[inline(always)]
+    pub(crate) fn nodes_at(&self, kind: usize, place: usize, context: usize) -> Nodes<'_>
+        requires kind { kind < 4 }
+        requires place { place < 16 }
+        requires context { context < 3 }
+        ensures value { result ≡ nodes_at self.now kind place context }
+        ensures count { length result ≡ 11 }
+    {
+        let start = (kind * 16 + place) * 33 + context * 11;
+        Nodes {
+            odds: &self.odds[start..start + 11],
+        }
     }
 }
