@@ -1,8 +1,9 @@
 //! The probabilities of tokens, as bits are read with them.
 
-ghost use Rattle.std.specs.Prelude.{◌≡◌, ◌<◌, length, map, replicate, slice_index};
+ghost use Rattle.std.specs.Prelude.{◌≡◌, ℕ, ◌+◌, ◌*◌, ◌<◌, length, replicate, slice_index, slice_index_or};
 ghost use Rattle.bool_coder.specs.Odds.{odds_of};
 ghost use Rattle.bool_coder.specs.Reader.{read};
+ghost use Rattle.token_parser.specs.Rows.{band_start};
 ghost use Rattle.token_parser.specs.Tokens.{nodes_at};
 
 use crate::places::BAND_STARTS;
@@ -57,14 +58,16 @@ impl Model for Rows {
     ghost invariant = { λ rows. AreRows 64 rows.probs rows.odds };
 }
 
-/// The odds of probabilities.
+/// Makes the odds of row `row`: index `row % 16` of a block of kind `row / 16`.
 #[inline(always)]
-fn make_row(probs: &[u8], odds: &mut [Odds])
-    requires { length probs.now ≡ length odds.old }
-    ensures { odds.new ≡ map odds_of probs.now }
+fn make_row(probs: &[u8; 1056], row: usize, odds: &mut [Odds; 2112])
+    requires { row < 64 }
+    ensures each { (k : ℕ) → k < 33 → slice_index_or odds.new (row * 33 + k) (odds_of 0) ≡ odds_of (slice_index probs.now (band_start row + k)) }
+    ensures others { (place : ℕ) → place < row * 33 → slice_index_or odds.new place (odds_of 0) ≡ slice_index_or odds.old place (odds_of 0) }
 {
-    for k in 0..probs.len() {
-        odds[k] = Odds::of(probs[k]);
+    let start = row / 16 * 264 + BAND_STARTS[row % 16];
+    for k in 0..33usize {
+        odds[row * 33 + k] = Odds::of(probs[start + k]);
     }
 }
 
@@ -85,8 +88,7 @@ impl Rows {
     {
         self.probs = *probs;
         for row in 0..64usize {
-            let start = row / 16 * 264 + BAND_STARTS[row % 16];
-            make_row(&probs[start..start + 33], &mut self.odds[row * 33..row * 33 + 33]);
+            make_row(probs, row, &mut self.odds);
         }
     }
 
