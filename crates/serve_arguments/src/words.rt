@@ -45,6 +45,8 @@ pub struct Words<'a> {
     pub restamps: bool,
     /// Whether each request line is answered as it comes.
     pub is_live: bool,
+    /// Whether the program fails if a request for a frame is refused.
+    pub fails_refused: bool,
 }
 
 impl Words<'_> {

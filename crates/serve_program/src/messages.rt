@@ -1,5 +1,5 @@
 // What goes to standard error.
-ghost use Rattle.std.specs.Prelude.{◌≡◌, ◌+◌, ◌-◌, ◌*◌, ◌/◌, ◌^◌, min, None, Some, false, option_map, slice_index_or};
+ghost use Rattle.std.specs.Prelude.{◌≡◌, ◌+◌, ◌-◌, ◌&&◌, if◌then◌else◌, ◌*◌, ◌/◌, ◌^◌, min, None, Some, false, option_map, slice_index_or};
 ghost use Rattle.output_files.specs.Counts.{whole_pieces};
 ghost use Rattle.serve_program.specs.Frames.{frame_length};
 ghost use Rattle.serve_arguments.specs.Statuses.{fault_of};
@@ -34,6 +34,8 @@ pub struct Messages<'a, E> {
     no_text: u64,
     /// Whether an edit of this source was accepted.
     edited: [bool; 8],
+    /// Whether a request for a frame was refused.
+    has_refused: bool,
     /// Why the file for the frames could not be created, if it could not be.
     pub refused: Option<io::Error>,
     /// The file that was not saved, if one was not.
@@ -50,6 +52,7 @@ impl<'a, E: Write> Messages<'a, E> {
         ensures explains { result.explains ≡ explains }
         ensures answered { result.answered ≡ 0 }
         ensures no_text { result.no_text ≡ 0 }
+        ensures has_refused { result.has_refused ≡ false }
         ensures refused { result.refused ≡ None }
         ensures unsaved { result.unsaved ≡ None }
         ensures size { result.size ≡ None }
@@ -61,6 +64,7 @@ impl<'a, E: Write> Messages<'a, E> {
             answered: 0,
             no_text: 0,
             edited: [false; 8],
+            has_refused: false,
             refused: None,
             unsaved: None,
             size: None,
@@ -73,6 +77,17 @@ impl<'a, E: Write> Messages<'a, E> {
         ensures { result ≡ min (self.now.answered + 1) (2 ^ 64 - 1) }
     {
         self.answered.saturating_add(1)
+    }
+
+    /// The exit status of a run without an error: 3 if a request for a frame was refused, and the program fails then.
+    pub fn status(&self, fails_refused: bool) -> u8
+        ensures { result ≡ (if fails_refused && self.now.has_refused then 3 else 0) }
+    {
+        if fails_refused && self.has_refused {
+            3
+        } else {
+            0
+        }
     }
 
     /// The error of a file for the frames that could not be created.
@@ -124,6 +139,13 @@ impl<E: Write> Messages<'_, E> {
         }
     }
 
+    /// Takes note of a request for a frame that was refused.
+    fn note_refusal(&mut self, line: &[u8], refusal: Option<Refusal>) {
+        if refusal.is_some() && matches!(read_line(line), Ok(Line::Frame(_))) {
+            self.has_refused = true;
+        }
+    }
+
     /// Takes note of an edit that was accepted.
     fn note_edit(&mut self, session: &Session, line: &[u8]) {
         if !matches!(read_line(line), Ok(Line::Edit(_))) {
@@ -154,6 +176,7 @@ impl<E: Write> Messages<'_, E> {
 impl<E: Write> Observer for Messages<'_, E> {
     fn answered(&mut self, session: &Session, line: &[u8], refusal: Option<Refusal>) {
         self.answered = self.answered.saturating_add(1);
+        self.note_refusal(line, refusal);
         if !self.explains {
             return;
         }

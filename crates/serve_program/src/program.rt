@@ -1,5 +1,5 @@
 // The program over a reader and two writers.
-ghost use Rattle.std.specs.Prelude.{◌≡◌, ◌≤◌, ℕ, [], IfOk, IfErr, IfSome, List, None, OnOk, Option, codes, is_some, length, map, option_map};
+ghost use Rattle.std.specs.Prelude.{◌≡◌, ◌≤◌, ◌⊎◌, ℕ, true, [], IfOk, IfErr, IfSome, List, None, OnOk, Option, codes, is_some, length, map, option_map};
 ghost use Rattle.std.specs.Io.Buffered.{writer_buffer};
 ghost use Rattle.std.specs.Io.KnownBytes.{Appends};
 ghost use Rattle.std.specs.Rc.{rc_slice_items};
@@ -238,7 +238,7 @@ fn answer_line<'a, R: Files + AllocGlobal, S: AsStr, I: Read, O: Write + Drop, E
     output: &mut BufWriter<O>,
     messages: &mut Messages<'_, E>,
 ) -> Result<u8, Fault<'a>>
-    ensures status { IfOk result (λ status. status ≡ 0) }
+    ensures status { IfOk result (λ status. (status ≡ 0) ⊎ ((status ≡ 3) × (messages.new.has_refused ≡ true))) }
     ensures flushed { OnOk result (writer_buffer output.new ≡ []) }
 {
     let words = match parse(rt.alloc(), words) {
@@ -256,12 +256,13 @@ fn answer_line<'a, R: Files + AllocGlobal, S: AsStr, I: Read, O: Write + Drop, E
         answer(rt, &line, input, output, messages)?;
     }
     flush_replies(output)?;
-    Ok(0)
+    Ok(messages.status(line.words.fails_refused))
 }
 
 /// Runs the program on a command line, whose first argument is the program's name, and returns its exit
-/// status: 0 if every request was answered, also by a refusal, and for help and the version; 2 for a
-/// mistake on the command line; 1 for every other error. At 0 nothing is left in the buffer of `output`.
+/// status: 0 if every request was answered, also by a refusal, and for help and the version; 3 instead if a request for a frame was
+/// refused and `--fail-refused` is given; 2 for a
+/// mistake on the command line; 1 for every other error. At 0 and 3 nothing is left in the buffer of `output`.
 ///
 /// All files are read whole, up to 1,073,741,824 bytes each, before the file for the frames is created: the
 /// tables, IN, the files of `--sources` in their order, the requests. The packets of source 0 are saved after the last
@@ -279,8 +280,9 @@ pub fn serve<R: Files + AllocGlobal, S: AsStr, I: Read, O: Write + Drop, E: Writ
     output: &mut BufWriter<O>,
     errors: &mut E,
 ) -> u8
-    ensures status { result ≤ 2 }
+    ensures status { result ≤ 3 }
     ensures flushed { result ≡ 0 → writer_buffer output.new ≡ [] }
+    ensures refused { result ≡ 3 → writer_buffer output.new ≡ [] }
 {
     let mut messages = Messages::new(errors, is_asked(words));
     let answer = answer_line(rt, words, input, output, &mut messages);

@@ -241,6 +241,38 @@ fn tells_an_export_that_fails(rt: HostRuntime) {
     clear(&rt, "kept.ivf");
 }
 
+/// With `--fail-refused` the exit status is 3 if a frame was refused, and not for another refusal.
+#[test]
+fn fails_if_a_frame_is_refused(rt: HostRuntime) {
+    for line in ["vp8serve --fail-refused", "vp8serve --fail-refused --live"] {
+        expect(
+            &rt,
+            line,
+            "frame 0\ncount\n",
+            "refused NoSuchFrame\npackets 0 frames 0\n",
+            "",
+            3,
+        );
+        expect(
+            &rt,
+            line,
+            "delete 0\nframe\n",
+            "refused Place\nrefused Line\n",
+            "",
+            0,
+        );
+        expect(
+            &rt,
+            line,
+            "blank 0 16 16\nframe 0\n",
+            "ok 1\nserved 0\n",
+            "",
+            0,
+        );
+    }
+    expect(&rt, "vp8serve", "frame 0\n", "refused NoSuchFrame\n", "", 0);
+}
+
 /// A save that fails is reported after the replies, and then trailing bytes are not reported.
 #[test]
 fn tells_a_save_that_fails(rt: HostRuntime) {
