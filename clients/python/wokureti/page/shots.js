@@ -1,4 +1,4 @@
-// The shots of a script of trims, splices and fades: parts of sources, one after the other. A script that is written again from them has no nodes left over.
+// The shots of a script of trims, splices and fades: parts of sources, one after the other. A script that is written anew from them has no nodes left over.
 
 import { nodesOf } from "./script.js";
 
