@@ -9,6 +9,8 @@ pub mod CodeFits
 pub mod Windows
 pub mod SixBytes
 pub mod Shifts
+pub mod Products
+pub mod EvenOdds
 pub mod Leaves
 pub mod Level
 pub mod Chains

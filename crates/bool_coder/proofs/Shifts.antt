@@ -24,14 +24,14 @@ top_of range some most =
 pub shift_of-some : (range : ℕ) → 1 ≤ range → range ≤ 255 → 24 ≤ count_leading_zeros 32 range
 shift_of-some range some most = let found : Top range = top_of range some most in omega arith
 
-scaled-large : (range top count : ℕ) → top + count ≡ 7 → 2 ^ top ≤ range → 128 ≤ range * 2 ^ count
+pub scaled-large : (range top count : ℕ) → top + count ≡ 7 → 2 ^ top ≤ range → 128 ≤ range * 2 ^ count
 scaled-large range top count whole above =
     let power : 2 ^ (top + count) ≡ 2 ^ top * 2 ^ count = pow-add 2 top count in
     let whole_power : 2 ^ 7 ≡ 2 ^ top * 2 ^ count = rw whole at power in
     let product : 2 ^ top * 2 ^ count ≤ range * 2 ^ count = mul-le-mul_right (2 ^ count) above in
     omega arith
 
-scaled-small : (range top count : ℕ) → top + count ≡ 7 → range < 2 ^ suc top → range * 2 ^ count < 256
+pub scaled-small : (range top count : ℕ) → top + count ≡ 7 → range < 2 ^ suc top → range * 2 ^ count < 256
 scaled-small range top count whole below =
     let power : 2 ^ (top + count) ≡ 2 ^ top * 2 ^ count = pow-add 2 top count in
     let whole_power : 2 ^ 7 ≡ 2 ^ top * 2 ^ count = rw whole at power in

@@ -1,5 +1,6 @@
 pub mod Reader
 pub mod Reading
+pub mod Odds
 pub mod Trees
 pub mod Uncut
 pub mod CodeText

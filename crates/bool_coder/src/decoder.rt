@@ -1,31 +1,37 @@
 //! The decoder of RFC 6386, section 7.
 
-ghost use Rattle.std.specs.Prelude.{◌≡◌, ◌*◌, ◌<◌, ◌≤◌, ◌^◌, IsTrue, length, unsigned_abs};
+ghost use Rattle.std.specs.Prelude.{◌≡◌, ◌*◌, ◌/◌, ◌<◌, ◌≤◌, ◌^◌, IsTrue, length, unsigned_abs};
+ghost use Rattle.bool_coder.specs.Odds.{AreOdds, prob_in};
 ghost use Rattle.bool_coder.specs.Reader.{started, read, split_of};
 ghost use Rattle.bool_coder.specs.Reading.{flag, literal, signed};
 ghost use Rattle.bool_coder.specs.Trees.{is_tree, leaf};
 
+use crate::odds::Odds;
 use crate::window::Window;
 use std::marker::Model;
 
 /// A decoder of the bits of one partition (RFC 6386, section 7). Zeros follow its last byte,
 /// without end.
+///
+/// Its range is `range << shift`: the shift is made in the product that gives the next split, so the
+/// product does not wait for it.
 #[derive(Drop)]
 pub struct Decoder<'a> {
     window: Window<'a>,
     range: u32,
+    shift: u32,
 }
 
 impl<'a> Model for Decoder<'a> {
-    ghost use Rattle.std.specs.Prelude.{◌≤◌};
+    ghost use Rattle.std.specs.Prelude.{◌≤◌, ◌*◌, ◌^◌};
     ghost use Rattle.bool_coder.specs.Reader.{Reader, level};
     ghost use Rattle.bool_coder.specs.Window.{reader_of};
 
     ghost Value = { Reader };
 
-    ghost view = { λ s. level (reader_of s.window.value s.window.left s.window.bytes.now s.range) };
+    ghost view = { λ s. level (reader_of s.window.value s.window.left s.window.bytes.now (s.range * 2 ^ s.shift)) };
 
-    ghost invariant = { λ s. (128 ≤ s.range) × (s.range ≤ 255) × (s.window.left ≤ 56) };
+    ghost invariant = { λ s. (128 ≤ s.range * 2 ^ s.shift) × (s.range * 2 ^ s.shift ≤ 255) × (s.shift ≤ 7) × (s.range ≤ 255) × (s.window.left ≤ 56) };
 }
 
 impl<'a> Decoder<'a> {
@@ -36,6 +42,7 @@ impl<'a> Decoder<'a> {
         Decoder {
             window: Window::new(bytes),
             range: 255,
+            shift: 0,
         }
     }
 
@@ -47,6 +54,7 @@ impl<'a> Decoder<'a> {
         Decoder {
             window: self.window,
             range: self.range,
+            shift: self.shift,
         }
     }
 
@@ -67,20 +75,35 @@ impl<'a> Decoder<'a> {
     pub fn bit(&mut self, prob: u8) -> bool
         ensures { read prob self.old ≡ (result, self.new) }
     {
-        self.window.ready(self.range);
-        let split = split_by(self.range, prob);
+        self.bit_by(Odds::of(prob))
+    }
+
+    /// One bit by its odds.
+    #[inline(always)]
+    pub fn bit_by(&mut self, odds: Odds) -> bool
+        requires { AreOdds odds }
+        ensures { read (prob_in odds) self.old ≡ (result, self.new) }
+    {
+        let whole = self.range << self.shift;
+        self.window.ready(whole);
+        let scaled = scaled_by(self.range, self.shift, odds);
+        let split = scaled >> 24;
         let least = (split as u64) << self.window.left;
-        let bit = self.window.value >= least;
-        let range = if bit {
+        if self.window.value >= least {
             self.window.value -= least;
-            self.range - split
+            let rest = whole - split;
+            let count = shift_of(rest);
+            self.window.left -= count;
+            self.range = rest;
+            self.shift = count;
+            true
         } else {
-            split
-        };
-        let count = shift_of(range);
-        self.window.left -= count;
-        self.range = range << count;
-        bit
+            let count = shift_of_scaled(scaled);
+            self.window.left -= count;
+            self.range = split;
+            self.shift = count;
+            false
+        }
     }
 
     /// One bit at even odds.
@@ -88,7 +111,20 @@ impl<'a> Decoder<'a> {
     pub fn flag(&mut self) -> bool
         ensures { flag self.old ≡ (result, self.new) }
     {
-        self.bit(128)
+        let whole = self.range << self.shift;
+        self.window.ready(whole);
+        let split = (whole + 1) >> 1;
+        let least = (split as u64) << self.window.left;
+        let bit = self.window.value >= least;
+        self.window.value -= if bit { least } else { 0 };
+        let half = (whole + u32::from(!bit)) >> 1;
+        self.range = half;
+        self.shift = 0;
+        if half < 128 {
+            self.shift = 1;
+            self.window.left -= 1;
+        }
+        bit
     }
 
     /// A number of `count` bits, at most 16, most significant first.
@@ -139,16 +175,29 @@ impl<'a> Decoder<'a> {
     }
 }
 
-/// The split of a range of 1 to 255 for a probability, which is 1 + (range - 1) * prob / 256 (RFC 6386,
-/// section 7.3).
+/// The split of `range << shift`, which is at most 255, in the highest byte, by the odds of a bit (RFC
+/// 6386, section 7.3).
 #[inline(always)]
-fn split_by(range: u32, prob: u8) -> u32
+fn scaled_by(range: u32, shift: u32, odds: Odds) -> u32
+    requires odds { AreOdds odds }
     requires some { 1 ≤ range }
-    requires most { range ≤ 255 }
-    ensures { result ≡ split_of prob range }
+    requires shift { shift ≤ 7 }
+    requires most { range * 2 ^ shift ≤ 255 }
+    ensures { result / 2 ^ 24 ≡ split_of (prob_in odds) (range * 2 ^ shift) }
 {
-    let prob = prob as u32;
-    (range * prob + (256 - prob)) >> 8
+    ((range * odds.zero) << shift) + odds.one
+}
+
+/// The number of bits by which the highest byte of a product, which is not 0, is shifted to be 128 or
+/// more.
+#[inline(always)]
+fn shift_of_scaled(scaled: u32) -> u32
+    requires { 1 ≤ scaled / 2 ^ 24 }
+    ensures few { result ≤ 7 }
+    ensures large { 128 ≤ scaled / 2 ^ 24 * 2 ^ result }
+    ensures small { scaled / 2 ^ 24 * 2 ^ result < 256 }
+{
+    scaled.leading_zeros()
 }
 
 /// The number of bits by which a range of 1 to 255 is shifted to be 128 or more.

@@ -5,6 +5,7 @@ ghost use Rattle.bool_coder.specs.CodeText.{no_code, written, text_of};
 ghost use Rattle.bool_coder.specs.Low.{number_of, value_of, doublings_of, HasTail};
 
 use crate::NoMemory;
+use crate::bytes::prove_bytes;
 use std::alloc::Global;
 use std::marker::Model;
 
@@ -20,11 +21,6 @@ fn add_one(bytes: &mut [u8])
     }
     bytes[end - 1] += 1;
 }
-
-// States the bound of each byte, which its type has, as a fact that proofs take from the call.
-fn prove_bytes(bytes: &[u8])
-    ensures { (place : ℕ) → slice_index bytes.now place < 256 }
-{}
 
 /// The number low of an encoder (`bottom` in RFC 6386): whole bytes, followed by a tail of 8 +
 /// `shifts` bits.

@@ -1,8 +1,10 @@
 //! The 64-bit window through which a decoder reads its bytes.
 
-ghost use Rattle.std.specs.Prelude.{◌≡◌, ◌+◌, ◌-◌, ◌*◌, ◌<◌, ◌≤◌, ◌^◌, ℕ, [], ◌∷◌, ◌++◌, length};
+ghost use Rattle.std.specs.Prelude.{◌≡◌, ◌+◌, ◌-◌, ◌*◌, ◌<◌, ◌≤◌, ◌^◌, ℕ, [], ◌∷◌, length, take};
 ghost use Rattle.bool_coder.specs.Reader.{text_start, level};
 ghost use Rattle.bool_coder.specs.Window.{reader_of};
+
+use crate::bytes::prove_bytes;
 
 /// A number whose low `left` bits are not read yet and whose higher bits are the d (`value`) of RFC
 /// 6386, section 7.3, and the bytes that follow it.
@@ -124,10 +126,10 @@ impl<'a> Window<'a> {
         ensures room { self.new.left ≤ 56 }
         ensures full { self.new.left ≤ 48 → self.new.bytes.now ≡ [] }
     {
-        if let [a, b, c, d, e, f, rest @ ..] = self.bytes
+        if let [a, b, c, d, e, f, g, h, ..] = self.bytes
             && self.left <= 8
         {
-            self.take_six([*a, *b, *c, *d, *e, *f], rest);
+            self.take_six([*a, *b, *c, *d, *e, *f, *g, *h]);
         }
         while self.left <= 48 {
             match self.bytes {
@@ -151,20 +153,18 @@ impl<'a> Window<'a> {
         self.left += 8;
     }
 
-    /// Loads the first six bytes, which `rest` follows.
-    fn take_six(&mut self, first: [u8; 6], rest: &'a [u8])
-        requires next { self.old.bytes.now ≡ first ++ rest.now }
+    /// Loads the first six bytes of these eight, with which the bytes begin.
+    fn take_six(&mut self, first: [u8; 8])
+        requires next { take 8 self.old.bytes.now ≡ first }
         requires small { self.old.value < 2 ^ (self.old.left + 8) }
         requires room { self.old.left ≤ 8 }
         ensures same { (range : ℕ) → reader_of self.new.value self.new.left self.new.bytes.now range ≡ reader_of self.old.value self.old.left self.old.bytes.now range }
         ensures small { self.new.value < 2 ^ (self.new.left + 8) }
         ensures left { self.new.left ≡ self.old.left + 48 }
     {
-        let [a, b, c, d, e, f] = first;
-        let high = 256 * (256 * self.value + a as u64) + b as u64;
-        let middle = 256 * (256 * high + c as u64) + d as u64;
-        self.value = 256 * (256 * middle + e as u64) + f as u64;
-        self.bytes = rest;
+        prove_bytes(&first);
+        self.value = (self.value << 48) + (u64::from_be_bytes(first) >> 16);
+        self.bytes = &self.bytes[6..];
         self.left += 48;
     }
 }

@@ -13,9 +13,9 @@ use Rattle.inter_predict.specs.declared.kinds.Kind.TheVariants.{SixTap, Bilinear
 use Rattle.inter_predict.specs.declared.taps.Taps.{Taps}
 use Rattle.inter_predict.specs.Blocks.{IsBlockIn}
 use Rattle.inter_predict.specs.InterSample.{whole_part, fraction, between, across, inter_sample, predicted}
-use Rattle.inter_predict.specs.Kernels.{AreTapsOf, IsNear, Predicts}
+use Rattle.inter_predict.specs.Kernels.{AreTapsOf, IsNear, Predicts, six_taps}
 use Rattle.inter_predict.proofs.Predicted.{block_of_strip, two_further}
-use Rattle.inter_predict.proofs.TapSums.{six_taps, six_between, two_taps, two_between}
+use Rattle.inter_predict.proofs.TapSums.{six_between, two_taps, two_between}
 use Rattle.inter_predict.proofs.Twice.{tapped_same}
 
 -- past a side all coordinates are its last

@@ -9,8 +9,8 @@ use Rattle.inter_predict.specs.declared.kinds.Kind.{Kind}
 use Rattle.inter_predict.specs.declared.kinds.Kind.TheVariants.{SixTap, Bilinear}
 use Rattle.inter_predict.specs.InterSample.{whole_part, fraction, filtered, weighed, between, across, inter_sample}
 use Rattle.inter_predict.specs.Laws.{TapsAddUp, KeepsOneValue, CopiesWhole}
-use Rattle.inter_predict.specs.Kernels.{tapped}
-use Rattle.inter_predict.proofs.TapSums.{below_eight, six_taps, six_small, six_between, two_taps, two_small, two_between}
+use Rattle.inter_predict.specs.Kernels.{six_taps, tapped}
+use Rattle.inter_predict.proofs.TapSums.{below_eight, six_small, six_between, two_taps, two_small, two_between}
 use Rattle.inter_predict.proofs.Twice.{tapped_whole}
 
 pub taps_add_up : TapsAddUp

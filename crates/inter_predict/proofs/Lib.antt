@@ -1,9 +1,11 @@
 pub mod FilterLaws
 pub mod HeldLanes
+pub mod KeptLines
 pub mod FarPieces
 pub mod PairedLanes
 pub mod Predicted
 pub mod StripRows
 pub mod TappedLanes
+pub mod SummedLanes
 pub mod TapSums
 pub mod Twice

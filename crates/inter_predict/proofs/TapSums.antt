@@ -8,8 +8,8 @@ use Rattle.vp8_tables.specs.Bounds.{clamped_sample}
 use Rattle.inter_predict.specs.InterSample.{weighed, filtered, between}
 use Rattle.inter_predict.specs.declared.kinds.Kind.TheVariants.{SixTap, Bilinear}
 use Rattle.inter_predict.specs.declared.taps.Taps.{Taps}
-use Rattle.inter_predict.specs.declared.taps.TheConstants.{SIX_TAPS, TWO_TAPS}
-use Rattle.inter_predict.specs.Kernels.{IsTaps, taps_of, tapped}
+use Rattle.inter_predict.specs.declared.taps.TheConstants.{TWO_TAPS}
+use Rattle.inter_predict.specs.Kernels.{IsTaps, six_taps, taps_of, tapped}
 
 -- a fact at 0 to 7 holds below 8
 pub below_eight : (P : ℕ → Type 0) → P 0 → P 1 → P 2 → P 3 → P 4 → P 5 → P 6 → P 7 → (k : ℕ) → k < 8 → P k
@@ -51,26 +51,23 @@ signed_filtered t s =
     shifted _ _ _ sum
 
 -- the rows of the code's tables
-abbrev pub six_taps : ℕ → Taps
-six_taps eighths = taps_of (slice_index_or SIX_TAPS eighths [])
-
 abbrev pub two_taps : ℕ → Taps
-two_taps eighths = taps_of (slice_index_or TWO_TAPS eighths [])
+two_taps eighths = taps_of (slice_index_or TWO_TAPS eighths []) 0
 
 -- they are small
 whole_alone : IsTaps (six_taps 0)
-whole_alone = record { added = lit≤ tt; taken = lit≤ tt; alone = λ whole. (refl, refl, refl, refl, refl) }
+whole_alone = record { added = lit≤ tt; taken = lit≤ tt; known = λ some. absurd (omega arith); alone = λ whole. (refl, refl, refl, refl, refl) }
 
 pub six_small : (fraction : ℕ) → fraction < 8 → IsTaps (six_taps fraction)
 six_small fraction less =
     below_eight (λ f. IsTaps (six_taps f)) whole_alone
-    (record { added = lit≤ tt; taken = lit≤ tt; alone = λ whole. absurd (omega arith) })
-    (record { added = lit≤ tt; taken = lit≤ tt; alone = λ whole. absurd (omega arith) })
-    (record { added = lit≤ tt; taken = lit≤ tt; alone = λ whole. absurd (omega arith) })
-    (record { added = lit≤ tt; taken = lit≤ tt; alone = λ whole. absurd (omega arith) })
-    (record { added = lit≤ tt; taken = lit≤ tt; alone = λ whole. absurd (omega arith) })
-    (record { added = lit≤ tt; taken = lit≤ tt; alone = λ whole. absurd (omega arith) })
-    (record { added = lit≤ tt; taken = lit≤ tt; alone = λ whole. absurd (omega arith) })
+    (record { added = lit≤ tt; taken = lit≤ tt; known = λ some. (omega arith, refl); alone = λ whole. absurd (omega arith) })
+    (record { added = lit≤ tt; taken = lit≤ tt; known = λ some. (omega arith, refl); alone = λ whole. absurd (omega arith) })
+    (record { added = lit≤ tt; taken = lit≤ tt; known = λ some. (omega arith, refl); alone = λ whole. absurd (omega arith) })
+    (record { added = lit≤ tt; taken = lit≤ tt; known = λ some. (omega arith, refl); alone = λ whole. absurd (omega arith) })
+    (record { added = lit≤ tt; taken = lit≤ tt; known = λ some. (omega arith, refl); alone = λ whole. absurd (omega arith) })
+    (record { added = lit≤ tt; taken = lit≤ tt; known = λ some. (omega arith, refl); alone = λ whole. absurd (omega arith) })
+    (record { added = lit≤ tt; taken = lit≤ tt; known = λ some. (omega arith, refl); alone = λ whole. absurd (omega arith) })
     fraction less
 
 -- and return the filter's sample
@@ -86,18 +83,18 @@ six_between fraction less line place =
 pub two_small : (fraction : ℕ) → fraction < 8 → IsTaps (two_taps fraction)
 two_small fraction less =
     below_eight (λ f. IsTaps (two_taps f)) whole_alone
-    (record { added = lit≤ tt; taken = lit≤ tt; alone = λ whole. absurd (omega arith) })
-    (record { added = lit≤ tt; taken = lit≤ tt; alone = λ whole. absurd (omega arith) })
-    (record { added = lit≤ tt; taken = lit≤ tt; alone = λ whole. absurd (omega arith) })
-    (record { added = lit≤ tt; taken = lit≤ tt; alone = λ whole. absurd (omega arith) })
-    (record { added = lit≤ tt; taken = lit≤ tt; alone = λ whole. absurd (omega arith) })
-    (record { added = lit≤ tt; taken = lit≤ tt; alone = λ whole. absurd (omega arith) })
-    (record { added = lit≤ tt; taken = lit≤ tt; alone = λ whole. absurd (omega arith) })
+    (record { added = lit≤ tt; taken = lit≤ tt; known = λ some. absurd (omega arith); alone = λ whole. absurd (omega arith) })
+    (record { added = lit≤ tt; taken = lit≤ tt; known = λ some. absurd (omega arith); alone = λ whole. absurd (omega arith) })
+    (record { added = lit≤ tt; taken = lit≤ tt; known = λ some. absurd (omega arith); alone = λ whole. absurd (omega arith) })
+    (record { added = lit≤ tt; taken = lit≤ tt; known = λ some. absurd (omega arith); alone = λ whole. absurd (omega arith) })
+    (record { added = lit≤ tt; taken = lit≤ tt; known = λ some. absurd (omega arith); alone = λ whole. absurd (omega arith) })
+    (record { added = lit≤ tt; taken = lit≤ tt; known = λ some. absurd (omega arith); alone = λ whole. absurd (omega arith) })
+    (record { added = lit≤ tt; taken = lit≤ tt; known = λ some. absurd (omega arith); alone = λ whole. absurd (omega arith) })
     fraction less
 
 -- the two taps of a bilinear filter are the third and fourth of six
 abbrev two_only : ℕ → ℕ → Taps
-two_only c d = record { a = 0; b = 0; c = c; d = d; e = 0; f = 0 }
+two_only c d = record { a = 0; b = 0; c = c; d = d; e = 0; f = 0; eighths = 0 }
 
 two_apart : (fraction : ℕ) → fraction < 8 → two_only (two_taps fraction).c (two_taps fraction).d ≡ two_taps fraction
 two_apart fraction less =

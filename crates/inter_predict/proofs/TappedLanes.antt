@@ -20,11 +20,11 @@ pub record IsLanes (n : ℕ) (at : ℕ → ℕ) (xs : List ℕ) : Type 0 where
   pub long : length xs ≡ n
   pub each : (lane : ℕ) → lane < n → slice_index xs lane ≡ at lane
 
-splat : (n value : ℕ) → IsLanes n (λ lane. value) (replicate n value)
+pub splat : (n value : ℕ) → IsLanes n (λ lane. value) (replicate n value)
 splat n value = record { long = length-replicate n value; each = λ lane less. get_or-replicate n lane value 0 less }
 
 -- what is done to each lane
-combined : (f : ℕ → ℕ → ℕ) (n : ℕ) (at at' : ℕ → ℕ) (xs ys : List ℕ) → IsLanes n at xs → IsLanes n at' ys → IsLanes n (λ lane. f (at lane) (at' lane)) (zip2 f xs ys)
+pub combined : (f : ℕ → ℕ → ℕ) (n : ℕ) (at at' : ℕ → ℕ) (xs ys : List ℕ) → IsLanes n at xs → IsLanes n at' ys → IsLanes n (λ lane. f (at lane) (at' lane)) (zip2 f xs ys)
 combined f n at at' xs ys left right = record {
   long = length-zip2 f xs ys (left.long ∙ sym right.long) ∙ left.long;
   each = λ lane less. get_or-zip2 f xs ys lane 0 0 0 (rw left.long less) (rw right.long less) ∙ rw (left.each lane less, right.each lane less) refl;
@@ -49,7 +49,7 @@ summed : (n : ℕ) (at at' : ℕ → ℕ) (xs ys : List ℕ) → IsLanes n at xs
 summed n at at' xs ys left right fits = same n _ _ (plus xs ys) (combined (λ a b. (a + b) % 65536) n at at' xs ys left right) (λ lane less. let small = fits lane less in omega arith)
 
 -- the lanes of a list
-own : (n : ℕ) (xs : List ℕ) → length xs ≡ n → IsLanes n (slice_index xs) xs
+pub own : (n : ℕ) (xs : List ℕ) → length xs ≡ n → IsLanes n (slice_index xs) xs
 own n xs long = record { long = long; each = λ lane less. refl }
 
 -- the products of the middle taps, and 64

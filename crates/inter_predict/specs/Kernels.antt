@@ -1,24 +1,30 @@
 -- The sums of inter prediction as the code computes them: positive and negative products are summed separately, so no number is below 0.
-use Rattle.std.specs.Prelude.{◌≡◌, ◌⊎◌, nat_lt, if◌then◌else◌, ℕ, ◌+◌, ◌-◌, ◌*◌, ◌/◌, ◌<◌, ◌≤◌, min, List, length, slice_index, ℤ, pos, neg_ℤ, negsuc, ◌+ℤ◌, ◌-ℤ◌, ◌≤ℤ◌}
+use Rattle.std.specs.Prelude.{◌≡◌, ◌⊎◌, nat_lt, if◌then◌else◌, ℕ, ◌+◌, ◌-◌, ◌*◌, ◌/◌, ◌<◌, ◌≤◌, min, List, [], length, slice_index, slice_index_or, ℤ, pos, neg_ℤ, negsuc, ◌+ℤ◌, ◌-ℤ◌, ◌≤ℤ◌}
 use Rattle.pixel_planes.specs.Samples.{Samples}
 use Rattle.pixel_planes.specs.ReferenceSamples.{IsWindow}
 use Rattle.inter_predict.specs.InterSample.{between, fraction, predicted, whole_part}
 use Rattle.inter_predict.specs.declared.kinds.Kind.{Kind}
 use Rattle.inter_predict.specs.declared.rows.Strip.{Strip}
 use Rattle.inter_predict.specs.declared.taps.Taps.{Taps}
+use Rattle.inter_predict.specs.declared.taps.TheConstants.{SIX_TAPS}
 
--- six numbers as taps
-abbrev pub taps_of : List ℕ → Taps
-taps_of row = record { a = slice_index row 0; b = slice_index row 1; c = slice_index row 2; d = slice_index row 3; e = slice_index row 4; f = slice_index row 5 }
+-- six numbers as taps: those of a six-tap filter have its number of eighths, others 0
+abbrev pub taps_of : List ℕ → ℕ → Taps
+taps_of row eighths = record { a = slice_index row 0; b = slice_index row 1; c = slice_index row 2; d = slice_index row 3; e = slice_index row 4; f = slice_index row 5; eighths = eighths }
+
+-- the taps of a six-tap filter
+abbrev pub six_taps : ℕ → Taps
+six_taps eighths = taps_of (slice_index_or SIX_TAPS eighths []) eighths
 
 -- the sample that taps return for six samples
 unfoldable pub tapped : Taps → (ℕ → ℕ) → ℕ
 tapped t samples = min ((samples 0 * t.a + samples 2 * t.c + samples 3 * t.d + samples 5 * t.f + 64 - (samples 1 * t.b + samples 4 * t.e)) / 128) 255
 
--- the taps are so small that sums of samples stay within 16 bits, and if the third is 128 the others are 0
+-- the taps are so small that sums of samples stay within 16 bits, their number of eighths is right, and if the third is 128 the others are 0
 pub record IsTaps (t : Taps) : Type 0 where
   pub added : t.a + t.c + t.d + t.f ≤ 160
   pub taken : t.b + t.e ≤ 32
+  pub known : 0 < t.eighths → (t.eighths < 8) × (t ≡ six_taps t.eighths)
   pub alone : t.c ≡ 128 → (t.a ≡ 0) × (t.b ≡ 0) × (t.d ≡ 0) × (t.e ≡ 0) × (t.f ≡ 0)
 
 -- the first tap and the last are 0

@@ -5,12 +5,13 @@ ghost use Rattle.inter_predict.specs.Kernels.{AreTapsOf, IsLine, IsTaps, between
 
 use crate::samples::Samples;
 use crate::taps::Taps;
+use crate::weights::Weights;
 use std::simd::Simd;
 use std::simd::prelude::*;
 
 /// The lanes of `added` less the lanes of `taken`, clamped at 0.
 #[inline(always)]
-fn clamped_rests<const N: usize>(added: Simd<u16, N>, taken: Simd<u16, N>) -> Simd<u16, N>
+pub fn clamped_rests<const N: usize>(added: Simd<u16, N>, taken: Simd<u16, N>) -> Simd<u16, N>
     ensures { result ≡ zip2 (λ a b. a - b) added.entry taken.entry }
 {
     added.saturating_sub(taken)
@@ -127,13 +128,17 @@ pub fn taken<const N: usize>(b: Simd<u16, N>, e: Simd<u16, N>, taps: Taps) -> Si
 
 /// Filters the samples of a row: each from six samples, the first at index `start`.
 #[inline(always)]
-pub fn tapped<const N: usize, S: Samples<N>>(samples: S, start: usize, taps: Taps) -> Simd<u16, N>
+pub fn tapped<const N: usize, S: Samples<N>, W: Weights<N>>(
+    samples: S,
+    start: usize,
+    weights: W,
+) -> Simd<u16, N>
     requires lanes { N ≤ 16 }
     requires start { start ≤ 1099511627776 }
     requires has { (place : ℕ) → start ≤ place → place < start + 6 → S.has samples place }
-    requires small { IsTaps taps }
-    ensures taps { IsLine N (λ lane. tapped_from taps (S.sample samples) lane start) result }
-    ensures between { (kind : Kind) (eighths : ℕ) → AreTapsOf taps kind eighths → IsLine N (λ lane. between_in kind eighths (S.sample samples) lane start) result }
+    requires small { IsTaps (W.taps weights) }
+    ensures taps { IsLine N (λ lane. tapped_from (W.taps weights) (S.sample samples) lane start) result }
+    ensures between { (kind : Kind) (eighths : ℕ) → AreTapsOf (W.taps weights) kind eighths → IsLine N (λ lane. between_in kind eighths (S.sample samples) lane start) result }
 {
     let a = samples.at(start);
     let b = samples.at(start + 1);
@@ -141,5 +146,5 @@ pub fn tapped<const N: usize, S: Samples<N>>(samples: S, start: usize, taps: Tap
     let d = samples.at(start + 3);
     let e = samples.at(start + 4);
     let f = samples.at(start + 5);
-    whole_samples(added(a, c, d, f, taps), taken(b, e, taps))
+    weights.weighed(a, b, c, d, e, f)
 }

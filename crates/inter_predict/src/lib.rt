@@ -3,6 +3,7 @@
 
 mod blocks;
 mod gathering;
+mod kept;
 mod kinds;
 mod lanes;
 pub mod laws;
@@ -13,7 +14,9 @@ mod rows;
 mod samples;
 mod sources;
 mod strips;
+mod sums;
 mod taps;
+mod weights;
 mod windows;
 
 pub use blocks::{block, block_in, pair_in};

@@ -4,7 +4,7 @@ ghost use Rattle.inter_predict.specs.Kernels.{HasRow, IsLine, IsTaps, tapped_fro
 use crate::lanes::tapped;
 use crate::rows::Rows;
 use crate::samples::Samples;
-use crate::taps::Taps;
+use crate::weights::Weights;
 use std::simd::Simd;
 
 /// Lines of samples in `N` lanes, one below the other: the rows of a plane, or what a filter makes of
@@ -37,15 +37,15 @@ impl<S: Samples<N>, const N: usize> Lines<N> for Rows<S> {
 
 /// Rows that are filtered across. The first tap of a row's first sample reads where the row begins.
 #[derive(Clone, Copy)]
-pub struct Across<S> {
+pub struct Across<S, W> {
     pub rows: Rows<S>,
-    pub taps: Taps,
+    pub weights: W,
 }
 
-impl<S: Samples<N>, const N: usize> Lines<N> for Across<S> {
-    ghost sample = { λ across number lane. tapped_from across.taps (S.sample across.rows.samples) lane (number * across.rows.stride + across.rows.start) };
+impl<S: Samples<N>, W: Weights<N>, const N: usize> Lines<N> for Across<S, W> {
+    ghost sample = { λ across number lane. tapped_from (W.taps across.weights) (S.sample across.rows.samples) lane (number * across.rows.stride + across.rows.start) };
 
-    ghost has = { λ across number. IsTaps across.taps × HasRow (S.has across.rows.samples) across.rows.stride across.rows.start number };
+    ghost has = { λ across number. IsTaps (W.taps across.weights) × HasRow (S.has across.rows.samples) across.rows.stride across.rows.start number };
 
     #[inline(always)]
     fn line(self, number: usize) -> Simd<u16, N> {
@@ -54,6 +54,6 @@ impl<S: Samples<N>, const N: usize> Lines<N> for Across<S> {
             start,
             stride,
         } = self.rows;
-        tapped::<N, S>(samples, number * stride + start, self.taps)
+        tapped::<N, S, W>(samples, number * stride + start, self.weights)
     }
 }

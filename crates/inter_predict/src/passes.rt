@@ -2,11 +2,12 @@ ghost use Rattle.std.specs.Prelude.{◌≡◌, ℕ, ◌+◌, ◌-◌, ◌*◌, �
 ghost use Rattle.inter_predict.specs.Kernels.{AreFour, AreTapsOf, AreTwo, IsRoomFor, IsTaps, IsStrip, between_in, tapped_from};
 ghost use Rattle.inter_predict.specs.declared.kinds.Kind.{Kind};
 
-use crate::lanes::{added, clamped_samples, middle, narrowed, taken, whole_samples};
+use crate::lanes::{clamped_samples, middle, narrowed, taken, whole_samples};
 use crate::lines::Lines;
 use crate::rows::Strip;
 use crate::samples::Samples;
 use crate::taps::Taps;
+use crate::weights::Weights;
 
 /// Stores lines in the rows of a strip of `out`.
 #[inline(always)]
@@ -37,9 +38,9 @@ pub fn stored<const N: usize, L: Lines<N>, S: Samples<N>>(
 
 /// Filters lines down into a strip of `out`. Five lines stay in lanes, so each line is made once.
 #[inline(always)]
-fn six_down<const N: usize, L: Lines<N>, S: Samples<N>>(
+pub fn six_down<const N: usize, L: Lines<N>, S: Samples<N>, W: Weights<N>>(
     lines: L,
-    taps: Taps,
+    weights: W,
     strip: Strip,
     out: &mut [u8],
     other: &mut [u8],
@@ -50,10 +51,10 @@ fn six_down<const N: usize, L: Lines<N>, S: Samples<N>>(
     requires lines { (number : ℕ) → number < strip.height + 5 → L.has lines number }
     requires out { IsRoomFor strip S.width (length out.old) }
     requires other { S.width < N → IsRoomFor strip (N - S.width) (length other.old) }
-    requires small { IsTaps taps }
-    ensures out { IsStrip (tapped_from taps (L.sample lines)) strip.first S.width strip.height strip.stride out.old out.new }
-    ensures other { S.width < N → IsStrip (λ column row. tapped_from taps (L.sample lines) (S.width + column) row) strip.first (N - S.width) strip.height strip.stride other.old other.new }
-    ensures between { (kind : Kind) (eighths : ℕ) → AreTapsOf taps kind eighths → IsStrip (between_in kind eighths (L.sample lines)) strip.first S.width strip.height strip.stride out.old out.new }
+    requires small { IsTaps (W.taps weights) }
+    ensures out { IsStrip (tapped_from (W.taps weights) (L.sample lines)) strip.first S.width strip.height strip.stride out.old out.new }
+    ensures other { S.width < N → IsStrip (λ column row. tapped_from (W.taps weights) (L.sample lines) (S.width + column) row) strip.first (N - S.width) strip.height strip.stride other.old other.new }
+    ensures between { (kind : Kind) (eighths : ℕ) → AreTapsOf (W.taps weights) kind eighths → IsStrip (between_in kind eighths (L.sample lines)) strip.first S.width strip.height strip.stride out.old out.new }
 {
     let mut a = lines.line(0);
     let mut b = lines.line(1);
@@ -62,7 +63,7 @@ fn six_down<const N: usize, L: Lines<N>, S: Samples<N>>(
     let mut e = lines.line(4);
     for row in 0..strip.height {
         let f = lines.line(row + 5);
-        let samples = whole_samples(added(a, c, d, f, taps), taken(b, e, taps));
+        let samples = weights.weighed(a, b, c, d, e, f);
         S::store(
             narrowed(samples),
             row * strip.stride + strip.first,
@@ -168,7 +169,7 @@ pub fn wide_down<const N: usize, L: Lines<N>, S: Samples<N>>(
     if taps.are_four() {
         four_down::<N, L, S>(lines, taps, strip, out, other);
     } else {
-        six_down::<N, L, S>(lines, taps, strip, out, other);
+        six_down::<N, L, S, Taps>(lines, taps, strip, out, other);
     }
 }
 

@@ -16,6 +16,10 @@ pub trait Samples<const N: usize>: Copy {
     // how many lanes are the first plane's
     ghost width: { ℕ };
 
+    /// Does nothing. Its contract: no more lanes are the first plane's than there are.
+    fn prove_width()
+        ensures { width ≤ N };
+
     /// The samples from index `place` on, in lanes of 16 bits.
     fn at(self, place: usize) -> Simd<u16, N>
         requires lanes { N ≤ 16 }
@@ -38,6 +42,11 @@ impl<'a, const N: usize> Samples<N> for &'a [u8] {
     ghost has = { λ samples place. place + N ≤ length samples.now };
 
     ghost width = { N };
+
+    #[inline(always)]
+    fn prove_width()
+        ensures { N ≤ N }
+    {}
 
     #[inline(always)]
     fn at(self, place: usize) -> Simd<u16, N> {
@@ -69,6 +78,11 @@ impl<'a> Samples<16> for Pair<'a> {
     ghost has = { λ pair place. (place + 8 ≤ length pair.one.now) × (place + 8 ≤ length pair.other.now) };
 
     ghost width = { 8 };
+
+    #[inline(always)]
+    fn prove_width()
+        ensures { 8 ≤ 16 }
+    {}
 
     #[inline(always)]
     fn at(self, place: usize) -> Simd<u16, 16> {

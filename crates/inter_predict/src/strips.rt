@@ -5,6 +5,7 @@ use crate::lines::Across;
 use crate::passes::{filter_down, stored, two_down, wide_down};
 use crate::rows::{Rows, Strip};
 use crate::samples::{Pair, Samples};
+use crate::sums::{sums_across, sums_both, sums_down};
 use crate::taps::{Filters, Taps};
 use std::simd::Simd;
 
@@ -51,14 +52,43 @@ fn filter_across<const N: usize, S: Samples<N>>(
     ensures out { IsStrip (λ column row. tapped_from taps (S.sample rows.samples) column (row * rows.stride + rows.start)) strip.first S.width strip.height strip.stride out.old out.new }
     ensures other { S.width < N → IsStrip (λ column row. tapped_from taps (S.sample rows.samples) (S.width + column) (row * rows.stride + rows.start)) strip.first (N - S.width) strip.height strip.stride other.old other.new }
 {
-    if taps.are_two() {
-        let taps = taps.as_two();
-        stored::<N, Across<S>, S>(Across { rows, taps }, strip, out, other);
+    if N == 16 && taps.eighths > 0 {
+        sums_across::<N, S>(rows, taps, strip, out, other);
+    } else if taps.are_two() {
+        let weights = taps.as_two();
+        stored::<N, Across<S, Taps>, S>(Across { rows, weights }, strip, out, other);
     } else if taps.are_four() {
-        let taps = taps.as_four();
-        stored::<N, Across<S>, S>(Across { rows, taps }, strip, out, other);
+        let weights = taps.as_four();
+        stored::<N, Across<S, Taps>, S>(Across { rows, weights }, strip, out, other);
     } else {
-        stored::<N, Across<S>, S>(Across { rows, taps }, strip, out, other);
+        let weights = taps;
+        stored::<N, Across<S, Taps>, S>(Across { rows, weights }, strip, out, other);
+    }
+}
+
+/// Filters rows down into a strip of `out`.
+#[inline(always)]
+fn filter_rows_down<const N: usize, S: Samples<N>>(
+    rows: Rows<S>,
+    taps: Taps,
+    strip: Strip,
+    out: &mut [u8],
+    other: &mut [u8],
+)
+    requires lanes { (0 < N) × (N ≤ 16) }
+    requires height { (0 < strip.height) × (strip.height ≤ 16) }
+    requires stride { strip.stride ≤ 65536 }
+    requires lines { (number : ℕ) → number < strip.height + 5 → (number * rows.stride + rows.start ≤ 1099511627776) × S.has rows.samples (number * rows.stride + rows.start) }
+    requires out { IsRoomFor strip S.width (length out.old) }
+    requires other { S.width < N → IsRoomFor strip (N - S.width) (length other.old) }
+    requires small { IsTaps taps }
+    ensures out { IsStrip (tapped_from taps (λ number. S.sample rows.samples (number * rows.stride + rows.start))) strip.first S.width strip.height strip.stride out.old out.new }
+    ensures other { S.width < N → IsStrip (λ column row. tapped_from taps (λ number. S.sample rows.samples (number * rows.stride + rows.start)) (S.width + column) row) strip.first (N - S.width) strip.height strip.stride other.old other.new }
+{
+    if N == 16 && taps.eighths > 0 {
+        sums_down::<N, Rows<S>, S>(rows, taps, strip, out, other);
+    } else {
+        filter_down::<N, Rows<S>, S>(rows, taps, strip, out, other);
     }
 }
 
@@ -84,15 +114,17 @@ fn filter_both<const N: usize, S: Samples<N>>(
     ensures other { S.width < N → IsStrip (λ column row. tapped_from filters.down (λ line lane. tapped_from filters.across (S.sample rows.samples) lane (line * rows.stride + rows.start)) (S.width + column) row) strip.first (N - S.width) strip.height strip.stride other.old other.new }
 {
     let Filters { across, down } = filters;
-    if filters.are_two() {
-        let taps = across.as_two();
-        two_down::<N, Across<S>, S>(Across { rows, taps }, down, strip, out, other);
+    if N == 16 && across.eighths > 0 && down.eighths > 0 {
+        sums_both::<N, S>(rows, filters, strip, out, other);
+    } else if filters.are_two() {
+        let weights = across.as_two();
+        two_down::<N, Across<S, Taps>, S>(Across { rows, weights }, down, strip, out, other);
     } else if across.are_four() {
-        let taps = across.as_four();
-        wide_down::<N, Across<S>, S>(Across { rows, taps }, down, strip, out, other);
+        let weights = across.as_four();
+        wide_down::<N, Across<S, Taps>, S>(Across { rows, weights }, down, strip, out, other);
     } else {
-        let taps = across;
-        wide_down::<N, Across<S>, S>(Across { rows, taps }, down, strip, out, other);
+        let weights = across;
+        wide_down::<N, Across<S, Taps>, S>(Across { rows, weights }, down, strip, out, other);
     }
 }
 
@@ -147,7 +179,7 @@ pub fn strip<const N: usize>(
                 start,
                 stride,
             };
-            filter_down::<N, Rows<&[u8]>, &[u8]>(rows, down, strip, out, &mut []);
+            filter_rows_down::<N, &[u8]>(rows, down, strip, out, &mut []);
         }
         (false, false) => {
             let rows = Rows {
@@ -220,7 +252,7 @@ pub fn pair_strip(
                 start,
                 stride,
             };
-            filter_down::<16, Rows<Pair>, Pair>(rows, down, strip, out, other);
+            filter_rows_down::<16, Pair>(rows, down, strip, out, other);
         }
         (false, false) => {
             let rows = Rows {

@@ -16,6 +16,8 @@ pub struct Taps {
     pub d: u16,
     pub e: u16,
     pub f: u16,
+    /// The number of eighths of a six-tap filter, 0 for taps of any other.
+    pub eighths: usize,
 }
 
 /// The filters that make a block: rows are filtered across, and then columns down.
@@ -58,15 +60,15 @@ impl Taps {
         ensures value { (line : ℤ → ℕ) (place : ℤ) → between kind eighths line place ≡ tapped result (λ k. line ((place -ℤ pos 2) +ℤ pos k)) }
     {
         match kind {
-            Kind::SixTap => Taps::of_row(&SIX_TAPS[eighths]),
-            Kind::Bilinear => Taps::of_row(&TWO_TAPS[eighths]),
+            Kind::SixTap => Taps::of_row(&SIX_TAPS[eighths], eighths),
+            Kind::Bilinear => Taps::of_row(&TWO_TAPS[eighths], 0),
         }
     }
 
-    /// The taps of a row of a table.
+    /// The taps of a row of a table, with a number of eighths.
     #[inline]
-    fn of_row(row: &[u16; 6]) -> Taps
-        ensures { result ≡ taps_of row.now }
+    fn of_row(row: &[u16; 6], eighths: usize) -> Taps
+        ensures { result ≡ taps_of row.now eighths }
     {
         Taps {
             a: row[0],
@@ -75,6 +77,7 @@ impl Taps {
             d: row[3],
             e: row[4],
             f: row[5],
+            eighths,
         }
     }
 

@@ -17,3 +17,4 @@ pub mod ApartBlocks
 pub mod Front
 pub mod LevelLemmas
 pub mod Joined
+pub mod Wide

@@ -1,12 +1,13 @@
 -- Lines that are loaded from samples and stored.
-use Rattle.std.specs.Prelude.{slice_index}
+use Rattle.std.specs.Prelude.{slice_index, slice_index_or}
 use Rattle.std.specs.Simd.Lanes.{put_chunk}
-use Rattle.std.proofs.Common.{◌≡◌, ℕ, suc, ◌+◌, ◌-◌, ◌*◌, ◌<◌, inl, inr, List, [], ◌∷◌, ◌++◌, refl, ap, subst, ◌∙◌, arith}
+use Rattle.std.proofs.Common.{◌≡◌, ℕ, suc, ◌+◌, ◌-◌, ◌*◌, ◌<◌, ◌≤◌, inl, inr, List, [], ◌∷◌, ◌++◌, map, refl, ap, subst, ◌∙◌, arith}
 use Rattle.std.proofs.lemmas.Bool.{cases_lt}
+use Rattle.loop_filter.specs.declared.kernels.WideTaps.{WideTaps}
 use Rattle.loop_filter.specs.declared.taps.Taps.{Taps}
 use Rattle.loop_filter.specs.Lines.{Line}
 use Rattle.loop_filter.specs.Edges.{line_in}
-use Rattle.loop_filter.specs.Lanes.{line_at, vector, vectors, column_of, row_of, eight_from, row_in_pairs, rows_put}
+use Rattle.loop_filter.specs.Lanes.{HoldLines, line_at, wide_line_at, vector, column_of, wide_column_of, eight_from, row_in_pairs, rows_put}
 use Rattle.loop_filter.proofs.EdgeFold.{same_line, samples_of}
 use Rattle.loop_filter.proofs.Transposed.{below_eight}
 
@@ -23,32 +24,43 @@ lanes_line lane w = record {
   q3 = slice_index w (lane 7);
 }
 
-lanes_are : (lane : ℕ → ℕ) (w s : List ℕ) (place at : ℕ) → place ≡ at → ((k : ℕ) → k < 8 → slice_index w (lane k) ≡ slice_index s (place + k)) → lanes_line lane w ≡ line_in s at 1
-lanes_are lane w s place at same is =
+lanes_are : (lane : ℕ → ℕ) (w s : List ℕ) (place : ℕ) → ((k : ℕ) → k < 8 → slice_index w (lane k) ≡ slice_index s (place + k)) → lanes_line lane w ≡ line_in s place 1
+lanes_are lane w s place is =
     let none : place + 0 ≡ place = omega arith in
     same_line (lanes_line lane w) (line_in s place 1) (is 0 (omega arith) ∙ ap (slice_index s) none) (is 1 (omega arith)) (is 2 (omega arith)) (is 3 (omega arith)) (is 4 (omega arith)) (is 5 (omega arith)) (is 6 (omega arith)) (is 7 (omega arith))
-    ∙ ap (λ (n : ℕ). line_in s n 1) same
 
--- each of eight vectors holds the lane of one line
+-- the lanes of one vector hold a line
 abbrev pub Holds : (ℕ → ℕ) → List ℕ → List ℕ → ℕ → Type 0
 Holds lane w s place = (k : ℕ) → k < 8 → slice_index w (lane k) ≡ slice_index s (place + k)
 
-pub eight_lines : (line : ℕ → Line) (lane : ℕ → ℕ) (w0 w1 w2 w3 w4 w5 w6 w7 s : List ℕ) (start stride : ℕ)
-    → line 0 ≡ lanes_line lane w0 → line 1 ≡ lanes_line lane w1 → line 2 ≡ lanes_line lane w2 → line 3 ≡ lanes_line lane w3
-    → line 4 ≡ lanes_line lane w4 → line 5 ≡ lanes_line lane w5 → line 6 ≡ lanes_line lane w6 → line 7 ≡ lanes_line lane w7
-    → Holds lane w0 s start → Holds lane w1 s (start + stride) → Holds lane w2 s (start + 2 * stride) → Holds lane w3 s (start + 3 * stride)
-    → Holds lane w4 s (start + 4 * stride) → Holds lane w5 s (start + 5 * stride) → Holds lane w6 s (start + 6 * stride) → Holds lane w7 s (start + 7 * stride)
-    → (i : ℕ) → i < 8 → line i ≡ line_in s (start + i * stride) 1
-eight_lines line lane w0 w1 w2 w3 w4 w5 w6 w7 s start stride e0 e1 e2 e3 e4 e5 e6 e7 h0 h1 h2 h3 h4 h5 h6 h7 =
+pub eight_hold : (lane : ℕ → ℕ) (w0 w1 w2 w3 w4 w5 w6 w7 s : List ℕ) (start stride : ℕ) → Holds lane w0 s start → Holds lane w1 s (start + stride) → Holds lane w2 s (start + 2 * stride) → Holds lane w3 s (start + 3 * stride) → Holds lane w4 s (start + 4 * stride) → Holds lane w5 s (start + 5 * stride) → Holds lane w6 s (start + 6 * stride) → Holds lane w7 s (start + 7 * stride)
+    → HoldLines lane (w0 ∷ w1 ∷ w2 ∷ w3 ∷ w4 ∷ w5 ∷ w6 ∷ w7 ∷ []) s start stride
+eight_hold lane w0 w1 w2 w3 w4 w5 w6 w7 s start stride h0 h1 h2 h3 h4 h5 h6 h7 n k less below =
+    let none : start ≡ start + 0 * stride = omega arith in
+    let one : start + stride ≡ start + 1 * stride = omega arith in
+    below_eight (λ n. Holds lane (slice_index_or (w0 ∷ w1 ∷ w2 ∷ w3 ∷ w4 ∷ w5 ∷ w6 ∷ w7 ∷ []) n []) s (start + n * stride)) (subst (Holds lane w0 s) none h0) (subst (Holds lane w1 s) one h1) h2 h3 h4 h5 h6 h7 n less k below
+
+pub eight_lines : (line : ℕ → Line) (lane : ℕ → ℕ) (w0 w1 w2 w3 w4 w5 w6 w7 s : List ℕ) (start stride : ℕ) → line 0 ≡ lanes_line lane w0 → line 1 ≡ lanes_line lane w1 → line 2 ≡ lanes_line lane w2 → line 3 ≡ lanes_line lane w3 → line 4 ≡ lanes_line lane w4 → line 5 ≡ lanes_line lane w5 → line 6 ≡ lanes_line lane w6 → line 7 ≡ lanes_line lane w7
+    → HoldLines lane (w0 ∷ w1 ∷ w2 ∷ w3 ∷ w4 ∷ w5 ∷ w6 ∷ w7 ∷ []) s start stride → (i : ℕ) → i < 8 → line i ≡ line_in s (start + i * stride) 1
+eight_lines line lane w0 w1 w2 w3 w4 w5 w6 w7 s start stride e0 e1 e2 e3 e4 e5 e6 e7 hold =
     below_eight (λ i. line i ≡ line_in s (start + i * stride) 1)
-    (e0 ∙ lanes_are lane w0 s start (start + 0 * stride) (omega arith) h0)
-    (e1 ∙ lanes_are lane w1 s (start + stride) (start + 1 * stride) (omega arith) h1)
-    (e2 ∙ lanes_are lane w2 s _ (start + 2 * stride) refl h2)
-    (e3 ∙ lanes_are lane w3 s _ (start + 3 * stride) refl h3)
-    (e4 ∙ lanes_are lane w4 s _ (start + 4 * stride) refl h4)
-    (e5 ∙ lanes_are lane w5 s _ (start + 5 * stride) refl h5)
-    (e6 ∙ lanes_are lane w6 s _ (start + 6 * stride) refl h6)
-    (e7 ∙ lanes_are lane w7 s _ (start + 7 * stride) refl h7)
+    (e0 ∙ lanes_are lane w0 s (start + 0 * stride) (λ k less. hold 0 k (omega arith) less))
+    (e1 ∙ lanes_are lane w1 s (start + 1 * stride) (λ k less. hold 1 k (omega arith) less))
+    (e2 ∙ lanes_are lane w2 s (start + 2 * stride) (λ k less. hold 2 k (omega arith) less))
+    (e3 ∙ lanes_are lane w3 s (start + 3 * stride) (λ k less. hold 3 k (omega arith) less))
+    (e4 ∙ lanes_are lane w4 s (start + 4 * stride) (λ k less. hold 4 k (omega arith) less))
+    (e5 ∙ lanes_are lane w5 s (start + 5 * stride) (λ k less. hold 5 k (omega arith) less))
+    (e6 ∙ lanes_are lane w6 s (start + 6 * stride) (λ k less. hold 6 k (omega arith) less))
+    (e7 ∙ lanes_are lane w7 s (start + 7 * stride) (λ k less. hold 7 k (omega arith) less))
+
+-- the first sixteen lanes of wider vectors, and the other sixteen
+pub first_hold : (lane : ℕ → ℕ) (ws parts : List (List ℕ)) (s : List ℕ) (start stride : ℕ) → ((k : ℕ) → k < 8 → lane k < 16)
+    → ((n : ℕ) → n < 8 → (i : ℕ) → i < 16 → slice_index (slice_index_or ws n []) i ≡ slice_index (slice_index_or parts n []) i) → HoldLines lane parts s start stride → HoldLines lane ws s start stride
+first_hold lane ws parts s start stride short same hold n k less below = same n less (lane k) (short k below) ∙ hold n k less below
+
+pub second_hold : (lane : ℕ → ℕ) (ws parts : List (List ℕ)) (s : List ℕ) (start stride : ℕ) → ((k : ℕ) → k < 8 → lane k < 16)
+    → ((n : ℕ) → n < 8 → (i : ℕ) → i < 16 → slice_index (slice_index_or ws n []) (16 + i) ≡ slice_index (slice_index_or parts n []) i) → HoldLines lane parts s start stride → HoldLines (λ k. 16 + lane k) ws s start stride
+second_hold lane ws parts s start stride short same hold n k less below = same n less (lane k) (short k below) ∙ hold n k less below
 
 -- vectors of columns
 abbrev pub turned : List (List ℕ) → Taps
@@ -58,6 +70,14 @@ pub is_turned : (t : Taps) (ws : List (List ℕ)) → t.p3 ≡ column_of 0 ws �
     → (i : ℕ) → line_at t i ≡ line_at (turned ws) i
 is_turned t ws e0 e1 e2 e3 e4 e5 e6 e7 i =
     same_line (line_at t i) (line_at (turned ws) i) (ap (λ l. slice_index l i) e0) (ap (λ l. slice_index l i) e1) (ap (λ l. slice_index l i) e2) (ap (λ l. slice_index l i) e3) (ap (λ l. slice_index l i) e4) (ap (λ l. slice_index l i) e5) (ap (λ l. slice_index l i) e6) (ap (λ l. slice_index l i) e7)
+
+abbrev pub wide_turned : List (List ℕ) → WideTaps
+wide_turned ws = record { p3 = wide_column_of 0 ws; p2 = wide_column_of 1 ws; p1 = wide_column_of 2 ws; p0 = wide_column_of 3 ws; q0 = wide_column_of 4 ws; q1 = wide_column_of 5 ws; q2 = wide_column_of 6 ws; q3 = wide_column_of 7 ws }
+
+pub is_wide_turned : (t : WideTaps) (ws : List (List ℕ)) → t.p3 ≡ wide_column_of 0 ws → t.p2 ≡ wide_column_of 1 ws → t.p1 ≡ wide_column_of 2 ws → t.p0 ≡ wide_column_of 3 ws
+    → t.q0 ≡ wide_column_of 4 ws → t.q1 ≡ wide_column_of 5 ws → t.q2 ≡ wide_column_of 6 ws → t.q3 ≡ wide_column_of 7 ws → (i : ℕ) → wide_line_at t i ≡ wide_line_at (wide_turned ws) i
+is_wide_turned t ws e0 e1 e2 e3 e4 e5 e6 e7 i =
+    same_line (wide_line_at t i) (wide_line_at (wide_turned ws) i) (ap (λ l. slice_index l i) e0) (ap (λ l. slice_index l i) e1) (ap (λ l. slice_index l i) e2) (ap (λ l. slice_index l i) e3) (ap (λ l. slice_index l i) e4) (ap (λ l. slice_index l i) e5) (ap (λ l. slice_index l i) e6) (ap (λ l. slice_index l i) e7)
 
 -- eight rows that are written in sequence
 pub eight_rows : (s : List ℕ) (start stride : ℕ) (row : ℕ → List ℕ)
@@ -101,17 +121,24 @@ pub paired_rows : (row : ℕ → List ℕ) (r0 r2 r4 r6 : List ℕ)
     → (k : ℕ) → k < 8 → row_in_pairs (r0 ∷ r2 ∷ r4 ∷ r6 ∷ []) k ≡ row k
 paired_rows row r0 r2 r4 r6 e0 e1 e2 e3 e4 e5 e6 e7 = below_eight (λ k. row_in_pairs (r0 ∷ r2 ∷ r4 ∷ r6 ∷ []) k ≡ row k) e0 e1 e2 e3 e4 e5 e6 e7
 
+-- eight lanes of a part of a vector
+pub eight_of_part : (lane : ℕ → ℕ) (first : ℕ) (part row whole : List ℕ) → ((i : ℕ) → i < 16 → slice_index part i ≡ slice_index row (lane i)) → row ≡ whole → first ≤ 8
+    → eight_from first part ≡ map (λ k. slice_index whole (lane (first + k))) (0 ∷ 1 ∷ 2 ∷ 3 ∷ 4 ∷ 5 ∷ 6 ∷ 7 ∷ [])
+eight_of_part lane first part row whole is same le =
+    let at : (k : ℕ) → k < 8 → slice_index part (first + k) ≡ slice_index whole (lane (first + k)) = λ (k : ℕ) (less : k < 8). is (first + k) (omega arith) ∙ ap (λ l. slice_index l (lane (first + k))) same in
+    rw (at 0 (omega arith), at 1 (omega arith), at 2 (omega arith), at 3 (omega arith), at 4 (omega arith), at 5 (omega arith), at 6 (omega arith), at 7 (omega arith)) refl
+
 -- sixteen lines, eight and eight
-pub both_eights : (t : Taps) (s : List ℕ) (start stride : ℕ) → ((i : ℕ) → i < 8 → line_at t i ≡ line_in s (start + i * stride) 1) → ((i : ℕ) → i < 8 → line_at t (8 + i) ≡ line_in s (start + 8 * stride + i * stride) 1)
-    → (i : ℕ) → i < 16 → line_at t i ≡ line_in s (start + i * stride) 1
-both_eights t s start stride upper lower i less =
+pub both_eights : (line : ℕ → Line) (s : List ℕ) (start stride : ℕ) → ((i : ℕ) → i < 8 → line i ≡ line_in s (start + i * stride) 1) → ((i : ℕ) → i < 8 → line (8 + i) ≡ line_in s (start + 8 * stride + i * stride) 1)
+    → (i : ℕ) → i < 16 → line i ≡ line_in s (start + i * stride) 1
+both_eights line s start stride upper lower i less =
     elim (cases_lt i 8) [
       | inl above ↦ upper i above
       | inr from ↦
           let j = i - 8 in
           let same : 8 + j ≡ i = omega arith in
           let place : start + 8 * stride + j * stride ≡ start + (8 + j) * stride = omega arith in
-          subst (λ (n : ℕ). line_at t n ≡ line_in s (start + n * stride) 1) same (lower j (omega arith) ∙ ap (λ (p : ℕ). line_in s p 1) place)
+          subst (λ (n : ℕ). line n ≡ line_in s (start + n * stride) 1) same (lower j (omega arith) ∙ ap (λ (p : ℕ). line_in s p 1) place)
     ]
 
 -- eight of its lanes
@@ -121,18 +148,11 @@ lane_of_first t i k less below = below_eight (λ i. slice_index (eight_from 0 (v
 pub lane_of_second : (t : Taps) (i k : ℕ) → i < 8 → k < 8 → slice_index (eight_from 8 (vector t k)) i ≡ slice_index (samples_of (line_at t (8 + i))) k
 lane_of_second t i k less below = below_eight (λ i. slice_index (eight_from 8 (vector t k)) i ≡ slice_index (vector t k) (8 + i)) refl refl refl refl refl refl refl refl i less ∙ lane_of_vector t (8 + i) k below
 
--- the same lanes, at an index that is written another way
-pub moved_on : (lane : ℕ → ℕ) (w s : List ℕ) (place other : ℕ) → place ≡ other → Holds lane w s place → Holds lane w s other
-moved_on lane w s place other same holds = subst (Holds lane w s) same holds
-
 -- two more rows of sixteen samples
-abbrev pub wide_row : Taps → Taps → ℕ → List ℕ
-wide_row a b i = row_of i (vectors a) ++ row_of i (vectors b)
-
-pub two_more : (s : List ℕ) (start stride : ℕ) (a b : Taps) (n at : ℕ) (l r before new : List ℕ) → start + n * stride ≡ at → before ≡ rows_put s start stride (wide_row a b) n
-    → l ≡ row_of n (vectors a) ++ row_of (suc n) (vectors a) → r ≡ row_of n (vectors b) ++ row_of (suc n) (vectors b)
-    → new ≡ put_chunk (at + stride) (put_chunk at before (eight_from 0 l ++ eight_from 0 r)) (eight_from 8 l ++ eight_from 8 r) → new ≡ rows_put s start stride (wide_row a b) (suc (suc n))
+pub two_more : (s : List ℕ) (start stride : ℕ) (row : ℕ → List ℕ) (n at : ℕ) (rows before new : List ℕ) → start + n * stride ≡ at → before ≡ rows_put s start stride row n
+    → eight_from 0 rows ++ eight_from 16 rows ≡ row n → eight_from 8 rows ++ eight_from 24 rows ≡ row (suc n)
+    → new ≡ put_chunk (at + stride) (put_chunk at before (eight_from 0 rows ++ eight_from 16 rows)) (eight_from 8 rows ++ eight_from 24 rows) → new ≡ rows_put s start stride row (suc (suc n))
 unfolding rows_put
-two_more s start stride a b n at l r before new place is el er stored =
+two_more s start stride row n at rows before new place is first second stored =
     let next : at + stride ≡ start + suc n * stride = omega (arith, place) in
-    stored ∙ rw (el, er, is, next, ← place) refl
+    stored ∙ rw (first, second, is, next, ← place) refl

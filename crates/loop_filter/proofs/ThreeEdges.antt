@@ -5,7 +5,7 @@ use Rattle.std.proofs.Common.{◌≡◌, ℕ, zero, suc, ◌+◌, ◌*◌, ◌<�
 use Rattle.std.proofs.lemmas.Simd.{length-put_chunk, get_or-put_chunk_below, get_or-put_chunk_at, get_or-put_chunk_above}
 use Rattle.loop_filter.specs.Lines.{Line}
 use Rattle.loop_filter.specs.Edges.{line_in, with_line, lines_filtered}
-use Rattle.loop_filter.specs.Lanes.{middle_line, last_line, left_filtered, right_filtered, rows_put}
+use Rattle.loop_filter.specs.Lanes.{middle_line, last_line, left_after, right_after, rows_put}
 use Rattle.loop_filter.proofs.EdgeFold.{samples_of, same_line, same_line_in, line_is_sets, line_is_put}
 use Rattle.loop_filter.proofs.RowsPut.{put_past_sets, earlier_row}
 
@@ -73,7 +73,7 @@ abbrev pub last_of : (Line → Line) → List ℕ → ℕ → Line
 last_of f s at = f (last_line (middle_of f s at) (line_in s (at + 8) 1))
 
 abbrev pub row_filtered : (Line → Line) → List ℕ → ℕ → List ℕ
-row_filtered f s at = samples_of (left_filtered f (line_in s at 1) (line_in s (at + 8) 1)) ++ samples_of (right_filtered f (line_in s at 1) (line_in s (at + 8) 1))
+row_filtered f s at = samples_of (left_after f (first_of f s at) (line_in s (at + 8) 1)) ++ samples_of (right_after f (first_of f s at) (line_in s (at + 8) 1))
 
 -- a line that begins in the middle of one that was written
 line_after : (s : List ℕ) (at place : ℕ) (l : Line) → at + 4 ≡ place → at + 8 ≤ length s

@@ -1,6 +1,6 @@
 -- The contents of interleaved vectors.
 use Rattle.std.specs.Prelude.{slice_index}
-use Rattle.std.proofs.Common.{◌≡◌, ℕ, zero, suc, ◌*◌, ◌+◌, ◌-◌, ◌<◌, ◌≤◌, List, [], ◌∷◌, ◌++◌, length, get_or, refl, ap, ◌∙◌, arith}
+use Rattle.std.proofs.Common.{◌≡◌, ℕ, zero, suc, ◌*◌, ◌+◌, ◌-◌, ◌<◌, List, [], ◌∷◌, ◌++◌, length, get_or, refl, ap, ◌∙◌, arith}
 use Rattle.std.proofs.lemmas.List.{get_or_append_left, get_or-append_right}
 
 -- a lane of the first of two concatenated vectors, and one of the second
@@ -69,19 +69,3 @@ pub second_lane : (a b : List ℕ) → length a ≡ 8 → (k : ℕ) → k < 8 �
 second_lane a b long =
     let at : (m : ℕ) → get_or (a ++ b) (m + 8) 0 ≡ get_or b m 0 = λ (m : ℕ). get_or-append_right a b 8 (m + 8) 0 long (omega arith) ∙ (let same : m + 8 - 8 ≡ m = omega arith in ap (λ (i : ℕ). get_or b i 0) same) in
     below_eight (λ k. slice_index (in_order (a ++ b)) (8 + k) ≡ slice_index b k) (at 0) (at 1) (at 2) (at 3) (at 4) (at 5) (at 6) (at 7)
-
--- halves of two vectors of sixteen lanes, interleaved
-abbrev pub interleaved_from : ℕ → List ℕ → List ℕ
-interleaved_from first ab =
-    get_or ab (first + 0) 0 ∷ get_or ab (first + 0 + 16) 0 ∷ get_or ab (first + 1) 0 ∷ get_or ab (first + 1 + 16) 0 ∷ get_or ab (first + 2) 0 ∷ get_or ab (first + 2 + 16) 0 ∷ get_or ab (first + 3) 0 ∷ get_or ab (first + 3 + 16) 0
-    ∷ get_or ab (first + 4) 0 ∷ get_or ab (first + 4 + 16) 0 ∷ get_or ab (first + 5) 0 ∷ get_or ab (first + 5 + 16) 0 ∷ get_or ab (first + 6) 0 ∷ get_or ab (first + 6 + 16) 0 ∷ get_or ab (first + 7) 0 ∷ get_or ab (first + 7 + 16) 0 ∷ []
-
-pub interleaved_even : (first : ℕ) (a b : List ℕ) → first ≤ 8 → length a ≡ 16 → (k : ℕ) → k < 8 → slice_index (interleaved_from first (a ++ b)) (2 * k) ≡ slice_index a (first + k)
-interleaved_even first a b le long =
-    let at : (m : ℕ) → m < 8 → get_or (a ++ b) (first + m) 0 ≡ get_or a (first + m) 0 = λ (m : ℕ) (less : m < 8). front a b (first + m) long (omega arith) in
-    below_eight (λ k. slice_index (interleaved_from first (a ++ b)) (2 * k) ≡ slice_index a (first + k)) (at 0 (omega arith)) (at 1 (omega arith)) (at 2 (omega arith)) (at 3 (omega arith)) (at 4 (omega arith)) (at 5 (omega arith)) (at 6 (omega arith)) (at 7 (omega arith))
-
-pub interleaved_odd : (first : ℕ) (a b : List ℕ) → length a ≡ 16 → (k : ℕ) → k < 8 → slice_index (interleaved_from first (a ++ b)) (2 * k + 1) ≡ slice_index b (first + k)
-interleaved_odd first a b long =
-    let at : (m : ℕ) → get_or (a ++ b) (first + m + 16) 0 ≡ get_or b (first + m) 0 = λ (m : ℕ). following a b (first + m) long in
-    below_eight (λ k. slice_index (interleaved_from first (a ++ b)) (2 * k + 1) ≡ slice_index b (first + k)) (at 0) (at 1) (at 2) (at 3) (at 4) (at 5) (at 6) (at 7)

@@ -98,12 +98,24 @@ wide_line_at t i = record {
 abbrev pub vectors : Taps → List (List ℕ)
 vectors t = t.p3 ∷ t.p2 ∷ t.p1 ∷ t.p0 ∷ t.q0 ∷ t.q1 ∷ t.q2 ∷ t.q3 ∷ []
 
+-- those of thirty-two lines
+abbrev pub wide_vectors : WideTaps → List (List ℕ)
+wide_vectors t = t.p3 ∷ t.p2 ∷ t.p1 ∷ t.p0 ∷ t.q0 ∷ t.q1 ∷ t.q2 ∷ t.q3 ∷ []
+
 abbrev pub vector : Taps → ℕ → List ℕ
 vector t k = slice_index_or (vectors t) k []
 
 -- sample k of sixteen lines, if number i of eight vectors holds lines i and i + 8, their samples alternating
 abbrev pub column_of : ℕ → List (List ℕ) → List ℕ
 column_of k interleaved = map (λ lanes. slice_index lanes (2 * k)) interleaved ++ map (λ lanes. slice_index lanes (2 * k + 1)) interleaved
+
+-- sample k of thirty-two lines, if both halves of the vectors hold lines in this way
+abbrev pub wide_column_of : ℕ → List (List ℕ) → List ℕ
+wide_column_of k interleaved = column_of k interleaved ++ column_of (8 + k) interleaved
+
+-- some lanes of eight vectors hold lines of adjacent samples: those of vector n the line that begins n strides after `start`
+abbrev pub HoldLines : (ℕ → ℕ) → List (List ℕ) → List ℕ → ℕ → ℕ → Type 0
+HoldLines lane interleaved samples start stride = (n k : ℕ) → n < 8 → k < 8 → slice_index (slice_index_or interleaved n []) (lane k) ≡ slice_index samples (start + n * stride + k)
 
 -- line i of sixteen, if number k of eight vectors holds sample k of each
 abbrev pub row_of : ℕ → List (List ℕ) → List ℕ
@@ -112,6 +124,16 @@ row_of i columns = map (λ lanes. slice_index lanes i) columns
 -- eight lanes of a vector, starting at one
 abbrev pub eight_from : ℕ → List ℕ → List ℕ
 eight_from first lanes = map (λ k. slice_index lanes (first + k)) (0 ∷ 1 ∷ 2 ∷ 3 ∷ 4 ∷ 5 ∷ 6 ∷ 7 ∷ [])
+
+-- eight lanes of each of two vectors, starting at one, alternately one of a and one of b
+abbrev pub interleaved_from : ℕ → List ℕ → List ℕ → List ℕ
+interleaved_from first a b =
+    slice_index a (first + 0) ∷ slice_index b (first + 0) ∷ slice_index a (first + 1) ∷ slice_index b (first + 1) ∷ slice_index a (first + 2) ∷ slice_index b (first + 2) ∷ slice_index a (first + 3) ∷ slice_index b (first + 3)
+    ∷ slice_index a (first + 4) ∷ slice_index b (first + 4) ∷ slice_index a (first + 5) ∷ slice_index b (first + 5) ∷ slice_index a (first + 6) ∷ slice_index b (first + 6) ∷ slice_index a (first + 7) ∷ slice_index b (first + 7) ∷ []
+
+-- the same in both halves of vectors of thirty-two lanes
+unfoldable pub interleaved_halves : ℕ → List ℕ → List ℕ → List ℕ
+interleaved_halves first a b = interleaved_from first a b ++ interleaved_from (16 + first) a b
 
 -- the rows of vectors that hold two each, one after the other
 abbrev pub rows_of : List (List ℕ) → List (List ℕ)
@@ -134,12 +156,9 @@ middle_line first right = record { p3 = first.q0; p2 = first.q1; p1 = first.q2; 
 abbrev pub last_line : Line → Line → Line
 last_line middle right = record right { p3 = middle.q0; p2 = middle.q1; p1 = middle.q2; p0 = middle.q3 }
 
--- the left and the right eight samples of such a row after the filters of the three edges
-abbrev pub left_filtered : (Line → Line) → Line → Line → Line
-left_filtered filter left right =
-    let first = filter left in
-    let middle = filter (middle_line first right) in
-    record first { q0 = middle.p3; q1 = middle.p2; q2 = middle.p1; q3 = middle.p0 }
+-- the left and the right eight samples of such a row after the filters of the second and the third edge
+abbrev pub left_after : (Line → Line) → Line → Line → Line
+left_after filter first right = let middle = filter (middle_line first right) in record first { q0 = middle.p3; q1 = middle.p2; q2 = middle.p1; q3 = middle.p0 }
 
-abbrev pub right_filtered : (Line → Line) → Line → Line → Line
-right_filtered filter left right = filter (last_line (filter (middle_line (filter left) right)) right)
+abbrev pub right_after : (Line → Line) → Line → Line → Line
+right_after filter first right = filter (last_line (filter (middle_line first right)) right)

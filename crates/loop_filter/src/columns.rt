@@ -3,7 +3,7 @@
 ghost use Rattle.std.specs.Prelude.{◌≡◌, ℕ, ◌+◌, ◌*◌, ◌<◌, ◌≤◌, [], ◌∷◌, ◌++◌, length, slice_index};
 ghost use Rattle.std.specs.Simd.Lanes.{put_chunk};
 ghost use Rattle.loop_filter.specs.Edges.{line_in};
-ghost use Rattle.loop_filter.specs.Lanes.{line_at, column_of, row_of, eight_from, row_in_pairs, rows_put};
+ghost use Rattle.loop_filter.specs.Lanes.{line_at, HoldLines, column_of, row_of, eight_from, row_in_pairs, rows_put};
 
 use crate::taps::Taps;
 use std::simd::prelude::*;
@@ -113,14 +113,20 @@ fn load_pair(a: &[u8], b: &[u8], a_at: usize, b_at: usize) -> u8x16
     interleaved(first, second)
 }
 
-/// Loads eight lines of adjacent samples from each of two lists; in both, each line begins `stride`
-/// samples after the one before it.
+/// Loads eight lines of adjacent samples from each of two lists, each vector one of `a` interleaved
+/// with one of `b`; in both lists, each line begins `stride` samples after the one before it.
 #[inline(always)]
-pub fn load_lines(a: &[u8], b: &[u8], a_start: usize, b_start: usize, stride: usize) -> Taps
+pub fn load_pairs(
+    a: &[u8],
+    b: &[u8],
+    a_start: usize,
+    b_start: usize,
+    stride: usize,
+) -> (u8x16, u8x16, u8x16, u8x16, u8x16, u8x16, u8x16, u8x16)
     requires room_a { a_start + 7 * stride + 8 ≤ length a.now }
     requires room_b { b_start + 7 * stride + 8 ≤ length b.now }
-    ensures a { (i : ℕ) → i < 8 → line_at result i ≡ line_in a.now (a_start + i * stride) 1 }
-    ensures b { (i : ℕ) → i < 8 → line_at result (8 + i) ≡ line_in b.now (b_start + i * stride) 1 }
+    ensures a { HoldLines (λ k. 2 * k) (result.0 ∷ result.1 ∷ result.2 ∷ result.3 ∷ result.4 ∷ result.5 ∷ result.6 ∷ result.7 ∷ []) a.now a_start stride }
+    ensures b { HoldLines (λ k. 2 * k + 1) (result.0 ∷ result.1 ∷ result.2 ∷ result.3 ∷ result.4 ∷ result.5 ∷ result.6 ∷ result.7 ∷ []) b.now b_start stride }
 {
     let w0 = load_pair(a, b, a_start, b_start);
     let w1 = load_pair(a, b, a_start + stride, b_start + stride);
@@ -130,6 +136,19 @@ pub fn load_lines(a: &[u8], b: &[u8], a_start: usize, b_start: usize, stride: us
     let w5 = load_pair(a, b, a_start + 5 * stride, b_start + 5 * stride);
     let w6 = load_pair(a, b, a_start + 6 * stride, b_start + 6 * stride);
     let w7 = load_pair(a, b, a_start + 7 * stride, b_start + 7 * stride);
+    (w0, w1, w2, w3, w4, w5, w6, w7)
+}
+
+/// Loads eight lines of adjacent samples from each of two lists, and transposes them; in both lists,
+/// each line begins `stride` samples after the one before it.
+#[inline(always)]
+pub fn load_lines(a: &[u8], b: &[u8], a_start: usize, b_start: usize, stride: usize) -> Taps
+    requires room_a { a_start + 7 * stride + 8 ≤ length a.now }
+    requires room_b { b_start + 7 * stride + 8 ≤ length b.now }
+    ensures a { (i : ℕ) → i < 8 → line_at result i ≡ line_in a.now (a_start + i * stride) 1 }
+    ensures b { (i : ℕ) → i < 8 → line_at result (8 + i) ≡ line_in b.now (b_start + i * stride) 1 }
+{
+    let (w0, w1, w2, w3, w4, w5, w6, w7) = load_pairs(a, b, a_start, b_start, stride);
     columns(w0, w1, w2, w3, w4, w5, w6, w7)
 }
 

@@ -6,8 +6,9 @@ ghost use Rattle.loop_filter.specs.Edges.{lines_filtered};
 ghost use Rattle.loop_filter.specs.Columns.{HoldColumns};
 
 use crate::edge_limits::{EdgeFilter, EdgeLimits};
+use crate::kernels::filter as filter_wide;
 use crate::taps::{Taps, filter_both};
-use crate::{edges, pairs};
+use crate::{edges, pairs, wide_columns};
 
 /// Where the first line of an edge begins, in luma and in each chroma plane, and the distance of
 /// their rows, in samples.
@@ -79,9 +80,7 @@ pub fn filter_joined_columns(
     ensures u { u.new ≡ lines_filtered (filtered_line filter limits) at.chroma at.chroma_stride 1 u.old 8 }
     ensures v { v.new ≡ lines_filtered (filtered_line filter limits) at.chroma at.chroma_stride 1 v.old 8 }
 {
-    let luma = edges::load_columns(y, at.luma, at.luma_stride);
-    let chroma = pairs::load_columns(u, v, at.chroma, at.chroma_stride);
-    let (luma, chroma) = filter_both(filter, limits, luma, chroma);
-    edges::store_columns(luma, y, at.luma, at.luma_stride);
-    pairs::store_columns(chroma, u, v, at.chroma, at.chroma_stride);
+    let taps = wide_columns::load_columns(y, u, v, at);
+    let changed = filter_wide(filter, limits, taps);
+    wide_columns::store_columns(changed, y, u, v, at);
 }

@@ -18,6 +18,7 @@ mod pairs;
 mod rows_inner;
 mod strengths;
 mod taps;
+mod wide_columns;
 
 pub use edge_limits::Limits;
 pub use four_samples::simple;

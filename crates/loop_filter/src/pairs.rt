@@ -7,7 +7,7 @@ ghost use Rattle.loop_filter.specs.Lines.{reach};
 ghost use Rattle.loop_filter.specs.Edges.{line_in};
 ghost use Rattle.loop_filter.specs.Lanes.{line_at, vector, vectors, row_of, eight_from, rows_put};
 
-use crate::columns::{load_lines, row_pairs, store_lines};
+use crate::columns::{row_pairs, store_lines};
 use crate::edge_limits::EdgeFilter;
 use crate::taps::Taps;
 use std::simd::prelude::*;
@@ -128,17 +128,6 @@ pub fn store_rows(
             store_both(u, v, start + 6 * stride, taps.q2);
         }
     }
-}
-
-/// Loads eight rows of eight samples from each plane, each `stride` samples after the one before it.
-#[inline(always)]
-pub fn load_columns(u: &[u8], v: &[u8], start: usize, stride: usize) -> Taps
-    requires room_u { start + 7 * stride + 8 ≤ length u.now }
-    requires room_v { start + 7 * stride + 8 ≤ length v.now }
-    ensures u { (i : ℕ) → i < 8 → line_at result i ≡ line_in u.now (start + i * stride) 1 }
-    ensures v { (i : ℕ) → i < 8 → line_at result (8 + i) ≡ line_in v.now (start + i * stride) 1 }
-{
-    load_lines(u, v, start, start, stride)
 }
 
 /// Stores eight rows of eight samples into each plane, each `stride` samples after the one before it.

@@ -24,7 +24,7 @@ pub struct Taps {
 
 /// The lanes of `a`, followed by those of `b`.
 #[inline(always)]
-fn joined(a: u8x16, b: u8x16) -> u8x32
+pub fn joined(a: u8x16, b: u8x16) -> u8x32
     ensures a { (i : ℕ) → i < 16 → slice_index result i ≡ slice_index a i }
     ensures b { (i : ℕ) → i < 16 → slice_index result (16 + i) ≡ slice_index b i }
 {
@@ -39,7 +39,7 @@ fn joined(a: u8x16, b: u8x16) -> u8x32
 
 /// The first sixteen lanes, and the other sixteen.
 #[inline(always)]
-fn split(row: u8x32) -> (u8x16, u8x16)
+pub fn split(row: u8x32) -> (u8x16, u8x16)
     ensures first { (i : ℕ) → i < 16 → slice_index result.0 i ≡ slice_index row i }
     ensures second { (i : ℕ) → i < 16 → slice_index result.1 i ≡ slice_index row (16 + i) }
 {
@@ -48,7 +48,7 @@ fn split(row: u8x32) -> (u8x16, u8x16)
 
 /// Sixteen lines, followed by sixteen others.
 #[inline(always)]
-fn joined_lines(a: Taps, b: Taps) -> WideTaps
+pub fn joined_lines(a: Taps, b: Taps) -> WideTaps
     ensures a { (i : ℕ) → i < 16 → wide_line_at result i ≡ line_at a i }
     ensures b { (i : ℕ) → i < 16 → wide_line_at result (16 + i) ≡ line_at b i }
 {
@@ -66,7 +66,7 @@ fn joined_lines(a: Taps, b: Taps) -> WideTaps
 
 /// The first sixteen lines, and the other sixteen.
 #[inline(always)]
-fn split_lines(lines: WideTaps) -> (Taps, Taps)
+pub fn split_lines(lines: WideTaps) -> (Taps, Taps)
     ensures first { (i : ℕ) → i < 16 → line_at result.0 i ≡ wide_line_at lines i }
     ensures second { (i : ℕ) → i < 16 → line_at result.1 i ≡ wide_line_at lines (16 + i) }
 {

@@ -1,5 +1,5 @@
 -- The residual of a macroblock as it is kept until it is added: what was read of its blocks, and how they are dequantised.
-use Rattle.std.specs.Prelude.{ℕ, nat_lt, if◌then◌else◌, List, [], ◌∷◌, map, replicate, slice_index_or, slice_set, ℤ, pos}
+use Rattle.std.specs.Prelude.{◌≡◌, ℕ, nat_lt, if◌then◌else◌, List, [], ◌∷◌, map, replicate, slice_index_or, slice_set, ℤ, pos}
 use Rattle.std.specs.List.{range_with_len}
 use Rattle.bool_coder.specs.Reader.{Reader}
 use Rattle.frame_header.specs.declared.header.Header.{Header}
@@ -10,6 +10,7 @@ use Rattle.transforms.specs.Factors.{dequantised, factors_of}
 use Rattle.transforms.specs.declared.factor_set.Factors.{Factors}
 use Rattle.reference_frames.specs.FrameTokens.{flag_with, has_y2}
 use Rattle.reference_frames.specs.declared.kept_blocks.Flags.{Flags}
+use Rattle.reference_frames.specs.declared.kept_blocks.TokenTables.{TokenTables}
 
 -- block k: its first coefficient is dequantised already or a result of Y2, and it has others only if it ends after index 1
 abbrev pub kept_block : Tokens → List ℤ → Factors → ℕ → List ℤ
@@ -35,3 +36,8 @@ flags_with mode tokens = record { above = tokens.above; left = tokens.left; has_
 -- the factors of the four segments of a frame (section 9.6)
 abbrev pub frame_factors : Header → List Factors
 frame_factors header = map (factors_of header) (range_with_len 0 4)
+
+-- what is made of a header once
+pub record AreTablesOf (header : Header) (tables : TokenTables) : Type 0 where
+  pub rows : tables.rows ≡ header.context.probabilities.coefficients
+  pub factors : tables.factors ≡ frame_factors header

@@ -7,16 +7,15 @@ ghost use Rattle.bool_coder.specs.Reader.{started};
 ghost use Rattle.transforms.specs.Factors.{factors_of};
 ghost use Rattle.mode_parser.specs.RecordList.{mode_of};
 ghost use Rattle.reference_frames.specs.FrameTokenValue.{state_of, kept_residual};
-ghost use Rattle.reference_frames.specs.KeptBlocks.{frame_factors};
+ghost use Rattle.reference_frames.specs.KeptBlocks.{AreTablesOf};
 ghost use Rattle.reference_frames.specs.FrameTokens.{outside, reader_of, tokens_at, tokens_start, state_with, residual_with, flag_with};
 
-use crate::kept_blocks::{Blocks, Flags};
+use crate::kept_blocks::{Blocks, Flags, TokenTables};
 use bool_coder::Decoder;
 use frame_header::{Header, Place};
 use mode_parser::Record;
 use pixel_planes::NoMemory;
 use std::alloc::Global;
-use transforms::{Factors, factors};
 
 /// The number of the partition of a row: the row modulo their count, which is a power of two (RFC
 /// 6386, section 9.5).
@@ -49,18 +48,6 @@ fn partition_readers<'a>(
         readers.push(Decoder::new(&packet[place.start..end]))?;
     }
     Ok(readers)
-}
-
-/// The factors of the four segments of a frame (RFC 6386, section 9.6).
-pub fn frame_factors(header: &Header) -> [Factors; 4]
-    ensures { result ≡ frame_factors header.now }
-{
-    [
-        factors(header, 0),
-        factors(header, 1),
-        factors(header, 2),
-        factors(header, 3),
-    ]
 }
 
 /// The state between the macroblocks of a frame.
@@ -112,17 +99,17 @@ impl<'a> FrameTokens<'a> {
     }
 
     /// Reads the tokens of the macroblock in column `mx` of row `my`, which is next, and keeps its
-    /// residual, for which `factors` are those of the frame's segments. If it is skipped, nothing is read.
+    /// residual, with the tables of the header. If it is skipped, nothing is read.
     #[tactic(auto, unfolding(crate::specs::FrameTokens::tokens_at))]
     pub fn read(
         &mut self,
         header: &Header,
-        factors: &[Factors; 4],
+        tables: &TokenTables,
         mx: usize,
         my: usize,
         mode: &Record,
     )
-        requires factors { factors.now ≡ frame_factors header.now }
+        requires tables { AreTablesOf header.now tables.now }
         requires some { 0 < length (state_of self.old).readers }
         requires column { mx < length (state_of self.old).above }
         ensures state { state_of self.new ≡ state_with (state_of self.old) mx my (tokens_at header.now.context.probabilities.coefficients (state_of self.old) mx my (mode_of mode.now)) }
@@ -138,7 +125,7 @@ impl<'a> FrameTokens<'a> {
             left,
             has_tokens: false,
         };
-        self.blocks.read(reader, header, factors, mode, &mut flags);
+        self.blocks.read(reader, header, tables, mode, &mut flags);
         self.above[mx] = flags.above;
         self.left = flags.left;
         self.has_tokens = flags.has_tokens;

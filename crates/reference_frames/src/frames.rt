@@ -8,12 +8,13 @@ ghost use Rattle.pixel_planes.specs.Pictures.{macroblocks as macroblocks_of};
 ghost use Rattle.pixel_planes.specs.PlaneSamples.{AreWhole, shown_of};
 ghost use Rattle.reference_frames.specs.FrameTokens.{flags_of, residual_at};
 ghost use Rattle.reference_frames.specs.FrameTokenValue.{state_of};
-ghost use Rattle.reference_frames.specs.KeptBlocks.{frame_factors};
+ghost use Rattle.reference_frames.specs.KeptBlocks.{AreTablesOf};
 ghost use Rattle.reference_frames.specs.Rows.{DecodesRow};
 ghost use Rattle.reference_frames.specs.Steps.{decoded_picture};
 ghost use Rattle.reference_frames.specs.Unfiltered.{HaveRoomFor, SameShape, empty_planes, predicted_macroblocks};
 
-use crate::frame_tokens::{FrameTokens, frame_factors};
+use crate::frame_tokens::FrameTokens;
+use crate::kept_blocks::TokenTables;
 use crate::prediction::{Sources, predict_macroblock};
 use crate::references::References;
 use frame_header::Header;
@@ -21,7 +22,6 @@ use loop_filter::RowFilter;
 use mode_parser::{Modes, Records};
 use pixel_planes::{NoMemory, Picture, Planes};
 use std::alloc::Global;
-use transforms::Factors;
 
 /// The macroblocks of a frame in raster order: their records, for so many columns and rows.
 #[derive(Clone, Copy)]
@@ -31,12 +31,12 @@ struct Raster<'a> {
     modes: &'a Records,
 }
 
-/// A frame as its macroblocks are decoded: its header, the factors of its segments, the sources of prediction, and
-/// the macroblocks.
+/// A frame as its macroblocks are decoded: its header with its tables, the sources of prediction, and the
+/// macroblocks.
 #[derive(Clone, Copy)]
-struct Frame<'a> {
+struct Frame<'a, 't> {
     header: &'a Header<'a>,
-    factors: [Factors; 4],
+    tables: &'t TokenTables,
     sources: Sources<'a>,
     raster: Raster<'a>,
 }
@@ -53,7 +53,7 @@ fn predict_row(
     requires room { HaveRoomFor (shown_of planes.old) frame.raster.columns frame.raster.rows }
     requires each { length frame.raster.modes.now ≡ frame.raster.columns * frame.raster.rows }
     requires row { my < frame.raster.rows }
-    requires factors { frame.factors ≡ frame_factors frame.header.now }
+    requires tables { AreTablesOf frame.header.now frame.tables.now }
     requires some { 0 < length (state_of tokens.old).readers }
     requires above { length (state_of tokens.old).above ≡ frame.raster.columns }
     ensures value { IfOk result (λ done. DecodesRow frame.entry.sources.version (option_copied frame.entry.sources.references) frame.entry.header.now frame.entry.raster.columns frame.entry.raster.modes.now my frame.entry.raster.columns (record { state = state_of tokens.old; flags = flags.old.items; planes = shown_of planes.old }) (record { state = state_of tokens.new; flags = flags.new.items; planes = shown_of planes.new })) }
@@ -64,7 +64,7 @@ fn predict_row(
     let Raster { columns, modes, .. } = frame.raster;
     for mx in 0..columns {
         let mode = modes.at(my * columns + mx);
-        tokens.read(frame.header, &frame.factors, mx, my, &mode);
+        tokens.read(frame.header, frame.tables, mx, my, &mode);
         let residual = tokens.residual(&mode);
         predict_macroblock(planes, frame.sources, mx, my, &mode, residual);
         flags.push(tokens.has_tokens)?;
@@ -85,7 +85,7 @@ fn decode_rows(
     requires small { (0 < frame.raster.columns) × (0 < frame.raster.rows) × (frame.raster.columns ≤ 1024) × (frame.raster.rows ≤ 1024) }
     requires each { length frame.raster.modes.now ≡ frame.raster.columns * frame.raster.rows }
     requires filter { IsFilterOf frame.header.now frame.raster.modes.now filter.now }
-    requires factors { frame.factors ≡ frame_factors frame.header.now }
+    requires tables { AreTablesOf frame.header.now frame.tables.now }
     requires some { 0 < length (state_of tokens.old).readers }
     requires above { length (state_of tokens.old).above ≡ frame.raster.columns }
     ensures value { IfOk result (λ done. shown_of planes.new ≡ filtered_planes frame.entry.header.now frame.entry.raster.modes.now (flags_of frame.entry.header.now frame.entry.raster.columns (state_of tokens.old) frame.entry.raster.modes.now) (predicted_macroblocks frame.entry.sources.version (option_copied frame.entry.sources.references) (shown_of planes.old) frame.entry.raster.columns frame.entry.raster.modes.now (residual_at frame.entry.header.now frame.entry.raster.columns (state_of tokens.old) frame.entry.raster.modes.now) (length frame.entry.raster.modes.now))) }
@@ -153,9 +153,10 @@ pub(crate) fn decoded_picture(
     let columns = macroblocks(width);
     let rows = macroblocks(height);
     let mut tokens = FrameTokens::new(alloc, packet, &header.partitions, columns)?;
+    let tables = TokenTables::of(header);
     let frame = Frame {
         header,
-        factors: frame_factors(header),
+        tables: &tables,
         sources: Sources {
             version: header.version,
             references,

@@ -9,14 +9,14 @@ ghost use Rattle.transforms.specs.Residuals.{IsAdded, pair_residual};
 ghost use Rattle.transforms.specs.Transforms.{inverse_dct, reduced};
 ghost use Rattle.mode_parser.specs.RecordList.{mode_of};
 ghost use Rattle.reference_frames.specs.FrameTokens.{has_y2 as has_y2_of, block_with, y2_results, block_of, firsts_of, flag_with, residual_with};
-ghost use Rattle.reference_frames.specs.KeptBlocks.{flags_with, frame_factors, tokens_by};
+ghost use Rattle.reference_frames.specs.KeptBlocks.{AreTablesOf, flags_with, frame_factors, tokens_by};
 
 use crate::inter::is_split;
 use bool_coder::Decoder;
 use frame_header::Header;
 use mode_parser::{Record, YMode};
 use std::marker::Model;
-use token_parser::{Tokens, read_next_macroblock, skip_macroblock};
+use token_parser::{Rows, Tokens, read_next_macroblock, skip_macroblock};
 use transforms::{
     Factors, dct_add, dct_add_first, dct_add_two, dequantise, dequantise_others, factors, wht,
     wht_first,
@@ -110,6 +110,32 @@ fn write_first_coefficients(factors: Factors, has_y2: bool, tokens: &Tokens, fir
     write_firsts(tokens, 16, 24, factors.uv_dc, firsts);
 }
 
+/// What is made of a frame's header once, for the tokens of all its macroblocks.
+#[derive(Drop)]
+pub struct TokenTables {
+    /// The odds of its probabilities.
+    pub rows: Rows,
+    /// The factors of its four segments (RFC 6386, section 9.6).
+    pub factors: [Factors; 4],
+}
+
+impl TokenTables {
+    /// Those of this header.
+    pub fn of(header: &Header) -> TokenTables
+        ensures { AreTablesOf header.now result }
+    {
+        TokenTables {
+            rows: Rows::of(&header.context.probabilities.coefficients),
+            factors: [
+                factors(header, 0),
+                factors(header, 1),
+                factors(header, 2),
+                factors(header, 3),
+            ],
+        }
+    }
+}
+
 /// The factors of a segment among those of the frame.
 #[inline]
 fn factors_in(all: &[Factors; 4], header: &Header, segment: u8) -> Factors
@@ -181,16 +207,16 @@ impl Blocks {
     }
 
     /// Reads the tokens of a macroblock after its flags, which become its own, and keeps its residual,
-    /// for which `all` are the factors of the frame's segments. If it is skipped, nothing is read.
+    /// with the tables of the header. If it is skipped, nothing is read.
     pub fn read(
         &mut self,
         reader: &mut Decoder,
         header: &Header,
-        all: &[Factors; 4],
+        tables: &TokenTables,
         mode: &Record,
         flags: &mut Flags,
     )
-        requires { all.now ≡ frame_factors header.now }
+        requires { AreTablesOf header.now tables.now }
         ensures reader { reader.new ≡ (tokens_by header.now.context.probabilities.coefficients (mode_of mode.now) flags.old reader.old).1 }
         ensures flags { flags.new ≡ flags_with (mode_of mode.now) (tokens_by header.now.context.probabilities.coefficients (mode_of mode.now) flags.old reader.old).0 }
         ensures residual { (if (mode_of mode.now).is_skipped then None else Some self.new) ≡ residual_with (factors_of header.now (mode_of mode.now).segment) (mode_of mode.now) (tokens_by header.now.context.probabilities.coefficients (mode_of mode.now) flags.old reader.old).0 }
@@ -203,9 +229,8 @@ impl Blocks {
             write_flags(&self.tokens, false, flags);
             return;
         }
-        let probabilities = &header.context.probabilities.coefficients;
-        read_next_macroblock(reader, probabilities, has_y2, &mut self.tokens);
-        let factors = factors_in(all, header, mode.segment());
+        read_next_macroblock(reader, &tables.rows, has_y2, &mut self.tokens);
+        let factors = factors_in(&tables.factors, header, mode.segment());
         write_first_coefficients(factors, has_y2, &self.tokens, &mut self.firsts);
         self.factors = factors;
         write_flags(&self.tokens, self.tokens.has_tokens(has_y2), flags);
@@ -248,7 +273,7 @@ impl Blocks {
 
     /// Adds the residuals of blocks `k` and `k + 1` to their 8 by 4 samples at the start of `samples`,
     /// in rows `stride` apart.
-    #[inline(always)]
+    #[inline(never)]
     pub fn add_pair(&self, k: usize, samples: &mut [u8], stride: usize)
         requires blocks { k + 2 ≤ 24 }
         requires wide { 8 ≤ stride }

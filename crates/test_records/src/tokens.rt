@@ -1,7 +1,7 @@
 use bool_coder::{Decoder, Encoder};
 use std::alloc::{AllocError, Global};
 use std::test::Fail;
-use token_parser::{Tokens, read_macroblock, read_next_macroblock, skip_macroblock};
+use token_parser::{Rows, Tokens, read_macroblock, read_next_macroblock, skip_macroblock};
 
 /// The bits of each token from the root of the tree, and the node of each bit: 0 to 4, the six
 /// categories, the end of a block (RFC 6386, section 13.2).
@@ -70,6 +70,10 @@ fn counted_probabilities() -> [u8; 1056] {
         *probability = (1 + (i % 256 * 37 + i / 256) % 255) as u8;
     }
     probabilities
+}
+
+fn counted_rows() -> Rows {
+    Rows::of(&counted_probabilities())
 }
 
 /// Writes the bits of a token; after a 0 the first bit is left out.
@@ -159,7 +163,7 @@ fn expected_sizes(has_y2: bool) -> Tokens {
 fn read_back(text: &[u8], has_y2: bool) -> Tokens {
     let mut decoder = Decoder::new(text);
     let mut tokens = Tokens::new();
-    read_macroblock(&mut decoder, &counted_probabilities(), has_y2, &mut tokens);
+    read_macroblock(&mut decoder, &counted_rows(), has_y2, &mut tokens);
     tokens
 }
 
@@ -251,7 +255,7 @@ fn blocks_come_in_order(rt: HostRuntime) -> Result<(), Fail> {
     let mut decoder = Decoder::new(&text);
     let mut tokens = Tokens::new();
     set_order_flags(&mut tokens);
-    read_macroblock(&mut decoder, &counted_probabilities(), true, &mut tokens);
+    read_macroblock(&mut decoder, &counted_rows(), true, &mut tokens);
     assert_eq!(rt; tokens, expected_order());
     skip_macroblock(false, &mut tokens);
     assert_eq!(rt;
@@ -285,13 +289,13 @@ fn old_coefficients_do_not_count(rt: HostRuntime) -> Result<(), Fail> {
     tokens.ends = [16; 25];
     set_order_flags(&mut tokens);
     let mut decoder = Decoder::new(&order);
-    read_next_macroblock(&mut decoder, &counted_probabilities(), true, &mut tokens);
+    read_next_macroblock(&mut decoder, &counted_rows(), true, &mut tokens);
     assert_eq!(rt; own_tokens(&tokens, true), expected_order());
     for has_y2 in [true, false, true] {
         let text = sizes_text(rt.alloc(), has_y2)?;
         (tokens.above, tokens.left) = ([false; 9], [false; 9]);
         let mut decoder = Decoder::new(&text);
-        read_next_macroblock(&mut decoder, &counted_probabilities(), has_y2, &mut tokens);
+        read_next_macroblock(&mut decoder, &counted_rows(), has_y2, &mut tokens);
         assert!(rt;
             own_tokens(&tokens, has_y2) == expected_sizes(has_y2),
             "{has_y2}"
@@ -299,7 +303,7 @@ fn old_coefficients_do_not_count(rt: HostRuntime) -> Result<(), Fail> {
     }
     set_order_flags(&mut tokens);
     let mut decoder = Decoder::new(&order);
-    read_next_macroblock(&mut decoder, &counted_probabilities(), true, &mut tokens);
+    read_next_macroblock(&mut decoder, &counted_rows(), true, &mut tokens);
     assert_eq!(rt; own_tokens(&tokens, true), expected_order());
     Ok(())
 }
@@ -310,7 +314,7 @@ fn no_bytes_are_ends(rt: HostRuntime) -> Result<(), Fail> {
     let mut decoder = Decoder::new(&[]);
     let mut tokens = Tokens::new();
     tokens.above = [true; 9];
-    read_macroblock(&mut decoder, &counted_probabilities(), false, &mut tokens);
+    read_macroblock(&mut decoder, &counted_rows(), false, &mut tokens);
     let mut expected = Tokens::new();
     expected.above[8] = true;
     assert_eq!(rt; tokens, expected);

@@ -1,5 +1,5 @@
 -- Blocks that are cleared before their first token
-use Rattle.std.proofs.Common.{◌≡◌, ℕ, ◌+◌, ◌-◌, ◌<◌, ◌≤◌, inl, inr, Bool, true, false, List, [], length, map, replicate, slice_index_or, ℤ, pos, refl, zero, suc, ◌*◌, ap, sym, ◌∙◌, arith}
+use Rattle.std.proofs.Common.{◌≡◌, ℕ, ◌+◌, ◌-◌, ◌<◌, ◌≤◌, inl, inr, Bool, true, false, List, [], length, map, replicate, slice_index_or, ℤ, pos, refl, zero, suc, ap, sym, ◌∙◌, arith}
 use Rattle.std.specs.Prelude.{nat_lt, slice_set, ◌||◌, if◌then◌else◌}
 use Rattle.std.specs.Int.{from_bool}
 use Rattle.std.specs.List.{range_with_len}
@@ -13,7 +13,6 @@ use Rattle.token_parser.specs.Tokens.{tokens_from}
 use Rattle.token_parser.specs.declared.tokens.Tokens.{Tokens}
 use Rattle.token_parser.specs.declared.block_position.BlockPosition.{BlockPosition}
 use Rattle.token_parser.specs.Blocks.{block, cleared, first_blocks, first_position, place_of}
-use Rattle.token_parser.specs.BlockRows.{right_of}
 use Rattle.token_parser.specs.Stale.{own_coefficients, seen, without_stale}
 use Rattle.token_parser.proofs.Ends.{index_apart, index_small, same_by_end}
 
@@ -56,7 +55,7 @@ own_all has_y2 at tokens coefficients end blocks ends inside first =
     ])
 
 -- a block that was not read before, over stale coefficients
-pub fresh_block : (probs : List ℕ) (has_y2 : Bool) (at : BlockPosition) (tokens : Tokens) (coefficients : List ℤ) (end : ℕ) (r s : Reader) → length tokens.coefficients ≡ 25 → length tokens.ends ≡ 25 → at.index < 25 → first_position has_y2 at.index ≡ at.first → slice_index_or tokens.ends at.index 0 ≡ 0 →
+fresh_block : (probs : List ℕ) (has_y2 : Bool) (at : BlockPosition) (tokens : Tokens) (coefficients : List ℤ) (end : ℕ) (r s : Reader) → length tokens.coefficients ≡ 25 → length tokens.ends ≡ 25 → at.index < 25 → first_position has_y2 at.index ≡ at.first → slice_index_or tokens.ends at.index 0 ≡ 0 →
     tokens_from (16 - at.first) probs at.kind at.first (context_of tokens at) false (replicate 16 (pos 0)) r ≡ ((if nat_lt at.first end then coefficients else replicate 16 (pos 0), end), s) → block probs at (without_stale has_y2 tokens) r ≡ (without_stale has_y2 (with_block tokens at coefficients end), s)
 unfolding block without_stale
 fresh_block probs has_y2 at tokens coefficients end r s blocks ends inside first none is =
@@ -65,9 +64,15 @@ fresh_block probs has_y2 at tokens coefficients end r s blocks ends inside first
     rw (start, is, own_all has_y2 at tokens coefficients end blocks ends inside first) refl
 
 -- a block over its own coefficients
-pub next_block : (probs : List ℕ) (at : BlockPosition) (tokens : Tokens) (coefficients : List ℤ) (end : ℕ) (r s : Reader) → tokens_from (16 - at.first) probs at.kind at.first (context_of tokens at) false (slice_index_or tokens.coefficients at.index []) r ≡ ((coefficients, end), s) → block probs at tokens r ≡ (with_block tokens at coefficients end, s)
+next_block : (probs : List ℕ) (at : BlockPosition) (tokens : Tokens) (coefficients : List ℤ) (end : ℕ) (r s : Reader) → tokens_from (16 - at.first) probs at.kind at.first (context_of tokens at) false (slice_index_or tokens.coefficients at.index []) r ≡ ((coefficients, end), s) → block probs at tokens r ≡ (with_block tokens at coefficients end, s)
 unfolding block
 next_block probs at tokens coefficients end r s is = rw is refl
+
+-- either of them
+pub seen_block : (clears : Bool) (probs : List ℕ) (has_y2 : Bool) (at : BlockPosition) (tokens : Tokens) (coefficients : List ℤ) (end : ℕ) (r s : Reader) → length tokens.coefficients ≡ 25 → length tokens.ends ≡ 25 → at.index < 25 → first_position has_y2 at.index ≡ at.first → (clears ≡ true → slice_index_or tokens.ends at.index 0 ≡ 0) →
+    (clears ≡ false → tokens_from (16 - at.first) probs at.kind at.first (context_of tokens at) false (slice_index_or tokens.coefficients at.index []) r ≡ ((coefficients, end), s)) → (clears ≡ true → tokens_from (16 - at.first) probs at.kind at.first (context_of tokens at) false (replicate 16 (pos 0)) r ≡ ((if nat_lt at.first end then coefficients else replicate 16 (pos 0), end), s)) → block probs at (seen clears has_y2 tokens) r ≡ (seen clears has_y2 (with_block tokens at coefficients end), s)
+seen_block true probs has_y2 at tokens coefficients end r s blocks ends inside first none over fresh = fresh_block probs has_y2 at tokens coefficients end r s blocks ends inside first (none refl) (fresh refl)
+seen_block false probs has_y2 at tokens coefficients end r s blocks ends inside first none over fresh = next_block probs at tokens coefficients end r s (over refl)
 
 -- the ends are those that were read
 seen_ends : (may_be_stale has_y2 : Bool) (tokens : Tokens) → (seen may_be_stale has_y2 tokens).ends ≡ tokens.ends
@@ -87,25 +92,11 @@ zero_ahead (suc k) probs has_y2 before r none most n from less =
       | false ↦ so_far
     ]
 
--- nor have those of the next row
-pub zero_row : (k : ℕ) (probs : List ℕ) (has_y2 clears : Bool) (before tokens : Tokens) (r s : Reader) (at : BlockPosition) (n : ℕ) → before.ends ≡ replicate 25 0 → first_blocks k probs has_y2 before r ≡ (seen clears has_y2 tokens, s) → k + n < 25 → place_of has_y2 (k + n) ≡ right_of at n → slice_index_or tokens.ends (at.index + n) 0 ≡ 0
-zero_row k probs has_y2 clears before tokens r s at n none so_far less place =
-    let there = zero_ahead k probs has_y2 before r none (omega arith) (k + n) (omega arith) less in
-    let index : (place_of has_y2 (k + n)).index ≡ at.index + n = ap (λ (p : BlockPosition). p.index) place in
-    rw (so_far, index, seen_ends clears has_y2 tokens) at there
-
--- where the blocks of a row begin
-pub luma_first : (has_y2 : Bool) (y n : ℕ) → y < 4 → n < 4 → first_position has_y2 (4 * y + n) ≡ from_bool has_y2
-luma_first true y n row column = let inside : 4 * y + n < 16 = omega arith in rw (lt-ltb (4 * y + n) 16 inside) refl
-luma_first false y n row column = refl
-
-pub chroma_first : (has_y2 : Bool) (y n : ℕ) → first_position has_y2 (16 + 2 * y + n) ≡ 0
-chroma_first true y n = let past : 16 ≤ 16 + 2 * y + n = omega arith in rw (le-ltb (16 + 2 * y + n) 16 past) refl
-chroma_first false y n = refl
-
--- the end of Y2 before it is read
-pub y2_none : (clears : Bool) (ends : List ℕ) → (clears ≡ true → ends ≡ replicate 25 0) → clears ≡ true → slice_index_or ends 24 0 ≡ 0
-y2_none clears ends none is = rw (none is) refl
+-- nor has the next
+pub zero_next : (k : ℕ) (probs : List ℕ) (has_y2 clears : Bool) (before tokens : Tokens) (r s : Reader) (at : BlockPosition) → before.ends ≡ replicate 25 0 → first_blocks k probs has_y2 before r ≡ (seen clears has_y2 tokens, s) → k < 25 → place_of has_y2 k ≡ at → slice_index_or tokens.ends at.index 0 ≡ 0
+zero_next k probs has_y2 clears before tokens r s at none so_far less place =
+    let there = zero_ahead k probs has_y2 before r none (omega arith) k (omega arith) less in
+    rw (so_far, place, seen_ends clears has_y2 tokens) at there
 
 -- tokens without an end have no coefficient
 pub none_seen : (has_y2 : Bool) (tokens : Tokens) → tokens.ends ≡ replicate 25 0 → without_stale has_y2 tokens ≡ cleared tokens

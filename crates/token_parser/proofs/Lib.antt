@@ -10,3 +10,5 @@ pub mod TokenLaws
 pub mod ChainLemmas
 pub mod Ends
 pub mod Fresh
+pub mod RowLemmas
+pub mod GroupLemmas

@@ -2,7 +2,8 @@ pub mod TokenTree
 pub mod Walks
 pub mod Tokens
 pub mod Blocks
-pub mod BlockRows
+pub mod Groups
 pub mod Ends
 pub mod Stale
+pub mod Rows
 pub mod Worked

@@ -3,12 +3,14 @@
 ghost use Rattle.std.specs.Prelude.{◌≡◌, ◌-◌, ◌<◌, ◌≤◌, false, true, nat_lt, pos, replicate, if◌then◌else◌};
 ghost use Rattle.token_parser.specs.Tokens.{signed_size, tokens_from};
 
-use crate::places::{ZIGZAG, nodes_at};
+use crate::block_position::BlockPosition;
+use crate::places::ZIGZAG;
+use crate::rows::Rows;
 use crate::sizes::read_size;
 use bool_coder::Decoder;
 
 /// The coefficient of a size, whose sign is the next bit.
-#[inline]
+#[inline(always)]
 #[tactic(auto, unfolding(crate::specs::Tokens::signed_size))]
 fn read_sign(reader: &mut Decoder, size: u16) -> i16
     requires { size ≤ 2114 }
@@ -20,10 +22,10 @@ fn read_sign(reader: &mut Decoder, size: u16) -> i16
 
 /// The coefficients of a block starting at the index `first`, where the block is known not to end,
 /// and the index after its last token (eob). Others are unchanged.
-#[inline]
+#[inline(always)]
 fn read_more_tokens(
     reader: &mut Decoder,
-    probs: &[u8; 1056],
+    rows: &Rows,
     kind: usize,
     first: usize,
     flags: usize,
@@ -32,24 +34,24 @@ fn read_more_tokens(
     requires kind { kind < 4 }
     requires first { first < 16 }
     requires context { flags < 3 }
-    ensures value { tokens_from (16 - first) probs.now kind first flags true coefficients.old reader.old ≡ ((coefficients.new, result), reader.new) }
-    ensures least { first ≤ result }
+    ensures value { tokens_from (16 - first) rows.now kind first flags true coefficients.old reader.old ≡ ((coefficients.new, result), reader.new) }
+    ensures least { first < result }
     ensures most { result ≤ 16 }
 {
     let mut place = first;
     let mut context = flags;
-    let mut nodes = nodes_at(probs, kind, place, context);
+    let mut nodes = rows.nodes_at(kind, place, context);
     'tokens: loop {
-        if reader.bit(nodes[1]) {
-            let size = read_size(reader, nodes);
+        if nodes.bit(reader, 1) {
+            let size = read_size(reader, &nodes);
             coefficients[ZIGZAG[place]] = read_sign(reader, size);
             place += 1;
             if place == 16 {
                 return 16;
             }
             context = if size > 1 { 2 } else { 1 };
-            nodes = nodes_at(probs, kind, place, context);
-            if !reader.bit(nodes[0]) {
+            nodes = rows.nodes_at(kind, place, context);
+            if !nodes.bit(reader, 0) {
                 return place;
             }
         } else {
@@ -58,87 +60,36 @@ fn read_more_tokens(
                 return 16;
             }
             context = 0;
-            nodes = nodes_at(probs, kind, place, context);
+            nodes = rows.nodes_at(kind, place, context);
         }
     }
 }
 
-/// The same, apart from the callers' loops: most blocks have no token, and the reader that is passed is
-/// copied, so that it stays in registers.
-#[inline(never)]
-fn read_rest(
-    decoder: &mut Decoder,
-    probs: &[u8; 1056],
-    kind: usize,
-    first: usize,
-    flags: usize,
-    coefficients: &mut [i16; 16],
-) -> usize
-    requires kind { kind < 4 }
-    requires first { first < 16 }
-    requires context { flags < 3 }
-    ensures value { tokens_from (16 - first) probs.now kind first flags true coefficients.old decoder.old ≡ ((coefficients.new, result), decoder.new) }
-    ensures least { first ≤ result }
-    ensures most { result ≤ 16 }
-{
-    let mut reader = decoder.copied();
-    let end = read_more_tokens(&mut reader, probs, kind, first, flags, coefficients);
-    *decoder = reader;
-    end
-}
-
-/// The coefficients of a block starting at the index `first`, and the index after its last token
-/// (eob). Others are unchanged.
+/// The coefficients of a block in the context of so many flags, and the index after its last token
+/// (eob). If `clears`, they are cleared before its first token, and unchanged if it has none; otherwise they
+/// are written over the previous ones.
 #[inline(always)]
 pub(crate) fn read_tokens(
     reader: &mut Decoder,
-    probs: &[u8; 1056],
-    kind: usize,
-    first: usize,
+    rows: &Rows,
+    at: BlockPosition,
     flags: usize,
+    clears: bool,
     coefficients: &mut [i16; 16],
 ) -> usize
-    requires kind { kind < 4 }
-    requires first { first < 16 }
+    requires kind { at.kind < 4 }
+    requires first { at.first < 16 }
     requires context { flags < 3 }
-    ensures value { tokens_from (16 - first) probs.now kind first flags false coefficients.old reader.old ≡ ((coefficients.new, result), reader.new) }
-    ensures least { first ≤ result }
+    ensures over { clears ≡ false → tokens_from (16 - at.first) rows.now at.kind at.first flags false coefficients.old reader.old ≡ ((coefficients.new, result), reader.new) }
+    ensures cleared { clears ≡ true → tokens_from (16 - at.first) rows.now at.kind at.first flags false (replicate 16 (pos 0)) reader.old ≡ ((if nat_lt at.first result then coefficients.new else replicate 16 (pos 0), result), reader.new) }
     ensures most { result ≤ 16 }
 {
-    if reader.bit(nodes_at(probs, kind, first, flags)[0]) {
-        let mut local = reader.copied();
-        let end = read_rest(&mut local, probs, kind, first, flags, coefficients);
-        *reader = local;
-        end
-    } else {
-        first
+    let nodes = rows.nodes_at(at.kind, at.first, flags);
+    if !nodes.bit(reader, 0) {
+        return at.first;
     }
-}
-
-/// The same for a block that holds the coefficients of another: they are cleared before its first
-/// token, and unchanged if it has none.
-#[inline(always)]
-pub(crate) fn read_fresh_tokens(
-    reader: &mut Decoder,
-    probs: &[u8; 1056],
-    kind: usize,
-    first: usize,
-    flags: usize,
-    coefficients: &mut [i16; 16],
-) -> usize
-    requires kind { kind < 4 }
-    requires first { first < 16 }
-    requires context { flags < 3 }
-    ensures value { tokens_from (16 - first) probs.now kind first flags false (replicate 16 (pos 0)) reader.old ≡ ((if nat_lt first result then coefficients.new else replicate 16 (pos 0), result), reader.new) }
-    ensures most { result ≤ 16 }
-{
-    if reader.bit(nodes_at(probs, kind, first, flags)[0]) {
+    if clears {
         *coefficients = [0; 16];
-        let mut local = reader.copied();
-        let end = read_rest(&mut local, probs, kind, first, flags, coefficients);
-        *reader = local;
-        end
-    } else {
-        first
     }
+    read_more_tokens(reader, rows, at.kind, at.first, flags, coefficients)
 }

@@ -1,24 +1,65 @@
 //! The blocks of a macroblock, in the order of their tokens.
 
-ghost use Rattle.std.specs.Prelude.{◌≡◌, ◌≢◌, ℕ, ◌+◌, ◌<◌, Bool, true, replicate, slice_index_or};
+ghost use Rattle.std.specs.Prelude.{◌≡◌, ℕ, ◌+◌, ◌-◌, ◌<◌, ◌≤◌, Bool, true, replicate, slice_index_or};
 ghost use Rattle.bool_coder.specs.Reader.{Reader};
 ghost use Rattle.token_parser.specs.Blocks.{IsInside, block, first_blocks, macroblock, no_flags, skipped, no_tokens, cleared, first_position, has_tokens};
-ghost use Rattle.token_parser.specs.BlockRows.{IsRowInside, luma_row, row};
+ghost use Rattle.token_parser.specs.Groups.{IsGroup, luma_group};
 ghost use Rattle.token_parser.specs.Stale.{without_stale, seen};
 
 use crate::block_position::BlockPosition;
-use crate::block_tokens::{read_fresh_tokens, read_tokens};
+use crate::block_tokens::read_tokens;
+use crate::rows::Rows;
 use crate::tokens::Tokens;
 use bool_coder::Decoder;
 
+/// The number of the flag above each block.
+const ABOVE: [usize; 25] = [
+    0, 1, 2, 3, 0, 1, 2, 3, 0, 1, 2, 3, 0, 1, 2, 3, 4, 5, 4, 5, 6, 7, 6, 7, 8,
+];
+
+/// The number of the flag to its left.
+const LEFT: [usize; 25] = [
+    0, 0, 0, 0, 1, 1, 1, 1, 2, 2, 2, 2, 3, 3, 3, 3, 4, 4, 5, 5, 6, 6, 7, 7, 8,
+];
+
+/// The blocks from number `start` to before number `end`, whose tokens follow each other. All are of a kind, and
+/// the index of their first tokens is the same.
+#[derive(Clone, Copy)]
+struct Group {
+    kind: usize,
+    first: usize,
+    start: usize,
+    end: usize,
+}
+
 /// The block Y2, whose tokens come first.
-const Y2: BlockPosition = BlockPosition {
+const Y2: Group = Group {
     kind: 1,
     first: 0,
-    index: 24,
-    above: 8,
-    left: 8,
+    start: 24,
+    end: 25,
 };
+
+/// The 4 blocks of U and the 4 of V, whose tokens come last.
+const CHROMA: Group = Group {
+    kind: 2,
+    first: 0,
+    start: 16,
+    end: 24,
+};
+
+/// The 16 blocks of luma.
+#[inline]
+fn luma(has_y2: bool) -> Group
+    ensures { result ≡ luma_group has_y2 }
+{
+    Group {
+        kind: if has_y2 { 0 } else { 3 },
+        first: has_y2 as usize,
+        start: 0,
+        end: 16,
+    }
+}
 
 impl Tokens {
     /// No block has a token or a coefficient: the state at the start of a frame.
@@ -67,158 +108,78 @@ fn first_position(has_y2: bool, index: usize) -> usize
 #[inline(always)]
 fn read_block(
     reader: &mut Decoder,
-    probs: &[u8; 1056],
+    rows: &Rows,
     at: BlockPosition,
     clears: bool,
     tokens: &mut Tokens,
 )
     requires { IsInside at }
-    ensures value { (has_y2 : Bool) → first_position has_y2 at.index ≡ at.first → (clears ≡ true → slice_index_or tokens.old.ends at.index 0 ≡ 0) → block probs.now at (seen clears has_y2 tokens.old) reader.old ≡ (seen clears has_y2 tokens.new, reader.new) }
-    ensures others { (k : ℕ) → k ≢ at.index → slice_index_or tokens.new.ends k 0 ≡ slice_index_or tokens.old.ends k 0 }
+    ensures { (has_y2 : Bool) → first_position has_y2 at.index ≡ at.first → (clears ≡ true → slice_index_or tokens.old.ends at.index 0 ≡ 0) → block rows.now at (seen clears has_y2 tokens.old) reader.old ≡ (seen clears has_y2 tokens.new, reader.new) }
 {
     let flags = tokens.left[at.left] as usize + tokens.above[at.above] as usize;
     let coefficients = &mut tokens.coefficients[at.index];
-    let end = if clears {
-        read_fresh_tokens(reader, probs, at.kind, at.first, flags, coefficients)
-    } else {
-        read_tokens(reader, probs, at.kind, at.first, flags, coefficients)
-    };
+    let end = read_tokens(reader, rows, at, flags, clears, coefficients);
     let has_token = end > at.first;
     tokens.above[at.above] = has_token;
     tokens.left[at.left] = has_token;
     tokens.ends[at.index] = end as u8;
 }
 
-/// Blocks next to each other, from left to right, starting with the one at a position.
-#[inline(always)]
-fn read_row(
-    reader: &mut Decoder,
-    probs: &[u8; 1056],
-    at: BlockPosition,
-    count: usize,
-    clears: bool,
-    tokens: &mut Tokens,
-)
-    requires { IsRowInside count at }
-    ensures { (has_y2 : Bool) → ((n : ℕ) → n < count → first_position has_y2 (at.index + n) ≡ at.first) → (clears ≡ true → (n : ℕ) → n < count → slice_index_or tokens.old.ends (at.index + n) 0 ≡ 0) → row count probs.now at (seen clears has_y2 tokens.old) reader.old ≡ (seen clears has_y2 tokens.new, reader.new) }
-{
-    for n in 0..count {
-        let here = BlockPosition {
-            index: at.index + n,
-            above: at.above + n,
-            ..at
-        };
-        read_block(reader, probs, here, clears, tokens);
-    }
-}
-
-/// The first block of a row of luma.
-#[inline(always)]
-fn luma_row(has_y2: bool, y: usize) -> BlockPosition
-    requires { y < 4 }
-    ensures { result ≡ luma_row has_y2 y }
-{
-    BlockPosition {
-        kind: if has_y2 { 0 } else { 3 },
-        first: has_y2 as usize,
-        index: 4 * y,
-        above: 0,
-        left: y,
-    }
-}
-
-/// The 16 blocks of luma, which follow Y2.
-#[inline(always)]
-fn read_luma(
-    reader: &mut Decoder,
-    probs: &[u8; 1056],
-    has_y2: bool,
-    clears: bool,
-    tokens: &mut Tokens,
-)
-    ensures { (before : Tokens) (r : Reader) → (clears ≡ true → before.ends ≡ replicate 25 0) → first_blocks 1 probs.now has_y2 before r ≡ (seen clears has_y2 tokens.old, reader.old) → first_blocks 17 probs.now has_y2 before r ≡ (seen clears has_y2 tokens.new, reader.new) }
-{
-    for y in 0..4usize {
-        read_row(reader, probs, luma_row(has_y2, y), 4, clears, tokens);
-    }
-}
-
-/// The 4 blocks of U and the 4 of V, which follow luma.
-#[inline(always)]
-fn read_chroma(
-    reader: &mut Decoder,
-    probs: &[u8; 1056],
-    has_y2: bool,
-    clears: bool,
-    tokens: &mut Tokens,
-)
-    ensures { (before : Tokens) (r : Reader) → (clears ≡ true → before.ends ≡ replicate 25 0) → first_blocks 17 probs.now has_y2 before r ≡ (seen clears has_y2 tokens.old, reader.old) → first_blocks 25 probs.now has_y2 before r ≡ (seen clears has_y2 tokens.new, reader.new) }
-{
-    for y in 0..4usize {
-        let at = BlockPosition {
-            kind: 2,
-            first: 0,
-            index: 16 + 2 * y,
-            above: 4 + y / 2 * 2,
-            left: 4 + y,
-        };
-        read_row(reader, probs, at, 2, clears, tokens);
-    }
-}
-
-/// All blocks. If `clears`, each is cleared before its first token; all ends were 0 before.
-#[inline(always)]
-fn read_blocks(
-    decoder: &mut Decoder,
-    probs: &[u8; 1056],
-    has_y2: bool,
-    clears: bool,
-    tokens: &mut Tokens,
-)
-    requires { clears ≡ true → tokens.old.ends ≡ replicate 25 0 }
-    ensures { macroblock probs.now has_y2 (seen clears has_y2 tokens.old) decoder.old ≡ (seen clears has_y2 tokens.new, decoder.new) }
+/// The blocks of a group. They are read in one loop through a copy of the reader, which stays in registers. If
+/// `clears`, each is cleared before its first token; all ends were 0 before the macroblock.
+#[inline(never)]
+fn read_group(decoder: &mut Decoder, rows: &Rows, group: Group, clears: bool, tokens: &mut Tokens)
+    requires kind { group.kind < 4 }
+    requires first { group.first ≤ 1 }
+    requires end { (group.start ≤ group.end) × (group.end ≤ 25) }
+    ensures { (has_y2 : Bool) (k : ℕ) → IsGroup has_y2 k group → (before : Tokens) (r : Reader) → (clears ≡ true → before.ends ≡ replicate 25 0) → first_blocks k rows.now has_y2 before r ≡ (seen clears has_y2 tokens.old, decoder.old) → first_blocks (k + (group.end - group.start)) rows.now has_y2 before r ≡ (seen clears has_y2 tokens.new, decoder.new) }
 {
     let mut reader = decoder.copied();
-    if has_y2 {
-        read_block(&mut reader, probs, Y2, clears, tokens);
+    for index in group.start..group.end {
+        let at = BlockPosition {
+            kind: group.kind,
+            first: group.first,
+            index,
+            above: ABOVE[index],
+            left: LEFT[index],
+        };
+        read_block(&mut reader, rows, at, clears, tokens);
     }
-    read_luma(&mut reader, probs, has_y2, clears, tokens);
-    read_chroma(&mut reader, probs, has_y2, clears, tokens);
     *decoder = reader;
 }
 
+/// All blocks. If `clears`, each is cleared before its first token; all ends were 0 before.
+fn read_blocks(reader: &mut Decoder, rows: &Rows, has_y2: bool, clears: bool, tokens: &mut Tokens)
+    requires { clears ≡ true → tokens.old.ends ≡ replicate 25 0 }
+    ensures { macroblock rows.now has_y2 (seen clears has_y2 tokens.old) reader.old ≡ (seen clears has_y2 tokens.new, reader.new) }
+{
+    if has_y2 {
+        read_group(reader, rows, Y2, clears, tokens);
+    }
+    read_group(reader, rows, luma(has_y2), clears, tokens);
+    read_group(reader, rows, CHROMA, clears, tokens);
+}
+
 /// Reads the tokens of a macroblock: of Y2 if it has one, of 16 blocks of luma, 4 of U and 4 of V
-/// (RFC 6386, section 13). `probabilities` has 4 kinds by 8 bands by 3 contexts by 11 nodes.
+/// (RFC 6386, section 13), with the odds of the frame's probabilities.
 ///
 /// `tokens.above` and `tokens.left` are the flags of the macroblocks above and to the left, and
 /// become its own. Each coefficient that is not 0 is written over the previous value, and no other
 /// is: the caller passes lists of zeros.
-#[inline(never)]
-pub fn read_macroblock(
-    decoder: &mut Decoder,
-    probabilities: &[u8; 1056],
-    has_y2: bool,
-    tokens: &mut Tokens,
-)
-    ensures { macroblock probabilities.now has_y2 tokens.old decoder.old ≡ (tokens.new, decoder.new) }
+pub fn read_macroblock(decoder: &mut Decoder, rows: &Rows, has_y2: bool, tokens: &mut Tokens)
+    ensures { macroblock rows.now has_y2 tokens.old decoder.old ≡ (tokens.new, decoder.new) }
 {
-    read_blocks(decoder, probabilities, has_y2, false, tokens);
+    read_blocks(decoder, rows, has_y2, false, tokens);
 }
 
 /// The same over the tokens of another macroblock, whose coefficients and ends do not count. Blocks
 /// without a token have no coefficients, and the ones that `tokens` holds for them are stale: a block
 /// has a token if its end is past the index of its first, which is 1 for luma after Y2 and otherwise 0.
-#[inline(never)]
-pub fn read_next_macroblock(
-    decoder: &mut Decoder,
-    probabilities: &[u8; 1056],
-    has_y2: bool,
-    tokens: &mut Tokens,
-)
-    ensures { macroblock probabilities.now has_y2 (cleared tokens.old) decoder.old ≡ (without_stale has_y2 tokens.new, decoder.new) }
+pub fn read_next_macroblock(decoder: &mut Decoder, rows: &Rows, has_y2: bool, tokens: &mut Tokens)
+    ensures { macroblock rows.now has_y2 (cleared tokens.old) decoder.old ≡ (without_stale has_y2 tokens.new, decoder.new) }
 {
     tokens.ends = [0; 25];
-    read_blocks(decoder, probabilities, has_y2, true, tokens);
+    read_blocks(decoder, rows, has_y2, true, tokens);
 }
 
 /// The flags of a macroblock without tokens.

@@ -4,10 +4,11 @@ ghost use Rattle.std.specs.Prelude.{◌≡◌, ◌+◌, ◌^◌, ◌<◌, ◌≤
 ghost use Rattle.token_parser.specs.TokenTree.{size_in};
 ghost use Rattle.token_parser.specs.Walks.{size_below};
 
+use crate::rows::Nodes;
 use bool_coder::Decoder;
 
 /// A size of a category whose least is `least`: a bit for each probability.
-#[inline]
+#[inline(always)]
 fn read_size_in(reader: &mut Decoder, least: u16, probs: &[u8]) -> u16
     requires least { least ≤ 67 }
     requires few { length probs.now ≤ 11 }
@@ -23,21 +24,20 @@ fn read_size_in(reader: &mut Decoder, least: u16, probs: &[u8]) -> u16
 }
 
 /// The size of a token of category 3 or above.
-#[inline]
-fn read_largest(reader: &mut Decoder, nodes: &[u8]) -> u16
-    requires { length nodes.now ≡ 11 }
+#[inline(always)]
+fn read_largest(reader: &mut Decoder, nodes: &Nodes) -> u16
     ensures value { size_below 3 nodes.now 16 reader.old ≡ (result, reader.new) }
     ensures some { 2 ≤ result }
     ensures most { result ≤ 2114 }
 {
-    if !reader.bit(nodes[8]) {
-        return if reader.bit(nodes[9]) {
+    if !nodes.bit(reader, 8) {
+        return if nodes.bit(reader, 9) {
             read_size_in(reader, 19, &[176, 155, 140, 135])
         } else {
             read_size_in(reader, 11, &[173, 148, 140])
         };
     }
-    if reader.bit(nodes[10]) {
+    if nodes.bit(reader, 10) {
         read_size_in(
             reader,
             67,
@@ -49,23 +49,22 @@ fn read_largest(reader: &mut Decoder, nodes: &[u8]) -> u16
 }
 
 /// The size of a token above 1.
-#[inline]
-fn read_larger(reader: &mut Decoder, nodes: &[u8]) -> u16
-    requires { length nodes.now ≡ 11 }
+#[inline(always)]
+fn read_larger(reader: &mut Decoder, nodes: &Nodes) -> u16
     ensures value { size_below 5 nodes.now 6 reader.old ≡ (result, reader.new) }
     ensures some { 2 ≤ result }
     ensures most { result ≤ 2114 }
 {
-    if !reader.bit(nodes[3]) {
-        if !reader.bit(nodes[4]) {
+    if !nodes.bit(reader, 3) {
+        if !nodes.bit(reader, 4) {
             return 2;
         }
-        return if reader.bit(nodes[5]) { 4 } else { 3 };
+        return if nodes.bit(reader, 5) { 4 } else { 3 };
     }
-    if reader.bit(nodes[6]) {
+    if nodes.bit(reader, 6) {
         return read_largest(reader, nodes);
     }
-    if reader.bit(nodes[7]) {
+    if nodes.bit(reader, 7) {
         read_size_in(reader, 7, &[165, 145])
     } else {
         read_size_in(reader, 5, &[159])
@@ -73,14 +72,13 @@ fn read_larger(reader: &mut Decoder, nodes: &[u8]) -> u16
 }
 
 /// The size of a token that is neither 0 nor the end of the block.
-#[inline]
-pub(crate) fn read_size(reader: &mut Decoder, nodes: &[u8]) -> u16
-    requires { length nodes.now ≡ 11 }
+#[inline(always)]
+pub(crate) fn read_size(reader: &mut Decoder, nodes: &Nodes) -> u16
     ensures value { size_below 6 nodes.now 4 reader.old ≡ (result, reader.new) }
     ensures some { 1 ≤ result }
     ensures most { result ≤ 2114 }
 {
-    if reader.bit(nodes[2]) {
+    if nodes.bit(reader, 2) {
         read_larger(reader, nodes)
     } else {
         1

@@ -145,21 +145,22 @@ fn add_eight(samples: &mut [u8], start: usize, residuals: i16x8)
     clamped.cast::<u8>().copy_to_slice(&mut samples[start..]);
 }
 
-/// The same as `dct_add` for one block, and for the block to the right of it.
+/// The same as `dct_add` for one block, and for the block to the right of it. They are passed by value, so a caller
+/// of `dct_add_two` need not store them unless this is called.
 #[cold]
 #[inline(never)]
-fn dct_add_each(first: &[i16; 16], second: &[i16; 16], samples: &mut [u8], stride: usize)
+fn dct_add_each(first: [i16; 16], second: [i16; 16], samples: &mut [u8], stride: usize)
     requires stride { 8 ≤ stride }
     requires room { 3 * stride + 8 ≤ length samples.old }
-    ensures { IsAdded (pair_residual first.now second.now) 8 stride samples.old samples.new }
+    ensures { IsAdded (pair_residual first second) 8 stride samples.old samples.new }
 {
-    dct_add(first, samples, stride);
-    dct_add(second, &mut samples[4..], stride);
+    dct_add(&first, samples, stride);
+    dct_add(&second, &mut samples[4..], stride);
 }
 
 /// The same as `dct_add` for two blocks next to each other, in 8 columns (RFC 6386, sections 14.3
-/// and 14.5).
-#[inline(never)]
+/// and 14.5). It is inlined where the blocks are dequantised, so their coefficients stay in registers.
+#[inline(always)]
 pub fn dct_add_two(first: &[i16; 16], second: &[i16; 16], samples: &mut [u8], stride: usize)
     requires stride { 8 ≤ stride }
     requires room { 3 * stride + 8 ≤ length samples.old }
@@ -167,7 +168,7 @@ pub fn dct_add_two(first: &[i16; 16], second: &[i16; 16], samples: &mut [u8], st
 {
     let (i0, i1, i2, i3) = columns(first, second);
     if !are_small(i0, i1, i2, i3) {
-        dct_add_each(first, second, samples, stride);
+        dct_add_each(*first, *second, samples, stride);
         return;
     }
     let (row0, row1, row2, row3) = residuals(i0, i1, i2, i3);

@@ -1,5 +1,5 @@
 use Rattle.std.specs.Prelude.{slice_index}
-use Rattle.std.proofs.Common.{◌≡◌, ℕ, ◌<◌, ◌+◌, ◌-◌, zero-add, length, ap, ◌∙◌, arith, rules}
+use Rattle.std.proofs.Common.{◌≡◌, refl, ℕ, ◌<◌, ◌+◌, ◌-◌, zero-add, length, ap, ◌∙◌, arith, rules}
 use Rattle.inter_predict.specs.Kernels.{tapped_from}
 use Rattle.inter_predict.proofs.StripRows.{no_rows, row_stored, row_there}
 use Rattle.inter_predict.proofs.Predicted.{strip_between}
@@ -31,18 +31,13 @@ loop-row-init g c = (
   λ narrow. no_rows _ c.args.strip.first (g.row.N - g.S.Samples.width) c.args.strip.stride c.args.other.now,
 )
 
-pub added-requires : goal.added-requires
-added-requires g c =
+pub weighed-samples-requires : goal.weighed-samples-requires
+weighed-samples-requires g c =
     let lines = c.loop-row.invariant.0 in
-    (omega arith, (λ lane less. (lines.first.bytes lane less, lines.third.bytes lane less, lines.fourth.bytes lane less, c.line-f.ensures.bytes lane less), c.requires.small))
-
-pub taken-requires : goal.taken-requires
-taken-requires g c =
-    let lines = c.loop-row.invariant.0 in
-    (omega arith, (λ lane less. (lines.second.bytes lane less, lines.fifth.bytes lane less), c.requires.small))
+    (omega arith, (c.requires.small, (lines.first.bytes, lines.second.bytes, lines.third.bytes, lines.fourth.bytes, lines.fifth.bytes, c.line-f.ensures.bytes)))
 
 pub narrowed-requires : goal.narrowed-requires
-narrowed-requires g c = (omega arith, (omega arith, λ lane less. rw (c.whole_samples-samples.ensures lane less) (omega arith)))
+narrowed-requires g c = (omega arith, (omega arith, λ lane less. rw (c.weighed-samples.ensures lane less) (omega arith)))
 
 pub store-requires : goal.store-requires
 store-requires g c = (
@@ -62,11 +57,11 @@ loop-row-preserved g c =
     let width = g.S.Samples.width in
     let within = c.store.ensures.within in
     let long : length c.narrowed.result ≡ g.row.N = search rules in
-    let value : (lane : ℕ) → lane < g.row.N → slice_index c.narrowed.result lane ≡ tapped_from c.args.taps sample lane c.loop-row.row = λ lane less. ap (λ l. slice_index l lane) c.narrowed.ensures ∙ c.whole_samples-samples.ensures lane less ∙ six_down g.row.N c.args.taps sample c.loop-row.row _ _ _ _ _ _ c.loop-row.invariant.0 c.line-f.ensures _ _ lane less (c.added.ensures lane less) (c.taken.ensures lane less) in
+    let value : (lane : ℕ) → lane < g.row.N → slice_index c.narrowed.result lane ≡ tapped_from (g.W.Weights.taps c.args.weights) sample lane c.loop-row.row = λ lane less. ap (λ l. slice_index l lane) c.narrowed.ensures ∙ c.weighed-samples.ensures lane less ∙ six_down g.row.N (g.W.Weights.taps c.args.weights) sample c.loop-row.row _ _ _ _ _ _ c.loop-row.invariant.0 c.line-f.ensures _ _ lane less refl refl in
     let test = c.loop-row-test.true in (
       next_lines g.row.N sample c.loop-row.row _ _ _ _ _ _ c.loop-row.invariant.0 c.line-f.ensures,
-      row_stored (tapped_from c.args.taps sample) c.args.strip.first width c.loop-row.row c.args.strip.stride 0 c.args.out.now c.loop-row.out c.store.new.out c.narrowed.result c.loop-row.invariant.1 c.requires.out.0 (row_there c.args.strip c.loop-row.row width _ test c.requires.out) (omega (arith, long, within)) c.store.ensures.out (λ column inside. let lane : 0 + column ≡ column = zero-add column in ap (slice_index c.narrowed.result) lane ∙ value column (omega (arith, within))),
-      λ narrow. row_stored (λ column row. tapped_from c.args.taps sample (width + column) row) c.args.strip.first (g.row.N - width) c.loop-row.row c.args.strip.stride width c.args.other.now c.loop-row.other c.store.new.other c.narrowed.result (c.loop-row.invariant.2 narrow) (c.requires.other narrow).0 (row_there c.args.strip c.loop-row.row (g.row.N - width) _ test (c.requires.other narrow)) (omega (arith, long, within)) (c.store.ensures.other narrow) (λ column inside. value (width + column) (omega (arith, within, inside))),
+      row_stored (tapped_from (g.W.Weights.taps c.args.weights) sample) c.args.strip.first width c.loop-row.row c.args.strip.stride 0 c.args.out.now c.loop-row.out c.store.new.out c.narrowed.result c.loop-row.invariant.1 c.requires.out.0 (row_there c.args.strip c.loop-row.row width _ test c.requires.out) (omega (arith, long, within)) c.store.ensures.out (λ column inside. let lane : 0 + column ≡ column = zero-add column in ap (slice_index c.narrowed.result) lane ∙ value column (omega (arith, within))),
+      λ narrow. row_stored (λ column row. tapped_from (g.W.Weights.taps c.args.weights) sample (width + column) row) c.args.strip.first (g.row.N - width) c.loop-row.row c.args.strip.stride width c.args.other.now c.loop-row.other c.store.new.other c.narrowed.result (c.loop-row.invariant.2 narrow) (c.requires.other narrow).0 (row_there c.args.strip c.loop-row.row (g.row.N - width) _ test (c.requires.other narrow)) (omega (arith, long, within)) (c.store.ensures.other narrow) (λ column inside. value (width + column) (omega (arith, within, inside))),
     )
 
 pub returns-clause-out : goal.returns-clause-out
@@ -82,4 +77,4 @@ returns-clause-other g c = λ narrow.
 pub returns-clause-between : goal.returns-clause-between
 returns-clause-between g c =
     let all : c.loop-row.row ≡ c.args.strip.height = omega arith in
-    strip_between c.args.taps (g.L.Lines.sample c.args.lines) c.args.strip.first g.S.Samples.width c.args.strip.height c.args.strip.stride c.args.out.now c.loop-row.out (rw all at c.loop-row.invariant.1)
+    strip_between (g.W.Weights.taps c.args.weights) (g.L.Lines.sample c.args.lines) c.args.strip.first g.S.Samples.width c.args.strip.height c.args.strip.stride c.args.out.now c.loop-row.out (rw all at c.loop-row.invariant.1)

@@ -11,8 +11,8 @@ stored-requires-clause-lines c = λ number less.
     let other = whole_room number c.args.strip.height c.args.stride c.args.strip.first 8 (length c.args.samples.other.now) c.requires.strides.1 c.requires.strides.0 c.requires.height.1 less c.requires.second in
     (one.0, (one.1, other.1))
 
-pub filter_down-requires-clause-lines : goal.filter_down-requires-clause-lines
-filter_down-requires-clause-lines c = λ number less.
+pub filter_rows_down-requires-clause-lines : goal.filter_rows_down-requires-clause-lines
+filter_rows_down-requires-clause-lines c = λ number less.
     let one = line_room number c.args.strip.height c.args.stride (c.args.strip.first + 2) 8 (length c.args.samples.one.now) c.requires.strides.1 (omega arith) c.requires.height.1 less (omega (arith, c.requires.one)) in
     let other = line_room number c.args.strip.height c.args.stride (c.args.strip.first + 2) 8 (length c.args.samples.other.now) c.requires.strides.1 (omega arith) c.requires.height.1 less (omega (arith, c.requires.second)) in
     (one.0, (one.1, other.1))
@@ -47,9 +47,9 @@ pub returns-in-true-false : goal.returns-in-true-false
 returns-in-true-false c =
     let xs = c.args.samples.one.now in
     let ys = c.args.samples.other.now in
-    let one = same_strip (λ column row. tapped_from c.args.filters.down (λ line. pair_sample xs ys (line * c.args.stride + (c.args.strip.first + 2))) column row) (λ column row. tapped_twice c.args.filters.across c.args.filters.down xs c.args.stride (c.args.strip.first + column) row) c.args.strip.first 8 c.args.strip.height c.args.strip.stride c.args.out.now c.filter_down.new.out c.filter_down.ensures.out
+    let one = same_strip (λ column row. tapped_from c.args.filters.down (λ line. pair_sample xs ys (line * c.args.stride + (c.args.strip.first + 2))) column row) (λ column row. tapped_twice c.args.filters.across c.args.filters.down xs c.args.stride (c.args.strip.first + column) row) c.args.strip.first 8 c.args.strip.height c.args.strip.stride c.args.out.now c.filter_rows_down.new.out c.filter_rows_down.ensures.out
     (λ column row inside below. tapped_same c.args.filters.down _ _ (λ k six. one_sample xs ys _ column inside) ∙ down_alone c.args.filters.across c.args.filters.down xs c.args.stride c.args.strip.first column row c.requires.across (c.in-true-false.ensures.0 refl) (c.are_bytes.ensures)) in
-    let second = same_strip (λ column row. tapped_from c.args.filters.down (λ line. pair_sample xs ys (line * c.args.stride + (c.args.strip.first + 2))) (8 + column) row) (λ column row. tapped_twice c.args.filters.across c.args.filters.down ys c.args.stride (c.args.strip.first + column) row) c.args.strip.first 8 c.args.strip.height c.args.strip.stride c.args.other.now c.filter_down.new.other (c.filter_down.ensures.other (omega arith))
+    let second = same_strip (λ column row. tapped_from c.args.filters.down (λ line. pair_sample xs ys (line * c.args.stride + (c.args.strip.first + 2))) (8 + column) row) (λ column row. tapped_twice c.args.filters.across c.args.filters.down ys c.args.stride (c.args.strip.first + column) row) c.args.strip.first 8 c.args.strip.height c.args.strip.stride c.args.other.now c.filter_rows_down.new.other (c.filter_rows_down.ensures.other (omega arith))
     (λ column row inside below. tapped_same c.args.filters.down _ _ (λ k six. other_sample xs ys _ column) ∙ down_alone c.args.filters.across c.args.filters.down ys c.args.stride c.args.strip.first column row c.requires.across (c.in-true-false.ensures.0 refl) (c.are_bytes-2.ensures)) in
     record { out = one; other = second }
 

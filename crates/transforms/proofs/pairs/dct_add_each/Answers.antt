@@ -4,6 +4,6 @@ use Rattle.transforms.proofs.pairs.dct_add_each.Goals as goal
 
 pub returns : goal.returns
 returns c =
-    let f = c.args.first.now in
-    let s = c.args.second.now in
+    let f = c.args.first in
+    let s = c.args.second in
     both_added (inverse_dct f) (inverse_dct s) c.args.stride c.args.samples.now c.dct_add.new.samples c.dct_add-2.new.samples c.requires.stride c.requires.room c.dct_add.ensures c.dct_add-2.ensures _ (of_first f s) (of_second f s)
