@@ -43,6 +43,8 @@ edit_detail now (edits.ShowBit at shown) = no_packet_of now at
 -- which packet of a question does not exist
 abbrev pub question_detail : Now → Question → Detail
 question_detail now (questions.Packet at) = no_packet_of now at
+question_detail now (questions.Macroblocks at) = no_packet_of now at
+question_detail now (questions.Header at) = no_packet_of now at
 question_detail now questions.Script = Nothing
 question_detail now (questions.Origins first count) = Nothing
 question_detail now (questions.List first count) = past_end_of now first

@@ -97,7 +97,9 @@ fn question_detail(session: &Session, question: Question) -> Detail
     ensures { result ≡ question_detail session.now.now question }
 {
     match question {
-        Question::Packet { at } => no_packet_of(session, at),
+        Question::Packet { at } | Question::Macroblocks { at } | Question::Header { at } => {
+            no_packet_of(session, at)
+        }
         Question::List { first, .. } => past_end_of(session, first),
         Question::Script | Question::Origins { .. } => Detail::Nothing,
     }

@@ -20,10 +20,13 @@ use mode_parser::{MbMode, RecordFacts};
 use std::alloc::Global;
 use std::io::Write;
 use stream_files::WriteFault;
+use token_parser::Rows;
 
-/// A frame between two of its macroblocks: its tokens, and those of partitions with zeros and a mark after each.
+/// A frame between two of its macroblocks: the odds of its tokens, its tokens, and those of partitions with zeros
+/// and a mark after each.
 #[derive(Drop)]
 struct Walk<'a, 'b> {
+    odds: Rows,
     tokens: FrameTokens<'a>,
     marked: FrameTokens<'b>,
 }
@@ -38,17 +41,19 @@ impl<'a, 'b> Walk<'a, 'b> {
         mode: &MbMode,
         facts: RecordFacts,
     ) -> Macroblock
+        requires odds { self.old.odds ≡ header.now.context.probabilities.coefficients }
         requires some { 0 < length self.old.tokens.readers }
         requires column { mx < length self.old.tokens.above }
         requires marked { 0 < length self.old.marked.readers }
         requires marked_column { mx < length self.old.marked.above }
         ensures value { result ≡ macroblock_of header.now mx my self.old.tokens self.old.marked mode.now facts }
+        ensures odds { self.new.odds ≡ self.old.odds }
         ensures tokens { self.new.tokens ≡ state_with self.old.tokens mx my (tokens_at header.now.context.probabilities.coefficients self.old.tokens mx my mode.now) }
         ensures marked { self.new.marked ≡ state_with self.old.marked mx my (tokens_at header.now.context.probabilities.coefficients self.old.marked mx my mode.now) }
     {
         let left = self.marked.left_at(my);
-        let tokens = self.tokens.read(header, mx, my, mode);
-        let _marked = self.marked.read(header, mx, my, mode);
+        let tokens = self.tokens.read(&self.odds, mx, my, mode);
+        let _marked = self.marked.read(&self.odds, mx, my, mode);
         let token_bits = left.saturating_sub(self.marked.left_at(my));
         let level = level_in_force(header, mode);
         Macroblock {
@@ -99,6 +104,7 @@ fn write_macroblocks<W: Write>(
     walk: &mut Walk,
 ) -> Result<(), WriteFault>
     requires columns { 0 < frame.now.columns }
+    requires odds { walk.old.odds ≡ frame.now.header.now.context.probabilities.coefficients }
     requires some { 0 < length walk.old.tokens.readers }
     requires above { length walk.old.tokens.above ≡ frame.now.columns }
     requires marked { 0 < length walk.old.marked.readers }
@@ -145,7 +151,11 @@ pub(crate) fn write_frame<W: Write>(
     let texts = marked_texts(alloc, zeros_for(columns, frame.rows), packet, partitions)?;
     let tokens = FrameTokens::new(alloc, packet, partitions, columns)?;
     let marked = FrameTokens::over_texts(alloc, &texts, columns)?;
-    let mut walk = Walk { tokens, marked };
+    let mut walk = Walk {
+        odds: Rows::of(&frame.header.context.probabilities.coefficients),
+        tokens,
+        marked,
+    };
     write_macroblocks(w, target, frame, &mut walk)?;
     Ok(())
 }

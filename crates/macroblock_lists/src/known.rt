@@ -170,8 +170,10 @@ pub(crate) fn step(
     }
 }
 
-/// The progress after the packet at index `place`. Its header and its modes are read, and no tokens.
-pub(crate) fn progress_after(
+/// What is known after the packet at index `place`, before which `progress` is known. Its header and its modes are read, and no tokens.
+///
+/// `NoMemory` if memory for its records was refused.
+pub fn progress_after(
     alloc: Global,
     tables: &Tables,
     place: usize,

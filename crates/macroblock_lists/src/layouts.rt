@@ -20,10 +20,10 @@ pub enum What {
 
 /// What is written of a packet, how, and its index.
 #[derive(Clone, Copy)]
-pub(crate) struct Target {
-    pub(crate) what: What,
-    pub(crate) form: Form,
-    pub(crate) place: usize,
+pub struct Target {
+    pub what: What,
+    pub form: Form,
+    pub place: usize,
 }
 
 /// How the fields of a header are written.

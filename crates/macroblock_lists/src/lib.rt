@@ -22,8 +22,9 @@ mod texts;
 mod tokens;
 mod values;
 
-pub use known::{Known, Progress};
-pub use layouts::{Form, What};
+pub use known::{Known, Progress, progress_after};
+pub use layouts::{Form, Target, What};
 pub use listing::{ListFault, Wanted, write_list};
 pub use macroblocks::Macroblock;
 pub use partition_ends::{PartitionEnd, PartitionEnds, read_packet};
+pub use texts::write_packet;

@@ -20,6 +20,7 @@ use mode_parser::Records;
 use pixel_planes::NoMemory;
 use state_cache::Broken;
 use std::alloc::Global;
+use token_parser::Rows;
 use vp8_tables::Tables;
 
 /// Where decoding ends in a partition: past its end, or before it, or just at it.
@@ -120,11 +121,12 @@ fn read_tokens(tokens: &mut FrameTokens, header: &Header, columns: usize, modes:
     ensures value { tokens.new ≡ token_state header.now columns tokens.old modes.now (length modes.now) }
     ensures count { length tokens.new.readers ≡ length tokens.old.readers }
 {
+    let odds = Rows::of(&header.context.probabilities.coefficients);
     let mut mx = 0;
     let mut my = 0;
     for n in 0..modes.len() {
         let mode = modes.at(n).mode();
-        tokens.read(header, mx, my, &mode);
+        tokens.read(&odds, mx, my, &mode);
         mx += 1;
         if mx == columns {
             mx = 0;

@@ -345,8 +345,11 @@ fn write_known<W: Write>(
     write_coded(w, alloc, tables, target, known, packet)
 }
 
-/// Writes a packet after this progress.
-pub(crate) fn write_packet<W: Write>(
+/// Writes a packet before which `progress` is known.
+///
+/// `NoMemory` if memory runs out for its records, partitions or flags: the front of the text was written. `Write` if the writer returns
+/// an error: part of the text may have been written.
+pub fn write_packet<W: Write>(
     w: &mut W,
     alloc: Global,
     tables: &Tables,

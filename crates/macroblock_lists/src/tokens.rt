@@ -8,12 +8,12 @@ ghost use Rattle.macroblock_lists.specs.PartitionEnds.{marked_start, marked_text
 ghost use Rattle.macroblock_lists.specs.Macroblocks.{left_at};
 
 use bool_coder::Decoder;
-use frame_header::{Header, Place};
+use frame_header::Place;
 use mode_parser::{MbMode, VectorMode, YMode};
 use pixel_planes::NoMemory;
 use std::alloc::Global;
 use std::marker::Model;
-use token_parser::{Tokens, read_macroblock, skip_macroblock};
+use token_parser::{Rows, Tokens, read_macroblock, skip_macroblock};
 
 /// The state between two macroblocks of a frame.
 #[derive(Drop)]
@@ -172,14 +172,14 @@ impl<'a> FrameTokens<'a> {
         self.readers[row % self.readers.len()].left()
     }
 
-    /// Reads the tokens of the macroblock in column `mx` of row `my`, which is next. Nothing is read of one that
-    /// is skipped.
+    /// Reads the tokens of the macroblock in column `mx` of row `my`, which is next, by the odds of its frame.
+    /// Nothing is read of one that is skipped.
     #[tactic(auto, unfolding(reference_frames::specs::FrameTokens::tokens_at))]
-    pub(crate) fn read(&mut self, header: &Header, mx: usize, my: usize, mode: &MbMode) -> Tokens
+    pub(crate) fn read(&mut self, odds: &Rows, mx: usize, my: usize, mode: &MbMode) -> Tokens
         requires some { 0 < length self.old.readers }
         requires column { mx < length self.old.above }
-        ensures tokens { result ≡ (tokens_at header.now.context.probabilities.coefficients self.old mx my mode.now).0 }
-        ensures state { self.new ≡ state_with self.old mx my (tokens_at header.now.context.probabilities.coefficients self.old mx my mode.now) }
+        ensures tokens { result ≡ (tokens_at odds.now self.old mx my mode.now).0 }
+        ensures state { self.new ≡ state_with self.old mx my (tokens_at odds.now self.old mx my mode.now) }
     {
         let partition = my % self.readers.len();
         let mut tokens = Tokens::new();
@@ -189,13 +189,7 @@ impl<'a> FrameTokens<'a> {
         if mode.is_skipped {
             skip_macroblock(has_y2, &mut tokens);
         } else {
-            let probabilities = &header.context.probabilities.coefficients;
-            read_macroblock(
-                &mut self.readers[partition],
-                probabilities,
-                has_y2,
-                &mut tokens,
-            );
+            read_macroblock(&mut self.readers[partition], odds, has_y2, &mut tokens);
         }
         self.above[mx] = tokens.above;
         self.left = tokens.left;

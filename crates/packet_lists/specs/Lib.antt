@@ -1,2 +1,3 @@
+pub mod Details
 pub mod Lines
 pub mod Places

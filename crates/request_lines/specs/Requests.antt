@@ -52,6 +52,16 @@ edit_commands =
     ∷ command (codes "show") (Words (Number ∷ []) (λ at. Edit (ShowBit at true)))
     ∷ []
 
+-- the questions, and the edits
+abbrev pub question_commands : List Command
+question_commands =
+    command (codes "packet") (Words (Number ∷ []) (λ at. Ask (questions.Packet at)))
+    ∷ command (codes "macroblocks") (Words (Number ∷ []) (λ at. Ask (questions.Macroblocks at)))
+    ∷ command (codes "header") (Words (Number ∷ []) (λ at. Ask (questions.Header at)))
+    ∷ command (codes "list") (Words (Number ∷ Number ∷ []) (λ first count. Ask (questions.List first count)))
+    ∷ command (codes "origins") (Words (Number ∷ Number ∷ []) (λ first count. Ask (questions.Origins first count)))
+    ∷ edit_commands
+
 abbrev pub commands : List Command
 commands =
     command (codes "frame") (Words (Number ∷ []) Frame)
@@ -59,10 +69,7 @@ commands =
     ∷ command (codes "script") (Text (Ask questions.Script) Script)
     ∷ command (codes "count") (Words [] Count)
     ∷ command (codes "stats") (Words [] Stats)
-    ∷ command (codes "packet") (Words (Number ∷ []) (λ at. Ask (questions.Packet at)))
-    ∷ command (codes "list") (Words (Number ∷ Number ∷ []) (λ first count. Ask (questions.List first count)))
-    ∷ command (codes "origins") (Words (Number ∷ Number ∷ []) (λ first count. Ask (questions.Origins first count)))
-    ∷ edit_commands
+    ∷ question_commands
 
 -- the form of the first command with this name, if there is one
 abbrev pub form_in : List Command → List ℕ → Option Form

@@ -28,6 +28,8 @@ pub fn worked_lines()
     ensures list { asked_by (codes "list 3 10") ≡ requests.Ask (questions.List 3 10) }
     ensures origins { asked_by (codes "origins 3 10") ≡ requests.Ask (questions.Origins 3 10) }
     ensures packet { asked_by (codes "packet 3") ≡ requests.Ask (questions.Packet 3) }
+    ensures macroblocks { asked_by (codes "macroblocks 3") ≡ requests.Ask (questions.Macroblocks 3) }
+    ensures header { asked_by (codes "header 3") ≡ requests.Ask (questions.Header 3) }
     ensures hide { asked_by (codes "hide 4") ≡ requests.Edit (edits.ShowBit 4 false) }
     ensures show { asked_by (codes "show 4") ≡ requests.Edit (edits.ShowBit 4 true) }
     ensures odd { asked_by (codes "insert 0 0 1") ≡ requests.Unknown }

@@ -1,7 +1,7 @@
 // Request lines, and how each is read by the form of its command.
 ghost use Rattle.std.specs.Prelude.{◌≡◌, [], Err, IfErr, IfOk, Ok, codes, drop, is_some};
 ghost use Rattle.text_words.specs.Words.{words_of};
-ghost use Rattle.request_lines.specs.Requests.{asked_by, edit_commands, first_bytes, first_number, form_in, is_unknown, misfit_of, no_bytes, read_after, read_form, read_of, read_words};
+ghost use Rattle.request_lines.specs.Requests.{asked_by, edit_commands, question_commands, first_bytes, first_number, form_in, is_unknown, misfit_of, no_bytes, read_after, read_form, read_of, read_words};
 
 use crate::edit::Edit;
 use crate::hex_text::Hex;
@@ -89,7 +89,7 @@ fn ended<'a>(request: Line<'a>, rest: &'a [u8]) -> Result<Line<'a>, Misfit<'a>>
 /// The request of a line, or why it is not one: the first of its words that does not fit.
 ///
 /// A line without words, or whose first word begins with `#`, has no reply. The requests are
-/// `frame N`, `use K`, `script TEXT`, `count`, `stats`, the questions `packet N`, `list FIRST COUNT`, `origins FIRST COUNT` and `script`, and the edits `insert AT STAMP HEX`,
+/// `frame N`, `use K`, `script TEXT`, `count`, `stats`, the questions `packet N`, `macroblocks N`, `header N`, `list FIRST COUNT`, `origins FIRST COUNT` and `script`, and the edits `insert AT STAMP HEX`,
 /// `replace AT HEX`, `delete AT`, `move FROM TO`, `copy S FROM AT`, `blank AT W H`, `hold AT`, `hide N` and `show N`. HEX is `-`
 /// or an even number of hexadecimal digits, TEXT is the rest of the line with at least one word, and the others are numbers.
 pub fn read_line(line: &[u8]) -> Result<Line<'_>, Misfit<'_>>
@@ -110,8 +110,21 @@ pub fn read_line(line: &[u8]) -> Result<Line<'_>, Misfit<'_>>
         ended(Line::Count, words)
     } else if command == b"stats".as_slice() {
         ended(Line::Stats, words)
-    } else if command == b"packet".as_slice() {
+    } else {
+        read_question(command, words)
+    }
+}
+
+/// The request of a command that only asks or edits, from the text after it.
+fn read_question<'a>(command: &[u8], words: &'a [u8]) -> Result<Line<'a>, Misfit<'a>>
+    ensures { result ≡ read_form (form_in question_commands command.now) words.now (words_of words.now) }
+{
+    if command == b"packet".as_slice() {
         packet_line(words)
+    } else if command == b"macroblocks".as_slice() {
+        macroblocks_line(words)
+    } else if command == b"header".as_slice() {
+        header_line(words)
     } else if command == b"list".as_slice() {
         list_line(words)
     } else if command == b"origins".as_slice() {
@@ -176,6 +189,20 @@ fn packet_line(words: &[u8]) -> Result<Line<'_>, Misfit<'_>>
 {
     let (at, rest) = next_number(words)?;
     ended(Line::Ask(Question::Packet { at }), rest)
+}
+
+fn macroblocks_line(words: &[u8]) -> Result<Line<'_>, Misfit<'_>>
+    ensures { result ≡ read_after (codes "macroblocks") words.now }
+{
+    let (at, rest) = next_number(words)?;
+    ended(Line::Ask(Question::Macroblocks { at }), rest)
+}
+
+fn header_line(words: &[u8]) -> Result<Line<'_>, Misfit<'_>>
+    ensures { result ≡ read_after (codes "header") words.now }
+{
+    let (at, rest) = next_number(words)?;
+    ended(Line::Ask(Question::Header { at }), rest)
 }
 
 fn list_line(words: &[u8]) -> Result<Line<'_>, Misfit<'_>>

@@ -3,6 +3,10 @@
 pub enum Question {
     /// The time stamp and the bytes of the packet at index `at` of the current source.
     Packet { at: u64 },
+    /// The macroblocks of the packet at index `at` of the current source.
+    Macroblocks { at: u64 },
+    /// The header of the packet at index `at` of the current source.
+    Header { at: u64 },
     /// The current script.
     Script,
     /// The origins of at most `count` frames of the current script, starting at frame `first`.

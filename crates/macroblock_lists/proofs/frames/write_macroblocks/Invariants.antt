@@ -10,6 +10,7 @@ invariant-loop-n g l = record {
   said : Appends (g.W.Write.contents l.fn.w) (g.W.Write.contents l.w) (flat_map (text_at l.form l.place l.frame.header.now l.columns l.initial.walk.tokens l.initial.walk.marked l.modes l.facts) (range_with_len 0 l.n));
   tokens : l.walk.tokens ≡ token_state l.frame.header.now l.columns l.initial.walk.tokens l.modes l.n;
   marked : l.walk.marked ≡ token_state l.frame.header.now l.columns l.initial.walk.marked l.modes l.n;
+  odds : l.walk.odds ≡ l.frame.header.now.context.probabilities.coefficients;
   readers : 0 < length l.walk.tokens.readers;
   above : length l.walk.tokens.above ≡ l.columns;
   marked_readers : 0 < length l.walk.marked.readers;

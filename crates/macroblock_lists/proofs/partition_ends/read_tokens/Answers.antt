@@ -21,7 +21,7 @@ pub loop-n-preserved : goal.loop-n-preserved
 loop-n-preserved c =
     let mode : MbMode = c.mode-mode.result in
     let found : slice_get c.args.modes.now c.loop-n.n ≡ Some mode = c.at.ensures ∙ ap Some (sym c.mode-mode.ensures) in
-    let state = c.read.ensures.state in
+    let state = rw c.of-odds.ensures at c.read.ensures.state in
     record {
       state = state_more c.args.header.now c.args.tokens.now c.loop-n.tokens c.read.new.self c.args.columns c.loop-n.mx c.loop-n.my c.loop-n.n c.args.modes.now mode found c.loop-n.invariant.state state c.loop-n.invariant.place c.loop-n.invariant.column;
       each = ap (λ (t : TokenState). length t.readers) state ∙ length-set _ _ _ ∙ c.loop-n.invariant.each;
