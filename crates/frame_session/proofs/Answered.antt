@@ -1,5 +1,5 @@
 -- Each request list has a meaning in which nothing is out of memory.
-use Rattle.std.proofs.Common.{◌≡◌, ◌≢◌, All, ℕ, zero, suc, ◌-◌, List, [], ◌∷◌, Bool, true, false, cond, Option, Some, None, Result, Ok, Err, get_or, length, map, min, nat_lt, option_map, slice_get, refl, ap, arith}
+use Rattle.std.proofs.Common.{◌≡◌, ◌≢◌, inl, All, ℕ, zero, suc, ◌-◌, List, [], ◌∷◌, Bool, true, false, cond, Option, Some, None, Result, Ok, Err, get_or, length, map, min, nat_lt, option_map, slice_get, refl, ap, arith}
 use Rattle.std.specs.List.{range_with_len}
 use Rattle.std.specs.Option.{option_map_or}
 use Rattle.std.proofs.lemmas.List.Elements.{All-head, All-tail}
@@ -24,6 +24,8 @@ use Rattle.packet_edits.specs.declared.entry.Entry.{Entry}
 use Rattle.packet_edits.specs.declared.fault.EditFault.TheVariants as faults
 use Rattle.packet_edits.specs.Edits.{Listing}
 use Rattle.packet_edits.specs.Sizes.{size_at}
+use Rattle.macroblock_lists.specs.declared.layouts.What.TheVariants as what
+use Rattle.packet_lists.specs.Details.{detail_text}
 use Rattle.packet_lists.specs.Lines.{lines_from}
 use Rattle.packet_forge.specs.declared.faults.ForgeFault.{ForgeFault}
 use Rattle.packet_forge.specs.declared.faults.ForgeFault.TheVariants as forging
@@ -34,7 +36,7 @@ use Rattle.frame_session.proofs.Forging.{blank_lacks_none, held_lacks_none}
 use Rattle.frame_session.specs.Edits.{WrittenAnswers, edit_of, hold_bytes_at, refusal_by, refused_forged, count_unless}
 use Rattle.frame_session.specs.Origins.{origin_line}
 use Rattle.frame_session.specs.Questions.{answer_to}
-use Rattle.frame_session.specs.Replies.{lines_reply, refused_line, served_line, ok_line, edit_line, count_line, packet_line, script_line, stats_line}
+use Rattle.frame_session.specs.Replies.{lines_reply, refused_line, served_line, ok_line, edit_line, count_line, packet_line, script_line, stats_line, text_reply}
 use Rattle.frame_session.specs.Scripts.{script_reported}
 use Rattle.frame_session.specs.Sessions.{Now, after_frame, choice_answer, current_list, edit_answer, now_after_choice, now_after_edit, now_after_script, fits, fitted, frame_count, frame_from, frame_made, frame_of, outcome_of, packet_count, picture_from, script_answer, shown_counts, size_of, size_served}
 use Rattle.frame_session.specs.Answers.{Answer, Answers, Run, answer_to_frame, reply_only}
@@ -219,8 +221,14 @@ lines_told : (refusal : Refusal) → (refusal ≡ refusals.NoMemory → ⊥) →
 lines_told refusal other true lines same = refusal_told refusal other same
 lines_told refusal other false lines same = begins_otherwise (lines_reply lines) refusals.NoMemory (λ h. omega (arith, h)) same
 
+detail_told : (within : Bool) (text : List ℕ) → cond within (text_reply text) (refused_line refusals.Place) ≡ refused_line refusals.NoMemory → ⊥
+detail_told true text same = begins_otherwise (text_reply text) refusals.NoMemory (λ h. omega (arith, h)) same
+detail_told false text same = refusal_told refusals.Place (λ h. cc) same
+
 question_told : (old : Now) (question : Question) → answer_to old question ≡ refused_line refusals.NoMemory → ⊥
 question_told old (questions.Packet at) e = packet_told (slice_get (current_list old).entries at) e
+question_told old (questions.Macroblocks at) e = detail_told (nat_lt at (length (current_list old).entries)) (detail_text what.Macroblocks old.tables (current_list old) at) e
+question_told old (questions.Header at) e = detail_told (nat_lt at (length (current_list old).entries)) (detail_text what.Header old.tables (current_list old) at) e
 question_told old questions.Script e = begins_otherwise (script_line old.script) refusals.NoMemory (λ h. omega (arith, h)) e
 question_told old (questions.Origins first count) e = lines_told refusals.NoSuchFrame (λ h. cc) (nat_lt (frame_count old) first) (map (origin_line old) (range_with_len first (min count (frame_count old - first)))) e
 question_told old (questions.List first count) e = lines_told refusals.Place (λ h. cc) (nat_lt (length (current_list old).entries) first) (lines_from (current_list old) first count) e
@@ -266,7 +274,7 @@ answered old requests.Count held =
 answered old requests.Stats held =
     let reply = stats_line old.decoded in
     record { answer = reply_only reply; new = old; means = (refl, refl); enough = begins_otherwise reply refusals.NoMemory (λ h. omega (arith, h)) }
-answered old (requests.Ask question) held = record { answer = reply_only (answer_to old question); new = old; means = (refl, refl); enough = question_told old question }
+answered old (requests.Ask question) held = record { answer = reply_only (answer_to old question); new = old; means = (answer_to old question, inl refl, refl, refl); enough = question_told old question }
 answered old requests.Lost held = absurd (held refl)
 
 -- answers to lines, none of which is `refused NoMemory`

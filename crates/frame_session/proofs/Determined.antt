@@ -1,5 +1,5 @@
 -- If nothing is out of memory, a request list has one meaning, except for the number of steps.
-use Rattle.std.proofs.Common.{◌≡◌, ℕ, Bool, true, false, cond, List, [], ◌∷◌, Option, Some, None, Result, Ok, Err, refl, sym, ap, ◌∙◌, subst}
+use Rattle.std.proofs.Common.{◌≡◌, ◌⊎◌, inl, inr, ℕ, Bool, true, false, cond, List, [], ◌∷◌, Option, Some, None, Result, Ok, Err, refl, sym, ap, ◌∙◌, subst}
 use Rattle.script_nodes.specs.Shown.{Shown}
 use Rattle.request_lines.specs.declared.lines.Line.{Line}
 use Rattle.request_lines.specs.declared.lines.Line.TheVariants as requests
@@ -12,7 +12,7 @@ use Rattle.frame_session.specs.declared.refusal.Refusal.TheVariants as refusals
 use Rattle.frame_session.specs.declared.size.Size.{Size}
 use Rattle.frame_session.specs.Edits.{WrittenAnswers}
 use Rattle.frame_session.specs.IsOrNoMemory.{IsOrNoMemory}
-use Rattle.frame_session.specs.Questions.{answer_to}
+use Rattle.frame_session.specs.Questions.{AnswersQuestion, answer_to}
 use Rattle.frame_session.specs.Replies.{refused_line, edit_line}
 use Rattle.frame_session.specs.Sessions.{Now, after_frame, choice_answer, current_list, edit_answer, now_after_choice, now_after_edit, now_after_script, frame_of, script_answer, size_served}
 use Rattle.frame_session.specs.Answers.{Answer, Answers, AnswersEdit, Run, answer_to_frame, reply_only}
@@ -123,9 +123,16 @@ one_script old steps text set set' answer answer' new new' returned gives' first
 -- the answer to a question does not depend on the number of steps
 asked_counted : (old : Now) (steps : ℕ) (question : Question) → answer_to (counted old steps) question ≡ answer_to old question
 asked_counted old steps (questions.Packet at) = refl
+asked_counted old steps (questions.Macroblocks at) = refl
+asked_counted old steps (questions.Header at) = refl
 asked_counted old steps questions.Script = refl
 asked_counted old steps (questions.Origins first count) = refl
 asked_counted old steps (questions.List first count) = refl
+
+-- a reply to a question other than `refused NoMemory` is the one to it
+asked_given : (now : Now) (question : Question) (reply : List ℕ) → (reply ≡ refused_line refusals.NoMemory → ⊥) → AnswersQuestion now question reply → reply ≡ answer_to now question
+asked_given now question reply enough (inl is) = is
+asked_given now question reply enough (inr (takes, lacks)) = absurd (enough lacks)
 
 -- two answers to one line, the second after another number of steps
 one_answer : (old : Now) (steps : ℕ) (line : Line) (answer answer' : Answer) (new new' : Now) → Answers old line answer new → Answers (counted old steps) line answer' new' → (answer.reply ≡ refused_line refusals.NoMemory → ⊥) → (answer'.reply ≡ refused_line refusals.NoMemory → ⊥) → AreAlike line answer answer' × (new' ≡ counted new new'.decoded)
@@ -148,7 +155,9 @@ one_answer old steps (requests.Edit edit) answer answer' new new' first second e
 one_answer old steps (requests.Script text) answer answer' new new' first second enough enough' =
     one_script old steps text first.0 second.0 answer answer' new new' first.1 second.1 first.2 second.2 enough enough'
 one_answer old steps (requests.Ask question) answer answer' new new' first second enough enough' =
-    same_answer old steps answer answer' (reply_only (answer_to old question)) new new' first (second.0 ∙ ap reply_only (asked_counted old steps question), second.1)
+    let is = asked_given old question first.0 (λ lacks. enough (ap (λ (a : Answer). a.reply) first.2 ∙ lacks)) first.1 in
+    let is' = asked_given (counted old steps) question second.0 (λ lacks. enough' (ap (λ (a : Answer). a.reply) second.2 ∙ lacks)) second.1 in
+    same_answer old steps answer answer' (reply_only (answer_to old question)) new new' (first.2 ∙ ap reply_only is, first.3) (second.2 ∙ ap reply_only (is' ∙ asked_counted old steps question), second.3)
 one_answer old steps line answer answer' new new' first second enough enough' = same_answer old steps answer answer' _ new new' first second
 
 one_run : (old : Now) (steps : ℕ) (lines : List Line) (answers answers' : List Answer) (new new' : Now) → Run old lines answers new → Run (counted old steps) lines answers' new' → HaveMemory answers → HaveMemory answers' → AllAlike lines answers answers' × (new' ≡ counted new new'.decoded)

@@ -33,6 +33,7 @@ line_counts old new (requests.Frame n) answer means = means.3.steps
 line_counts old new (requests.Use source) answer means = choice_counts old new source _ means.1
 line_counts old new (requests.Edit edit) answer means = edit_counts old new edit means.0 means.2.1
 line_counts old new (requests.Script text) answer means = script_counts old new text means.0 means.2.1
+line_counts old new (requests.Ask question) answer means = rw means.3 (omega arith)
 line_counts old new line answer means = rw means.1 (omega arith)
 
 pub lines_count : (old new : Now) (lines : List Line) (answers : List Answer) → Run old lines answers new → old.decoded ≤ new.decoded
@@ -76,11 +77,12 @@ refused_kept old new (requests.Frame n) answer refusal means e = frame_kept old 
 refused_kept old new (requests.Use source) answer refusal means e = choice_kept old new source _ refusal _ means.1 (reply_of answer _ _ means.0 e)
 refused_kept old new (requests.Edit edit) answer refusal means e = edit_cached old new edit means.0 refusal means.2.1 (reply_of answer _ _ means.2.0 e)
 refused_kept old new (requests.Script text) answer refusal means e = script_kept old new text means.0 refusal means.2.1 (reply_of answer _ _ means.2.0 e)
+refused_kept old new (requests.Ask question) answer refusal means e = same old new means.3
 refused_kept old new line answer refusal means e = same old new means.1
 
 -- a question leaves all of the state unchanged
 pub questions_kept : QuestionsChangeNothing
-questions_kept old new (requests.Ask question) answer is means = means.1
+questions_kept old new (requests.Ask question) answer is means = means.3
 questions_kept old new requests.Count answer is means = means.1
 questions_kept old new requests.Stats answer is means = means.1
 questions_kept old new line answer is means = cc

@@ -1,6 +1,7 @@
 pub mod Given
 pub mod Texts
 pub mod Served
+pub mod AtCost
 pub mod Forging
 pub mod Determined
 pub mod Answered

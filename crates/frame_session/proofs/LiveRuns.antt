@@ -7,11 +7,16 @@ use Rattle.std.specs.Io.{IsEmptyOrEndsWith}
 use Rattle.std.specs.Io.KnownBytes.{Appends, Consumes, IsAtEnd}
 use Rattle.std.specs.Str.Lines.{lines, strip_carriage_return}
 use Rattle.std.proofs.KnownBytes.{Appends-trans, Consumes-nil, Consumes-trans}
+use Rattle.vp8_tables.specs.declared.tables.Tables.{Tables}
+use Rattle.stream_files.specs.declared.ivf.Ivf.{Ivf}
 use Rattle.request_lines.specs.declared.lines.Line.{Line}
 use Rattle.frame_session.specs.declared.live.LiveFault.{LiveFault}
 use Rattle.frame_session.specs.declared.live.LiveFault.TheVariants as faults
 use Rattle.frame_session.specs.Sessions.{Now}
-use Rattle.frame_session.specs.Answers.{Answer, Run, Runs, Serves, Stops, WritesFrameFirst, frames_of, replies_of}
+use Rattle.frame_session.specs.Cached.{SessionValue, begun}
+use Rattle.frame_session.specs.LineCosts.{LineCosts, LiveMeansAtCost}
+use Rattle.frame_session.proofs.AtCost.{costs_append}
+use Rattle.frame_session.specs.Answers.{Answer, AreIvfs, Run, Runs, Serves, Stops, WritesFrameFirst, frames_of, replies_of}
 use Rattle.frame_session.specs.Live.{AnswersText, AreAsked, CutsOff, IsAsked, IsCutOff, LiveEnds, LiveRefuses, longest_line}
 use Rattle.frame_session.specs.declared.live.LineRead.{LineRead}
 use Rattle.frame_session.specs.LiveSteps.{IsRead, IsShort, MayFollow, ReadsLine, RunsText}
@@ -19,14 +24,14 @@ use Rattle.frame_session.proofs.Served.{runs_more, runs_none}
 use Rattle.frame_session.proofs.LiveReads.{at_end}
 use Rattle.frame_session.proofs.LiveLines.{IsOnly, asked-append, count-append, ends-append, newline_ends, only_before_newline, only_last, only_short, short-append}
 
-run_append : (old mid new : Now) (ls ls' : List Line) (xs ys : List Answer) → Run old ls xs mid → Run mid ls' ys new → Run old (ls ++ ls') (xs ++ ys) new
+pub run_append : (old mid new : Now) (ls ls' : List Line) (xs ys : List Answer) → Run old ls xs mid → Run mid ls' ys new → Run old (ls ++ ls') (xs ++ ys) new
 run_append old mid new [] ls' [] ys same ran = subst (λ now. Run now ls' ys new) same ran
 run_append old mid new [] ls' (x ∷ xs) ys ran ran' = absurd ran
 run_append old mid new (l ∷ ls) ls' [] ys ran ran' = absurd ran
 run_append old mid new (l ∷ ls) ls' (x ∷ xs) ys ran ran' = (ran.0, ran.1, run_append ran.0 mid new ls ls' xs ys ran.2 ran')
 
 -- lines, and lines after them
-pub runs_append : (old mid new : Now) (ls ls' : List Line) (f f' f'' r r' r'' : Option (List ℕ)) → Runs old ls f f' r r' mid → Runs mid ls' f' f'' r' r'' new → Runs old (ls ++ ls') f f'' r r'' new
+abbrev pub runs_append : (old mid new : Now) (ls ls' : List Line) (f f' f'' r r' r'' : Option (List ℕ)) → Runs old ls f f' r r' mid → Runs mid ls' f' f'' r' r'' new → Runs old (ls ++ ls') f f'' r r'' new
 runs_append old mid new ls ls' f f' f'' r r' r'' ran more = record {
   answers = ran.answers ++ more.answers;
   means = run_append old mid new ls ls' ran.answers more.answers ran.means more.means;
@@ -51,11 +56,11 @@ module _ (old mid : Now) (ls ls' : List Line) (f f' f'' r r' r'' : Option (List 
   }
 
 -- a text of no lines
-no_text : (old : Now) (f r : Option (List ℕ)) → AnswersText old [] f f r r old
+abbrev no_text : (old : Now) (f r : Option (List ℕ)) → AnswersText old [] f f r r old
 no_text old f r = record { short = All-nil (λ line. length line ≤ longest_line); requests = []; asked = tt; runs = runs_none old f r }
 
 -- the lines of a text, and of a text after it
-text_append : (old mid new : Now) (whole text : List ℕ) (f f' f'' r r' r'' : Option (List ℕ)) → IsEmptyOrEndsWith whole 10 → AnswersText old whole f f' r r' mid → AnswersText mid text f' f'' r' r'' new → AnswersText old (whole ++ text) f f'' r r'' new
+abbrev text_append : (old mid new : Now) (whole text : List ℕ) (f f' f'' r r' r'' : Option (List ℕ)) → IsEmptyOrEndsWith whole 10 → AnswersText old whole f f' r r' mid → AnswersText mid text f' f'' r' r'' new → AnswersText old (whole ++ text) f f'' r r'' new
 text_append old mid new whole text f f' f'' r r' r'' ends x y = record {
   short = short-append whole text ends x.short y.short;
   requests = x.requests ++ y.requests;
@@ -68,7 +73,7 @@ module _ (old new : Now) (text line : List ℕ) (is : IsOnly text line) (request
   all_asked : AreAsked (lines text) (request ∷ [])
   all_asked = subst (λ ls. AreAsked ls (request ∷ [])) (sym is.one) (asked, tt)
 
-  only_answered : Serves old request f f' r r' new → AnswersText old text f f' r r' new
+  abbrev only_answered : Serves old request f f' r r' new → AnswersText old text f f' r r' new
   only_answered served = record {
     short = only_short text line is;
     requests = request ∷ [];
@@ -87,39 +92,41 @@ module _ (old new : Now) (text line : List ℕ) (is : IsOnly text line) (request
   }
 
 -- the next line was read
-module _ (old new : Now) (a b f f' r r' : Option (List ℕ)) (line : List ℕ) (short : IsShort line) (request : Line) where
-  pub line_answered : Consumes a b (line ++ 10 ∷ []) → IsAsked (strip_carriage_return line) request → Serves old request f f' r r' new → RunsText 1 old new a b f f' r r' true
-  line_answered taken asked served =
+module _ (old new : SessionValue) (a b f f' r r' : Option (List ℕ)) (line : List ℕ) (short : IsShort line) (request : Line) where
+  pub line_answered : Consumes a b (line ++ 10 ∷ []) → IsAsked (strip_carriage_return line) request → (served : Serves old.now request f f' r r' new.now) → LineCosts old request served.answer new → RunsText 1 old new a b f f' r r' true
+  line_answered taken asked served costs =
       let only = only_before_newline line short in
       record {
         text = line ++ 10 ∷ [];
         taken = taken;
         follows = newline_ends line;
         many = omega (arith, ap length only.one);
-        answers = only_answered old new (line ++ 10 ∷ []) (strip_carriage_return line) only request asked f f' r r' served;
+        answers = only_answered old.now new.now (line ++ 10 ∷ []) (strip_carriage_return line) only request asked f f' r r' served;
+        costs = (new, served.means, costs, refl);
       }
 
-  pub last_answered : Consumes a b line → OnSome a (IsAtEnd b) → 0 < length line → IsAsked line request → Serves old request f f' r r' new → RunsText 0 old new a b f f' r r' false
-  last_answered taken end some asked served = record {
+  pub last_answered : Consumes a b line → OnSome a (IsAtEnd b) → 0 < length line → IsAsked line request → (served : Serves old.now request f f' r r' new.now) → LineCosts old request served.answer new → RunsText 0 old new a b f f' r r' false
+  last_answered taken end some asked served costs = record {
     text = line;
     taken = taken;
     follows = end;
     many = omega arith;
-    answers = only_answered old new line line (only_last line short some) request asked f f' r r' served;
+    answers = only_answered old.now new.now line line (only_last line short some) request asked f f' r r' served;
+    costs = (new, served.means, costs, refl);
   }
 
-  pub line_refused : Consumes a b (line ++ 10 ∷ []) → IsAsked (strip_carriage_return line) request → WritesFrameFirst old request f f' r r' new → LiveEnds old a b f f' r r' faults.Write
-  line_refused taken asked first = only_refused old new (line ++ 10 ∷ []) (strip_carriage_return line) (only_before_newline line short) request asked f f' r r' a b taken first
+  pub line_refused : Consumes a b (line ++ 10 ∷ []) → IsAsked (strip_carriage_return line) request → WritesFrameFirst old.now request f f' r r' new.now → LiveEnds old.now a b f f' r r' faults.Write
+  line_refused taken asked first = only_refused old.now new.now (line ++ 10 ∷ []) (strip_carriage_return line) (only_before_newline line short) request asked f f' r r' a b taken first
 
-  pub last_refused : Consumes a b line → 0 < length line → IsAsked line request → WritesFrameFirst old request f f' r r' new → LiveEnds old a b f f' r r' faults.Write
-  last_refused taken some asked first = only_refused old new line line (only_last line short some) request asked f f' r r' a b taken first
+  pub last_refused : Consumes a b line → 0 < length line → IsAsked line request → WritesFrameFirst old.now request f f' r r' new.now → LiveEnds old.now a b f f' r r' faults.Write
+  last_refused taken some asked first = only_refused old.now new.now line line (only_last line short some) request asked f f' r r' a b taken first
 
 -- no line is left
-pub none_left : (old : Now) (a b f r : Option (List ℕ)) (line : List ℕ) → line ≡ [] → Consumes a b line → OnSome a (IsAtEnd b) → RunsText 0 old old a b f f r r false
-none_left old a b f r line none taken end = record { text = []; taken = subst (Consumes a b) none taken; follows = end; many = omega arith; answers = no_text old f r }
+pub none_left : (old : SessionValue) (a b f r : Option (List ℕ)) (line : List ℕ) → line ≡ [] → Consumes a b line → OnSome a (IsAtEnd b) → RunsText 0 old old a b f f r r false
+none_left old a b f r line none taken end = record { text = []; taken = subst (Consumes a b) none taken; follows = end; many = omega arith; answers = no_text old.now f r; costs = refl }
 
 -- the next line was read, if its newline follows it (t) or it is not empty
-module _ (old new : Now) (a b f f' r r' : Option (List ℕ)) (read : LineRead) (request : Line) where
+module _ (old new : SessionValue) (a b f f' r r' : Option (List ℕ)) (read : LineRead) (request : Line) where
   -- for all bytes that may have been read, the request is the line's
   abbrev pub IsRequest : Bool → Type 0
   IsRequest t = (line : List ℕ) → IsRead read line → IsAsked (cond t (strip_carriage_return line) line) request
@@ -131,16 +138,16 @@ module _ (old new : Now) (a b f f' r r' : Option (List ℕ)) (read : LineRead) (
       by_length [] e = absurd (some (is.length ∙ ap length e))
       by_length (x ∷ xs) e = omega (arith, ap length e)
 
-  pub read_answered : (t : Bool) → ReadsLine a b read (Ok t) → (t ≡ false → read.length ≡ 0 → ⊥) → IsRequest t → Serves old request f f' r r' new → RunsText (cond t 1 0) old new a b f f' r r' t
-  read_answered true x some asked served = line_answered old new a b f f' r r' x.0 x.2 request x.3 (asked x.0 x.1) served
-  read_answered false x some asked served = last_answered old new a b f f' r r' x.0 x.2 request x.3 x.4 (some_bytes x.0 x.1 (some refl)) (asked x.0 x.1) served
+  pub read_answered : (t : Bool) → ReadsLine a b read (Ok t) → (t ≡ false → read.length ≡ 0 → ⊥) → IsRequest t → (served : Serves old.now request f f' r r' new.now) → LineCosts old request served.answer new → RunsText (cond t 1 0) old new a b f f' r r' t
+  read_answered true x some asked served costs = line_answered old new a b f f' r r' x.0 x.2 request x.3 (asked x.0 x.1) served costs
+  read_answered false x some asked served costs = last_answered old new a b f f' r r' x.0 x.2 request x.3 x.4 (some_bytes x.0 x.1 (some refl)) (asked x.0 x.1) served costs
 
-  pub read_refused : (t : Bool) → ReadsLine a b read (Ok t) → (t ≡ false → read.length ≡ 0 → ⊥) → IsRequest t → WritesFrameFirst old request f f' r r' new → LiveEnds old a b f f' r r' faults.Write
+  pub read_refused : (t : Bool) → ReadsLine a b read (Ok t) → (t ≡ false → read.length ≡ 0 → ⊥) → IsRequest t → WritesFrameFirst old.now request f f' r r' new.now → LiveEnds old.now a b f f' r r' faults.Write
   read_refused true x some asked first = line_refused old new a b f f' r r' x.0 x.2 request x.3 (asked x.0 x.1) first
   read_refused false x some asked first = last_refused old new a b f f' r r' x.0 x.2 request x.3 (some_bytes x.0 x.1 (some refl)) (asked x.0 x.1) first
 
 -- nothing was read at the end
-pub nothing_left : (old : Now) (a b f r : Option (List ℕ)) (read : LineRead) (t : Bool) → ReadsLine a b read (Ok t) → t ≡ false → read.length ≡ 0 → RunsText 0 old old a b f f r r false
+pub nothing_left : (old : SessionValue) (a b f r : Option (List ℕ)) (read : LineRead) (t : Bool) → ReadsLine a b read (Ok t) → t ≡ false → read.length ≡ 0 → RunsText 0 old old a b f f r r false
 nothing_left old a b f r read true x is none = absurd (true≢false is)
 nothing_left old a b f r read false x is none = none_left old a b f r x.0 (no_bytes x.0 (sym x.1.length ∙ none)) x.3 x.4
   where
@@ -149,13 +156,14 @@ nothing_left old a b f r read false x is none = none_left old a b f r x.0 (no_by
     no_bytes (y ∷ ys) e = absurd (omega (arith, e))
 
 -- nothing was read yet
-pub text_none : (old : Now) (a f r : Option (List ℕ)) → RunsText 0 old old a a f f r r true
+pub text_none : (old : SessionValue) (a f r : Option (List ℕ)) → RunsText 0 old old a a f f r r true
 text_none old a f r = record {
   text = [];
   taken = Consumes-nil a;
   follows = λ some. absurd (omega (arith, some));
   many = omega arith;
-  answers = no_text old f r;
+  answers = no_text old.now f r;
+  costs = refl;
 }
 
 -- a line that is cut off after more lines
@@ -167,7 +175,7 @@ cut_off_later before text part faults.Endless ends cut = (cut.0, omega (arith, c
 cut_off_later before text part faults.Write ends cut = cut
 cut_off_later before text part faults.NoMemory ends cut = cut
 
-module _ (least : ℕ) (old mid new : Now) (a b c f f' f'' r r' r'' : Option (List ℕ)) (x : RunsText least old mid a b f f' r r' true) where
+module _ (least : ℕ) (old mid new : SessionValue) (a b c f f' f'' r r' r'' : Option (List ℕ)) (x : RunsText least old mid a b f f' r r' true) where
   follows_more : (more : Bool) (text : List ℕ) → MayFollow more b c text → MayFollow more a c (x.text ++ text)
   follows_more true text follows = ends-append x.text text x.follows follows
   follows_more false text follows = at_end a b c x.text x.taken follows
@@ -179,11 +187,12 @@ module _ (least : ℕ) (old mid new : Now) (a b c f f' f'' r r' r'' : Option (Li
     taken = Consumes-trans a b c x.text y.text x.taken y.taken;
     follows = follows_more more y.text y.follows;
     many = omega (arith, x.many, y.many, count-append x.text y.text x.follows);
-    answers = text_append old mid new x.text y.text f f' f'' r r' r'' x.follows x.answers y.answers;
+    answers = text_append old.now mid.now new.now x.text y.text f f' f'' r r' r'' x.follows x.answers y.answers;
+    costs = costs_append old mid new x.answers.requests y.answers.requests x.answers.runs.answers y.answers.runs.answers x.costs y.costs;
   }
 
   -- the next line is cut off
-  cut_more : (fault : LiveFault) → CutsOff mid b c f' f'' r' r'' fault → CutsOff old a c f f'' r r'' fault
+  cut_more : (fault : LiveFault) → CutsOff mid.now b c f' f'' r' r'' fault → CutsOff old.now a c f f'' r r'' fault
   cut_more fault y = record {
     text = x.text ++ y.text;
     part = y.part;
@@ -191,21 +200,21 @@ module _ (least : ℕ) (old mid new : Now) (a b c f f' f'' r r' r'' : Option (Li
     whole = ends-append x.text y.text x.follows y.whole;
     cut_off = cut_off_later x.text y.text y.part fault x.follows y.cut_off;
     new = y.new;
-    answers = text_append old mid y.new x.text y.text f f' f'' r r' r'' x.follows x.answers y.answers;
+    answers = text_append old.now mid.now y.new x.text y.text f f' f'' r r' r'' x.follows x.answers y.answers;
   }
 
   -- the next answer is refused
-  refused_more : LiveRefuses mid b c f' f'' r' r'' → LiveRefuses old a c f f'' r r''
+  refused_more : LiveRefuses mid.now b c f' f'' r' r'' → LiveRefuses old.now a c f f'' r r''
   refused_more y = record {
     text = x.text ++ y.text;
     taken = Consumes-trans a b c x.text y.text x.taken y.taken;
     requests = x.answers.requests ++ y.requests;
     asked = asked-append x.text y.text x.answers.requests y.requests x.follows x.answers.asked y.asked;
-    stops = stops_append old mid x.answers.requests y.requests f f' f'' r r' r'' x.answers.runs y.stops;
+    stops = stops_append old.now mid.now x.answers.requests y.requests f f' f'' r r' r'' x.answers.runs y.stops;
     last = y.last;
   }
 
-  pub ends_more : (fault : LiveFault) → LiveEnds mid b c f' f'' r' r'' fault → LiveEnds old a c f f'' r r'' fault
+  pub ends_more : (fault : LiveFault) → LiveEnds mid.now b c f' f'' r' r'' fault → LiveEnds old.now a c f f'' r r'' fault
   ends_more (faults.Ivf source why) y = cut_more (faults.Ivf source why) y
   ends_more faults.Read y = cut_more faults.Read y
   ends_more faults.TooLong y = cut_more faults.TooLong y
@@ -214,18 +223,18 @@ module _ (least : ℕ) (old mid new : Now) (a b c f f' f'' r r' r'' : Option (Li
   ends_more faults.NoMemory y = cut_more faults.NoMemory y
 
 -- a text of at least some number of lines
-pub any_number : (n : ℕ) (more : Bool) (old new : Now) (a b f f' r r' : Option (List ℕ)) → RunsText n old new a b f f' r r' more → RunsText 0 old new a b f f' r r' more
-any_number n more old new a b f f' r r' x = record { text = x.text; taken = x.taken; follows = x.follows; many = omega arith; answers = x.answers }
+pub any_number : (n : ℕ) (more : Bool) (old new : SessionValue) (a b f f' r r' : Option (List ℕ)) → RunsText n old new a b f f' r r' more → RunsText 0 old new a b f f' r r' more
+any_number n more old new a b f f' r r' x = record { text = x.text; taken = x.taken; follows = x.follows; many = omega arith; answers = x.answers; costs = x.costs }
 
 -- no more lines are read
-pub ends_endless : (n : ℕ) (old mid : Now) (a b f f' r r' : Option (List ℕ)) → 2 ^ 64 - 1 ≤ n → RunsText n old mid a b f f' r r' true → LiveEnds old a b f f' r r' faults.Endless
+pub ends_endless : (n : ℕ) (old mid : SessionValue) (a b f f' r r' : Option (List ℕ)) → 2 ^ 64 - 1 ≤ n → RunsText n old mid a b f f' r r' true → LiveEnds old.now a b f f' r r' faults.Endless
 ends_endless n old mid a b f f' r r' most x = record {
   text = x.text;
   part = [];
   taken = subst (Consumes a b) (sym (append-nil x.text)) x.taken;
   whole = x.follows;
   cut_off = (refl, omega (arith, most, x.many));
-  new = mid;
+  new = mid.now;
   answers = x.answers;
 }
 
@@ -255,3 +264,12 @@ pub read_all : (a b : Option (List ℕ)) (text : List ℕ) → Consumes a b text
 read_all None b text taken end = tt
 read_all (Some xs) None text taken end = absurd taken
 read_all (Some xs) (Some ys) text taken end = sym (taken ∙ ap (λ rest. text ++ rest) end ∙ append-nil text)
+
+-- a run of live lines from its first session
+pub live_means_at_cost : (tables : Tables) (capacity : ℕ) (sources : List (List ℕ)) (a b f f' r r' : Option (List ℕ)) (files : List Ivf) (first end : SessionValue) → AreIvfs sources files → first ≡ begun tables capacity files → RunsText 0 first end a b f f' r r' false → LiveMeansAtCost tables capacity sources a b f f' r r' end
+live_means_at_cost tables capacity sources a b f f' r r' files first end are is ran =
+    let so : RunsText 0 (begun tables capacity files) end a b f f' r r' false = subst (λ (v : SessionValue). RunsText 0 v end a b f f' r r' false) is ran in
+    record {
+      means = record { text = so.text; taken = so.taken; all = read_all a b so.text so.taken so.follows; files = files; are = are; answers = so.answers };
+      costs = so.costs;
+    }

@@ -4,25 +4,45 @@ use Rattle.std.specs.List.{flat_map}
 use Rattle.std.specs.Io.KnownBytes.{Appends, Keeps}
 use Rattle.std.specs.Prelude.{OnOk}
 use Rattle.std.proofs.KnownBytes.{Appends-nil, Appends-trans}
-use Rattle.pixel_planes.specs.Pictures.{PictureSamples}
+use Rattle.pixel_planes.specs.Pictures.{IsWholePicture, PictureSamples}
+use Rattle.script_nodes.specs.Shown.{Shown, Shows}
 use Rattle.stream_files.specs.Y4m.{frame_text}
 use Rattle.stream_files.specs.declared.ivf.Head.{Head}
 use Rattle.request_lines.specs.declared.lines.Line.{Line}
 use Rattle.request_lines.specs.declared.lines.Line.TheVariants as requests
 use Rattle.request_lines.specs.declared.edit.Edit.{Edit}
+use Rattle.request_lines.specs.declared.question.Question.{Question}
 use Rattle.frame_session.specs.declared.refusal.Refusal.{Refusal}
+use Rattle.frame_session.specs.declared.size.Size.{Size}
 use Rattle.request_lines.specs.Requests.{asked_by}
 use Rattle.frame_session.specs.IsOrNoMemory.{IsOrNoMemory, IsFrameOrNoMemory}
 use Rattle.frame_session.specs.Edits.{WrittenAnswers}
+use Rattle.frame_session.specs.Questions.{GainsAnswer}
 use Rattle.frame_session.specs.Replies.{refused_line, edit_line, served_line}
-use Rattle.frame_session.specs.Sessions.{IsAfterFrame, Now, choice_answer, current_list, now_after_choice, now_after_edit, now_after_script, frame_of, head_due, script_answer, size_given}
+use Rattle.frame_session.specs.Sessions.{IsAfterFrame, Now, choice_answer, current_list, now_after_choice, now_after_edit, now_after_script, frame_of, head_due, script_answer, size_given, size_served}
 use Rattle.frame_session.specs.Answers.{Answer, Answers, Run, Runs, Serves, WritesFrameFirst, answer_to_frame, frames_of, opening, replies_of, reply_only}
 use Rattle.frame_session.proofs.Texts.{text_same}
+
+-- a picture that shows a frame has its size and its text
+pub size_same : (picture : PictureSamples) (shown : Shown) → Shows picture shown → size_given (Ok picture) ≡ size_served (Ok shown)
+size_same picture shown shows =
+    let size : ℕ → ℕ → Option Size = λ w h. Some (record { width = w; height = h }) in
+    ap (λ (w : ℕ). size w picture.height) shows.wide ∙ ap (λ (h : ℕ). size shown.width h) shows.high
+
+pub frame_same : (old : Now) (n : ℕ) (picture : PictureSamples) (shown : Shown) → IsWholePicture picture → Shows picture shown → opening (head_due old) picture.width picture.height ++ frame_text picture ≡ (answer_to_frame old n (Ok shown)).frames
+frame_same old n picture shown whole shows =
+    ap (λ (w : ℕ). opening (head_due old) w picture.height ++ frame_text picture) shows.wide
+    ∙ ap (λ (h : ℕ). opening (head_due old) shown.width h ++ frame_text picture) shows.high
+    ∙ ap (λ (t : List ℕ). opening (head_due old) shown.width shown.height ++ t) (text_same picture shown whole shows)
 
 module _ (old : Now) (f f' r r' : Option (List ℕ)) where
   -- a line that only has a reply
   pub serves_reply : (line : Line) (reply : List ℕ) → Answers old line (reply_only reply) old → Appends r r' reply → Serves old line f f r r' old
   serves_reply line reply means said = record { answer = reply_only reply; means = means; shown = Appends-nil f; said = said }
+
+  -- a question
+  pub serves_asked : (question : Question) → GainsAnswer old question r r' → Serves old (requests.Ask question) f f r r' old
+  serves_asked question gains = serves_reply (requests.Ask question) gains.reply (gains.reply, gains.means, refl, refl) gains.said
 
   pub serves_refused : (n : ℕ) (refusal : Refusal) (new : Now) → IsOrNoMemory (frame_of old n) (Err refusal) → IsAfterFrame old (size_given (Err refusal)) new → Appends r r' (refused_line refusal) → Serves old (requests.Frame n) f f r r' new
   serves_refused n refusal new returned after said = record {
@@ -33,17 +53,12 @@ module _ (old : Now) (f f' r r' : Option (List ℕ)) where
   }
 
   pub serves_frame : (n : ℕ) (picture : PictureSamples) (new : Now) → IsFrameOrNoMemory (frame_of old n) (Ok picture) → IsAfterFrame old (size_given (Ok picture)) new → Appends f f' (opening (head_due old) picture.width picture.height ++ frame_text picture) → Appends r r' (served_line n) → Serves old (requests.Frame n) f f' r r' new
-  serves_frame n picture new returned after shown said =
-      let P : ℕ → ℕ → Type 0 = λ w h. IsAfterFrame old (Some (record { width = w; height = h })) new in
-      let Q : ℕ → ℕ → List ℕ → Type 0 = λ w h t. Appends f f' (opening (head_due old) w h ++ t) in
-      let after' : P returned.0.width returned.0.height = subst (λ h. P returned.0.width h) returned.2.high (subst (λ w. P w picture.height) returned.2.wide after) in
-      let shown' : Q returned.0.width returned.0.height (frame_text picture) = subst (λ h. Q returned.0.width h (frame_text picture)) returned.2.high (subst (λ w. Q w picture.height (frame_text picture)) returned.2.wide shown) in
-      record {
-        answer = answer_to_frame old n (Ok returned.0);
-        means = (Ok returned.0, returned.1, refl, after');
-        shown = subst (λ t. Q returned.0.width returned.0.height t) (text_same picture returned.0 returned.3 returned.2) shown';
-        said = said;
-      }
+  serves_frame n picture new returned after shown said = record {
+    answer = answer_to_frame old n (Ok returned.0);
+    means = (Ok returned.0, returned.1, refl, subst (λ size. IsAfterFrame old size new) (size_same picture returned.0 returned.2) after);
+    shown = subst (λ t. Appends f f' t) (frame_same old n picture returned.0 returned.3 returned.2) shown;
+    said = said;
+  }
 
   pub serves_script : (text : List ℕ) (set : Result ℕ Refusal) (new : Now) → IsOrNoMemory (script_answer old text) set → new ≡ now_after_script text old set → Appends r r' (edit_line set) → Serves old (requests.Script text) f f r r' new
   serves_script text set new returned after said = record {
@@ -82,21 +97,21 @@ module _ (old : Now) (f f' r r' : Option (List ℕ)) (n : ℕ) (picture : Pictur
       inr (serves_frame old f f' None None n picture new returned after (subst (λ (h : Option Head). Appends f f' (opening h picture.width picture.height ++ frame_text picture)) is shown) tt)
 
 -- one more line
-run_more : (old mid new : Now) (lines : List Line) (answers : List Answer) (line : Line) (answer : Answer) → Run old lines answers mid → Answers mid line answer new → Run old (lines ++ line ∷ []) (answers ++ answer ∷ []) new
+pub run_more : (old mid new : Now) (lines : List Line) (answers : List Answer) (line : Line) (answer : Answer) → Run old lines answers mid → Answers mid line answer new → Run old (lines ++ line ∷ []) (answers ++ answer ∷ []) new
 run_more old mid new [] [] line answer same step = let P : Now → Type 0 = λ s. Answers s line answer new in (new, subst P same step, refl)
 run_more old mid new [] (x ∷ answers) line answer ran step = absurd ran
 run_more old mid new (l ∷ lines) [] line answer ran step = absurd ran
 run_more old mid new (l ∷ lines) (x ∷ answers) line answer ran step = (ran.0, ran.1, run_more ran.0 mid new lines answers line answer ran.2 step)
 
-flat_map-push : (f : Answer → List ℕ) (xs : List Answer) (x : Answer) → flat_map f (xs ++ x ∷ []) ≡ flat_map f xs ++ f x
+pub flat_map-push : (f : Answer → List ℕ) (xs : List Answer) (x : Answer) → flat_map f (xs ++ x ∷ []) ≡ flat_map f xs ++ f x
 flat_map-push f [] x = append-nil (f x)
 flat_map-push f (y ∷ xs) x = ap (λ (zs : List ℕ). f y ++ zs) (flat_map-push f xs x) ∙ sym (append_assoc (f y) (flat_map f xs) (f x))
 
 -- nothing asked, nothing answered
-pub runs_none : (old : Now) (f r : Option (List ℕ)) → Runs old [] f f r r old
+abbrev pub runs_none : (old : Now) (f r : Option (List ℕ)) → Runs old [] f f r r old
 runs_none old f r = record { answers = []; means = refl; shown = Appends-nil f; said = Appends-nil r }
 
-pub runs_more : (old mid new : Now) (lines : List Line) (line : Line) (f f' f'' r r' r'' : Option (List ℕ)) → Runs old lines f f' r r' mid → Serves mid line f' f'' r' r'' new → Runs old (lines ++ line ∷ []) f f'' r r'' new
+abbrev pub runs_more : (old mid new : Now) (lines : List Line) (line : Line) (f f' f'' r r' r'' : Option (List ℕ)) → Runs old lines f f' r r' mid → Serves mid line f' f'' r' r'' new → Runs old (lines ++ line ∷ []) f f'' r r'' new
 runs_more old mid new lines line f f' f'' r r' r'' ran served =
     let P : List ℕ → Type 0 = λ zs. Appends f f'' zs in
     let Q : List ℕ → Type 0 = λ zs. Appends r r'' zs in

@@ -170,6 +170,8 @@ module _ (tables : Tables) where
   drops_none None old same = tt
   drops_none (Some kept) old same = sym same
 
+  -- an edit: what is cached of its source stays sound with the new packets and marks,
+  -- and what is cached of the others with theirs
   module _ (dropping : DropsKeepCoherence tables) (coherence : EditsKeepCoherence tables) (ids : EditsKeepIds) (next : NextIdIsNotCached) where
     same_view : (store : StoreValue) (old new : View) → ((q : ℕ) → new q ≡ old q) → IsSourceSound store old → IsSourceSound store new
     same_view store old new same s = record {

@@ -22,7 +22,7 @@ use Rattle.request_lines.specs.Requests.{asked_by}
 use Rattle.frame_session.specs.IsOrNoMemory.{IsOrNoMemory}
 use Rattle.frame_session.specs.Edits.{WrittenAnswers}
 use Rattle.frame_session.specs.Frames.{shown_text}
-use Rattle.frame_session.specs.Questions.{answer_to}
+use Rattle.frame_session.specs.Questions.{AnswersQuestion}
 use Rattle.frame_session.specs.Replies.{refused_line, served_line, edit_line, count_line, stats_line}
 use Rattle.frame_session.specs.Sessions.{IsAfterFrame, Now, choice_answer, current_list, now_after_choice, now_after_edit, now_after_script, frame_count, frame_of, head_due, packet_count, script_answer, size_served, start}
 
@@ -57,7 +57,8 @@ AnswersEdit old edit edited answer new = (answer ≡ reply_only (edit_line edite
 abbrev pub AnswersScript : Now → List ℕ → Result ℕ Refusal → Answer → Now → Type 0
 AnswersScript old text set answer new = (answer ≡ reply_only (edit_line set)) × (new ≡ now_after_script text old set)
 
--- a line, an answer that it may have, and the state after it; a frame, a script, and an edit other than a deletion and a move may be out of memory.
+-- a line, an answer that it may have, and the state after it; a frame, a script, an edit other than a deletion and a move, and a question about
+-- macroblocks or a header may be out of memory.
 -- A question leaves the state as it is
 abbrev pub Answers : Now → Line → Answer → Now → Type 0
 Answers old requests.Silent answer new = (answer ≡ reply_only []) × (new ≡ old)
@@ -71,7 +72,7 @@ Answers old (requests.Script text) answer new =
     (set : Result ℕ Refusal) × IsOrNoMemory (script_answer old text) set × AnswersScript old text set answer new
 Answers old requests.Count answer new = (answer ≡ reply_only (count_line (packet_count old) (frame_count old))) × (new ≡ old)
 Answers old requests.Stats answer new = (answer ≡ reply_only (stats_line old.decoded)) × (new ≡ old)
-Answers old (requests.Ask question) answer new = (answer ≡ reply_only (answer_to old question)) × (new ≡ old)
+Answers old (requests.Ask question) answer new = (reply : List ℕ) × AnswersQuestion old question reply × (answer ≡ reply_only reply) × (new ≡ old)
 Answers old requests.Lost answer new = (answer ≡ reply_only (refused_line refusals.NoMemory)) × (new ≡ old)
 
 -- lines in sequence, answers that they may have, and the state after them

@@ -6,7 +6,6 @@ use Rattle.packet_times.specs.Durations.{one_frame}
 use Rattle.packet_edits.specs.Edits.{Listing, copied, starting}
 use Rattle.packet_edits.specs.Marks.{StoreValue, marks_deleted, marks_inserted, marks_moved, marks_pushed, marks_replaced}
 use Rattle.packet_edits.specs.Shown.{shown_indexes, stream_of}
-use Rattle.pixel_planes.specs.Pictures.{PictureSamples}
 use Rattle.script_nodes.specs.Frames.{traced}
 use Rattle.state_cache.specs.Costs.{Costs}
 use Rattle.state_cache.specs.EditLaws.{IsWithout, AreOfPackets, id_at}
@@ -71,7 +70,7 @@ packet_of_frame now n =
     (traced (shown_counts now) now.script n)
 
 -- whether an answer to a frame follows from its packet's picture: the frame, and the two refusals that only the picture decides
-abbrev pub needs_picture : Result PictureSamples Refusal → Bool
+abbrev pub needs_picture : {A : Type 0} → Result A Refusal → Bool
 needs_picture (Ok picture) = true
 needs_picture (Err refusals.CropOutside) = true
 needs_picture (Err refusals.SizeDiffers) = true
@@ -84,7 +83,7 @@ pub record LeavesOthers (source : ℕ) (old new : SessionValue) : Type 0 where
 
 -- the packet at an index of a source was reached, or not, and it was if the answer follows from its picture. This costs what
 -- reaching costs, and marks change only as on the walk there
-pub record WalksToPacket (source place : ℕ) (old : SessionValue) (answer : Result PictureSamples Refusal) (new : SessionValue) : Type 0 where
+pub record WalksToPacket {A : Type 0} (source place : ℕ) (old : SessionValue) (answer : Result A Refusal) (new : SessionValue) : Type 0 where
   pub reached : Bool
   pub costs : Costs old.now.tables source (store_at old.stores source) old.cache place reached (store_at new.stores source) new.cache
   pub walks : IsWalk old.now.tables source (store_at old.stores source) old.cache place reached (store_at new.stores source) new.cache
@@ -92,7 +91,7 @@ pub record WalksToPacket (source place : ℕ) (old : SessionValue) (answer : Res
   pub is_needed : needs_picture answer ≡ true → reached ≡ true
 
 -- a frame costs what reaching its packet costs; with no packet nothing changes
-abbrev pub FrameCosts : Option (ℕ × ℕ) → SessionValue → Result PictureSamples Refusal → SessionValue → Type 0
+abbrev pub FrameCosts : {A : Type 0} → Option (ℕ × ℕ) → SessionValue → Result A Refusal → SessionValue → Type 0
 FrameCosts None old answer new = new ≡ old
 FrameCosts (Some packet) old answer new = WalksToPacket packet.0 packet.1 old answer new
 

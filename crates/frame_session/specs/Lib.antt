@@ -10,6 +10,7 @@ pub mod Cached
 pub mod Answers
 pub mod ProofsOnly
 pub mod Laws
+pub mod LineCosts
 pub mod Live
 pub mod LiveSteps
 pub mod Told

@@ -8,8 +8,9 @@ use Rattle.frame_session.specs.declared.live.LiveFault.{LiveFault}
 use Rattle.frame_session.specs.declared.live.LineRead.{LineRead}
 use Rattle.frame_session.specs.declared.live.Reached.{Reached}
 use Rattle.frame_session.specs.declared.live.Reached.TheVariants.{Within, Newline, End}
+use Rattle.frame_session.specs.Cached.{SessionValue}
+use Rattle.frame_session.specs.LineCosts.{RunCosts}
 use Rattle.frame_session.specs.Live.{AnswersText, HasNoNewline, IsCutOff, longest_line}
-use Rattle.frame_session.specs.Sessions.{Now}
 
 -- a line without a newline that is not too long
 pub record IsShort (line : List ℕ) : Type 0 where
@@ -40,10 +41,11 @@ abbrev pub MayFollow : Bool → (left left' : Option (List ℕ)) → List ℕ �
 MayFollow true left left' text = IsEmptyOrEndsWith text 10
 MayFollow false left left' text = OnSome left (IsAtEnd left')
 
--- a text of at least this many lines was read, and its lines were answered
-pub record RunsText (least : ℕ) (old new : Now) (left left' frames frames' replies replies' : Option (List ℕ)) (more : Bool) : Type 0 where
+-- a text of at least this many lines was read, its lines were answered, and each cost what it has to
+pub record RunsText (least : ℕ) (old new : SessionValue) (left left' frames frames' replies replies' : Option (List ℕ)) (more : Bool) : Type 0 where
   pub text : List ℕ
   pub taken : Consumes left left' text
   pub follows : MayFollow more left left' text
   pub many : least ≤ length (lines text)
-  pub answers : AnswersText old text frames frames' replies replies' new
+  pub answers : AnswersText old.now text frames frames' replies replies' new.now
+  pub costs : RunCosts old answers.requests answers.runs.answers new

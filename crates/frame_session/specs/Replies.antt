@@ -1,6 +1,6 @@
 -- The texts of replies.
-use Rattle.std.specs.Prelude.{ℕ, zero, suc, List, [], ◌∷◌, ◌++◌, codes, length, Result, Ok, Err}
-use Rattle.std.specs.List.{concat}
+use Rattle.std.specs.Prelude.{ℕ, zero, suc, List, [], ◌∷◌, ◌++◌, ◌==◌, codes, length, Result, Ok, Err}
+use Rattle.std.specs.List.{concat, count_by}
 use Rattle.std.specs.Fmt.{decimal}
 use Rattle.frame_header.specs.declared.cause.Cause.{Cause}
 use Rattle.frame_header.specs.declared.cause.Cause.TheVariants as causes
@@ -90,6 +90,13 @@ lines_line count = codes "lines " ++ decimal count ++ 10 ∷ []
 -- a reply of several lines, each of which ends with its newline
 abbrev pub lines_reply : List (List ℕ) → List ℕ
 lines_reply lines = lines_line (length lines) ++ concat lines
+
+-- a reply of the lines of a text, each of which ends with its newline
+abbrev pub newlines : List ℕ → ℕ
+newlines text = count_by (λ byte. byte == 10) text
+
+abbrev pub text_reply : List ℕ → List ℕ
+text_reply text = lines_line (newlines text) ++ text
 
 -- the name of a run's error
 abbrev pub run_fault_word : RunFault → List ℕ

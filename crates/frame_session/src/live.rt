@@ -3,6 +3,7 @@ ghost use Rattle.std.specs.Prelude.{◌≡◌, ◌≤◌, ◌+◌, ◌++◌, ℕ
 ghost use Rattle.std.specs.Io.KnownBytes.{Consumes};
 ghost use Rattle.std.specs.Str.Lines.{strip_carriage_return};
 ghost use Rattle.frame_session.specs.Answers.{texts_of};
+ghost use Rattle.frame_session.specs.LineCosts.{LiveMeansAtCost};
 ghost use Rattle.frame_session.specs.Live.{IsAsked, LiveEnds, LiveMeans, LiveStops, live_fault_by, longest_line};
 ghost use Rattle.frame_session.specs.LiveSteps.{IsRead, IsShort, ReadsLine, ReadsPart, RunsText};
 ghost use Rattle.frame_session.specs.Replies.{live_fault_word};
@@ -209,7 +210,7 @@ fn answer_next<I: BufRead, F: Write, P: Write, V: Observer>(
     replies: &mut P,
     observer: &mut V,
 ) -> Result<bool, LiveFault>
-    ensures ok { IfOk result (λ more. RunsText (if more then 1 else 0) session.old.now session.new.now (I.remaining input.old) (I.remaining input.new) (F.contents frames.old) (F.contents frames.new) (P.contents replies.old) (P.contents replies.new) more) }
+    ensures ok { IfOk result (λ more. RunsText (if more then 1 else 0) session.old session.new (I.remaining input.old) (I.remaining input.new) (F.contents frames.old) (F.contents frames.new) (P.contents replies.old) (P.contents replies.new) more) }
     ensures err { IfErr result (LiveEnds session.old.now (I.remaining input.old) (I.remaining input.new) (F.contents frames.old) (F.contents frames.new) (P.contents replies.old) (P.contents replies.new)) }
     ensures capacity { session.new.cache.capacity ≡ session.old.cache.capacity }
 {
@@ -237,7 +238,7 @@ fn serve_live<I: BufRead, F: Write, P: Write, V: Observer>(
     replies: &mut P,
     observer: &mut V,
 ) -> Result<(), LiveFault>
-    ensures ok { OnOk result (RunsText 0 session.old.now session.new.now (I.remaining input.old) (I.remaining input.new) (F.contents frames.old) (F.contents frames.new) (P.contents replies.old) (P.contents replies.new) false) }
+    ensures ok { OnOk result (RunsText 0 session.old session.new (I.remaining input.old) (I.remaining input.new) (F.contents frames.old) (F.contents frames.new) (P.contents replies.old) (P.contents replies.new) false) }
     ensures err { IfErr result (LiveEnds session.old.now (I.remaining input.old) (I.remaining input.new) (F.contents frames.old) (F.contents frames.new) (P.contents replies.old) (P.contents replies.new)) }
     ensures capacity { session.new.cache.capacity ≡ session.old.cache.capacity }
 {
@@ -263,6 +264,7 @@ pub fn run_live_over<B: FileBytes, I: BufRead, F: Write, P: Write, V: Observer>(
     requires capacity { (1 ≤ settings.capacity) × (settings.capacity ≤ 4096) }
     requires sources { (1 ≤ length ivfs.now) × (length ivfs.now ≤ 8) }
     ensures means { IfOk result (λ session. LiveMeans settings.tables (map B.bytes ivfs.now) (I.remaining input.old) (I.remaining input.new) (F.contents frames.old) (F.contents frames.new) (P.contents replies.old) (P.contents replies.new) session.now) }
+    ensures costs { IfOk result (LiveMeansAtCost settings.tables settings.capacity (map B.bytes ivfs.now) (I.remaining input.old) (I.remaining input.new) (F.contents frames.old) (F.contents frames.new) (P.contents replies.old) (P.contents replies.new)) }
     ensures capacity { IfOk result (λ session. session.cache.capacity ≡ settings.capacity) }
     ensures stops { IfErr result (LiveStops settings.tables (map B.bytes ivfs.now) (I.remaining input.old) (I.remaining input.new) (F.contents frames.old) (F.contents frames.new) (P.contents replies.old) (P.contents replies.new)) }
 {
@@ -299,6 +301,7 @@ pub fn run_live<I: BufRead, F: Write, P: Write>(
     requires capacity { (1 ≤ settings.capacity) × (settings.capacity ≤ 4096) }
     requires sources { (1 ≤ length ivfs.now) × (length ivfs.now ≤ 8) }
     ensures means { IfOk result (λ session. LiveMeans settings.tables (texts_of ivfs.now) (I.remaining input.old) (I.remaining input.new) (F.contents frames.old) (F.contents frames.new) (P.contents replies.old) (P.contents replies.new) session.now) }
+    ensures costs { IfOk result (LiveMeansAtCost settings.tables settings.capacity (texts_of ivfs.now) (I.remaining input.old) (I.remaining input.new) (F.contents frames.old) (F.contents frames.new) (P.contents replies.old) (P.contents replies.new)) }
     ensures capacity { IfOk result (λ session. session.cache.capacity ≡ settings.capacity) }
     ensures stops { IfErr result (LiveStops settings.tables (texts_of ivfs.now) (I.remaining input.old) (I.remaining input.new) (F.contents frames.old) (F.contents frames.new) (P.contents replies.old) (P.contents replies.new)) }
 {

@@ -9,6 +9,7 @@ ghost use Rattle.request_lines.specs.Requests.{asked_by};
 ghost use Rattle.frame_session.specs.ProofsOnly.{IsSourceRefused};
 ghost use Rattle.frame_session.specs.Told.{Tells};
 ghost use Rattle.frame_session.specs.Answers.{AreIvfs, Means, RunStops, Runs, Serves, Stops, WritesFrameFirst, opening, requests_of, texts_of};
+ghost use Rattle.frame_session.specs.LineCosts.{AnswersAtCost, MeansAtCost, RunsAtCost};
 
 use crate::observer::{Observer, Unobserved};
 use crate::refusal::Refusal;
@@ -138,6 +139,7 @@ fn serve_frame<F: Write, P: Write>(
 ) -> Result<Option<Refusal>, WriteFault>
     ensures serves { OnOk result (Serves session.old.now (Line.Frame n) (F.contents frames.old) (F.contents frames.new) (P.contents replies.old) (P.contents replies.new) session.new.now) }
     ensures frame_first { WritesFrameFirst session.old.now (Line.Frame n) (F.contents frames.old) (F.contents frames.new) (P.contents replies.old) (P.contents replies.new) session.new.now }
+    ensures costs { AnswersAtCost session.old (Line.Frame n) (F.contents frames.old) (F.contents frames.new) (P.contents replies.old) (P.contents replies.new) result session.new }
     ensures capacity { session.new.cache.capacity ≡ session.old.cache.capacity }
     ensures told { IfOk result (Tells (P.contents replies.old) (P.contents replies.new)) }
 {
@@ -168,6 +170,7 @@ fn serve<F: Write, P: Write>(
 ) -> Result<Option<Refusal>, WriteFault>
     ensures serves { OnOk result (Serves session.old.now line.entry (F.contents frames.old) (F.contents frames.new) (P.contents replies.old) (P.contents replies.new) session.new.now) }
     ensures frame_first { WritesFrameFirst session.old.now line.entry (F.contents frames.old) (F.contents frames.new) (P.contents replies.old) (P.contents replies.new) session.new.now }
+    ensures costs { AnswersAtCost session.old line.entry (F.contents frames.old) (F.contents frames.new) (P.contents replies.old) (P.contents replies.new) result session.new }
     ensures capacity { session.new.cache.capacity ≡ session.old.cache.capacity }
     ensures question { is_question line.entry ≡ true → session.new ≡ session.old }
     ensures told { IfOk result (Tells (P.contents replies.old) (P.contents replies.new)) }
@@ -206,6 +209,7 @@ pub(crate) fn serve_line<F: Write, P: Write>(
 ) -> Result<Option<Refusal>, WriteFault>
     ensures serves { OnOk result (Serves session.old.now line.entry (F.contents frames.old) (F.contents frames.new) (P.contents replies.old) (P.contents replies.new) session.new.now) }
     ensures frame_first { WritesFrameFirst session.old.now line.entry (F.contents frames.old) (F.contents frames.new) (P.contents replies.old) (P.contents replies.new) session.new.now }
+    ensures costs { AnswersAtCost session.old line.entry (F.contents frames.old) (F.contents frames.new) (P.contents replies.old) (P.contents replies.new) result session.new }
     ensures capacity { session.new.cache.capacity ≡ session.old.cache.capacity }
     ensures question { is_question line.entry ≡ true → session.new ≡ session.old }
     ensures told { IfOk result (Tells (P.contents replies.old) (P.contents replies.new)) }
@@ -227,6 +231,7 @@ pub fn answer_line<F: Write, P: Write>(
 ) -> Result<Option<Refusal>, WriteFault>
     ensures serves { OnOk result (Serves session.old.now (asked_by line.now) (F.contents frames.old) (F.contents frames.new) (P.contents replies.old) (P.contents replies.new) session.new.now) }
     ensures frame_first { WritesFrameFirst session.old.now (asked_by line.now) (F.contents frames.old) (F.contents frames.new) (P.contents replies.old) (P.contents replies.new) session.new.now }
+    ensures costs { AnswersAtCost session.old (asked_by line.now) (F.contents frames.old) (F.contents frames.new) (P.contents replies.old) (P.contents replies.new) result session.new }
     ensures capacity { session.new.cache.capacity ≡ session.old.cache.capacity }
     ensures told { IfOk result (Tells (P.contents replies.old) (P.contents replies.new)) }
 {
@@ -245,6 +250,7 @@ pub(crate) fn serve_all<F: Write, P: Write, V: Observer>(
 ) -> Result<(), WriteFault>
     ensures runs { OnOk result (Runs session.old.now (requests_of requests.now) (F.contents frames.old) (F.contents frames.new) (P.contents replies.old) (P.contents replies.new) session.new.now) }
     ensures stops { OnErr result (Stops session.old.now (requests_of requests.now) (F.contents frames.old) (F.contents frames.new) (P.contents replies.old) (P.contents replies.new)) }
+    ensures costs { OnOk result (RunsAtCost session.old (requests_of requests.now) (F.contents frames.old) (F.contents frames.new) (P.contents replies.old) (P.contents replies.new) session.new) }
     ensures capacity { session.new.cache.capacity ≡ session.old.cache.capacity }
 {
     let mut rest = requests;
@@ -298,6 +304,7 @@ pub fn run_over<B: FileBytes, F: Write, P: Write, V: Observer>(
     requires capacity { (1 ≤ settings.capacity) × (settings.capacity ≤ 4096) }
     requires sources { (1 ≤ length ivfs.now) × (length ivfs.now ≤ 8) }
     ensures means { IfOk result (λ session. Means settings.tables (map B.bytes ivfs.now) requests.now (F.contents frames.old) (F.contents frames.new) (P.contents replies.old) (P.contents replies.new) session.now) }
+    ensures costs { IfOk result (MeansAtCost settings.tables settings.capacity (map B.bytes ivfs.now) requests.now (F.contents frames.old) (F.contents frames.new) (P.contents replies.old) (P.contents replies.new)) }
     ensures capacity { IfOk result (λ session. session.cache.capacity ≡ settings.capacity) }
     ensures stops { IfErr result (RunStops settings.tables (map B.bytes ivfs.now) requests.now (F.contents frames.old) (F.contents frames.new) (P.contents replies.old) (P.contents replies.new)) }
 {
@@ -342,6 +349,7 @@ pub fn run<F: Write, P: Write>(
     requires capacity { (1 ≤ capacity) × (capacity ≤ 4096) }
     requires sources { (1 ≤ length ivfs.now) × (length ivfs.now ≤ 8) }
     ensures means { IfOk result (λ session. Means tables (texts_of ivfs.now) requests.now (F.contents frames.old) (F.contents frames.new) (P.contents replies.old) (P.contents replies.new) session.now) }
+    ensures costs { IfOk result (MeansAtCost tables capacity (texts_of ivfs.now) requests.now (F.contents frames.old) (F.contents frames.new) (P.contents replies.old) (P.contents replies.new)) }
     ensures capacity { IfOk result (λ session. session.cache.capacity ≡ capacity) }
     ensures stops { IfErr result (RunStops tables (texts_of ivfs.now) requests.now (F.contents frames.old) (F.contents frames.new) (P.contents replies.old) (P.contents replies.new)) }
 {

@@ -49,6 +49,8 @@ Requests, a line each; the reply goes to standard output:
   packet N                                            packet STAMP HEX
   list FIRST COUNT                                    lines K, and packets as JSON
   origins FIRST COUNT                                 lines K, and frames as JSON
+  header N                                            lines K, and fields as JSON
+  macroblocks N                                       lines K, and macroblocks as JSON
   count                                               packets K frames F
   stats                                               decoded D (packets so far)
 Packets, frames and sources are numbered from 0; source 0 is IN. Edits and K are

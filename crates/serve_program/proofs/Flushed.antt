@@ -1,10 +1,13 @@
 -- A run whose writers are flushed after it.
-use Rattle.std.proofs.Common.{ℕ, List, Option}
+use Rattle.std.proofs.Common.{◌≡◌, inr, ℕ, List, Option}
 use Rattle.std.specs.Io.KnownBytes.{Keeps}
 use Rattle.std.proofs.KnownBytes.{Appends-kept}
 use Rattle.vp8_tables.specs.Tables.{TableEntries}
 use Rattle.frame_session.specs.Answers.{Means, frames_of, replies_of}
 use Rattle.frame_session.specs.Sessions.{Now}
+use Rattle.serve_arguments.specs.declared.fault.Fault.{Fault}
+use Rattle.serve_arguments.specs.declared.fault.Fault.TheVariants.{CannotWrite}
+use Rattle.serve_program.specs.Endings.{IsRefused}
 
 -- the answers remain the same if the writers keep their bytes
 pub flushed : (tables : TableEntries) (sources : List (List ℕ)) (requests : List ℕ) (f f' f'' r r' r'' : Option (List ℕ)) (end : Now) → Means tables sources requests f f' r r' end → Keeps f' f'' → Keeps r' r'' → Means tables sources requests f f'' r r'' end
@@ -18,3 +21,7 @@ flushed tables sources requests f f' f'' r r' r'' end m kept kept' = record {
     said = Appends-kept r r' r'' (replies_of m.runs.answers) m.runs.said kept';
   };
 }
+
+-- a writer was not flushed after all answers
+pub unflushed : (tables : TableEntries) (sources : List (List ℕ)) (requests : List ℕ) (f f' f'' r r' r'' : Option (List ℕ)) (end : Now) (fault : Fault) → fault ≡ CannotWrite → Means tables sources requests f f' r r' end → Keeps f' f'' → Keeps r' r'' → IsRefused tables sources requests f f'' r r'' fault
+unflushed tables sources requests f f' f'' r r' r'' end fault is m kept kept' = rw is (inr (end, flushed tables sources requests f f' f'' r r' r'' end m kept kept'))

@@ -12,10 +12,10 @@ use Rattle.packet_edits.specs.Saved.{packets_of, padded_if, padded_packets_of, r
 use Rattle.frame_session.specs.Edits.{list_at}
 use Rattle.std.specs.Borrow.{Bor}
 use Rattle.stream_files.specs.declared.ivf.Ivf.{Ivf}
-use Rattle.frame_session.specs.Answers.{AreIvfs, Means, SourceRefuses}
+use Rattle.frame_session.specs.Answers.{AreIvfs, Means, RunStops, SourceRefuses}
 use Rattle.frame_session.specs.ExportSizes.{saved_bytes}
 use Rattle.frame_session.specs.Exported.{IsExportFile, IsNotExported}
-use Rattle.frame_session.specs.Live.{CutsOff, LiveMeans}
+use Rattle.frame_session.specs.Live.{CutsOff, LiveMeans, LiveRefuses}
 use Rattle.frame_session.specs.Sessions.{Now, start}
 use Rattle.frame_session.specs.declared.export.Export.{Export}
 use Rattle.frame_session.specs.declared.refusal.Refusal.{Refusal}
@@ -146,26 +146,56 @@ pub record IsUnexported (unnamed : List ℕ) (names : List (List ℕ)) (Replied 
   pub replied : Replied end tables sources
   pub refused : IsRefusedExport end why
 
--- why the requests were not answered over the files of these bytes: except for a writer's error, nothing was written
-abbrev pub IsRefused : List (List ℕ) → (frames frames' replies replies' : Option (List ℕ)) → Fault → Type 0
-IsRefused sources frames frames' replies replies' (Input source fault) = SourceRefuses sources source fault × Keeps frames frames' × Keeps replies replies'
-IsRefused sources frames frames' replies replies' NoMemory = Keeps frames frames' × Keeps replies replies'
-IsRefused sources frames frames' replies replies' CannotWrite = Unit {0}
-IsRefused sources frames frames' replies replies' _ = ⊥
+-- a writer returned an error: the answers were written up to one of them, no reply before its whole frame; or all were written, and were not flushed
+abbrev pub IsUnwritten : (tables : TableEntries) → (sources : List (List ℕ)) → (requests : List ℕ) → (frames frames' replies replies' : Option (List ℕ)) → Type 0
+IsUnwritten tables sources requests frames frames' replies replies' =
+    RunStops tables sources requests frames frames' replies replies' runs.Write ⊎ ((end : Now) × Means tables sources requests frames frames' replies replies' end)
 
--- why the program exits without an answer to all requests, in the order of its parts: a reading error comes before the first reply, a reading error of
--- the tables or a source before the first byte of the requests is read, and an error in a source's bytes before the first reply; or after them,
--- since the frames are not exported
-abbrev pub IsEnded : (unnamed : List ℕ) → (tables : Option (List ℕ)) → (names : List (List ℕ)) → (requests : List ℕ) → (left left' replies replies' : Option (List ℕ)) → Fault → Type 0
-IsEnded unnamed tables names requests left left' replies replies' (CannotRead path) = IsUnread tables names requests left left' path.now × (replies' ≡ replies)
-IsEnded unnamed tables names requests left left' replies replies' (TooLong path) = IsUnread tables names requests left left' path.now × (replies' ≡ replies)
-IsEnded unnamed tables names requests left left' replies replies' Tables = IsSome tables × (left' ≡ left) × (replies' ≡ replies)
-IsEnded unnamed tables names requests left left' replies replies' (Input source fault) =
+-- why the requests were not all answered over the files of these bytes: except for a writer's error, nothing was written
+abbrev pub IsRefused : (tables : TableEntries) → (sources : List (List ℕ)) → (requests : List ℕ) → (frames frames' replies replies' : Option (List ℕ)) → Fault → Type 0
+IsRefused tables sources requests frames frames' replies replies' (Input source fault) = SourceRefuses sources source fault × Keeps frames frames' × Keeps replies replies'
+IsRefused tables sources requests frames frames' replies replies' NoMemory = Keeps frames frames' × Keeps replies replies'
+IsRefused tables sources requests frames frames' replies replies' CannotWrite = IsUnwritten tables sources requests frames frames' replies replies'
+IsRefused tables sources requests frames frames' replies replies' _ = ⊥
+
+-- why they were not all answered, if it is not known where the frames went: no reply was written, or a writer stopped the answers
+abbrev pub IsUnreplied : (sources : List (List ℕ)) → (Stopped : Type 0) → (replies replies' : Option (List ℕ)) → Fault → Type 0
+IsUnreplied sources Stopped replies replies' (Input source fault) = SourceRefuses sources source fault × Keeps replies replies'
+IsUnreplied sources Stopped replies replies' NoMemory = Keeps replies replies'
+IsUnreplied sources Stopped replies replies' CannotWrite = Keeps replies replies' ⊎ Stopped
+IsUnreplied sources Stopped replies replies' _ = ⊥
+
+-- a writer stopped the answers to these requests, or did not flush them
+abbrev pub IsStopped : (tables : TableEntries) → (sources : List (List ℕ)) → (requests : List ℕ) → (replies replies' : Option (List ℕ)) → Type 0
+IsStopped tables sources requests replies replies' = (frames : Option (List ℕ)) × (frames' : Option (List ℕ)) × IsUnwritten tables sources requests frames frames' replies replies'
+
+-- a writer stopped the answers to the requests with this name
+abbrev pub AreStopped : (requests : List ℕ) → (left replies replies' : Option (List ℕ)) → (tables : TableEntries) → (sources : List (List ℕ)) → Type 0
+AreStopped requests left replies replies' tables sources =
+    (lines : List ℕ) × (requests ≡ codes "-" → IfSome left (λ bytes. lines ≡ bytes)) × IsStopped tables sources lines replies replies'
+
+-- some tables, and bytes of the sources with these names
+abbrev pub OverSources : (unnamed : List ℕ) → (names : List (List ℕ)) → (TableEntries → List (List ℕ) → Type 0) → Type 0
+OverSources unnamed names Holds = (tables : TableEntries) × (sources : List (List ℕ)) × AreNamed unnamed names sources × Holds tables sources
+
+-- no reply was written, or all requests were answered
+abbrev pub IsBeforeOrAfter : (unnamed : List ℕ) → (names : List (List ℕ)) → (replies replies' : Option (List ℕ)) → (Replied : Now → TableEntries → List (List ℕ) → Type 0) → Type 0
+IsBeforeOrAfter unnamed names replies replies' Replied = Keeps replies replies' ⊎ OverSources unnamed names (λ tables sources. (end : Now) × Replied end tables sources)
+
+-- why the program exits without doing all that it was asked, in the order of its parts: a reading error comes before the first reply, a reading error of
+-- the tables or a source before the first byte of the requests is read, and an error in a source's bytes before the first reply. Memory runs
+-- out before the first reply, or after the last one, as the frames are exported or the packets saved. A writer's error comes then too, or stops the answers
+abbrev pub IsEnded : (unnamed : List ℕ) → (tables : Option (List ℕ)) → (names : List (List ℕ)) → (requests : List ℕ) → (left left' replies replies' : Option (List ℕ)) → (Stopped : TableEntries → List (List ℕ) → Type 0) → (Replied : Now → TableEntries → List (List ℕ) → Type 0) → Fault → Type 0
+IsEnded unnamed tables names requests left left' replies replies' Stopped Replied (CannotRead path) = IsUnread tables names requests left left' path.now × (replies' ≡ replies)
+IsEnded unnamed tables names requests left left' replies replies' Stopped Replied (TooLong path) = IsUnread tables names requests left left' path.now × (replies' ≡ replies)
+IsEnded unnamed tables names requests left left' replies replies' Stopped Replied Tables = IsSome tables × (left' ≡ left) × (replies' ≡ replies)
+IsEnded unnamed tables names requests left left' replies replies' Stopped Replied (Input source fault) =
     (sources : List (List ℕ)) × AreNamed unnamed names sources × SourceRefuses sources source fault × Keeps replies replies'
-IsEnded unnamed tables names requests left left' replies replies' (NotExported why) = IsUnexported unnamed names (AreReplied requests left replies replies') why
-IsEnded unnamed tables names requests left left' replies replies' CannotWrite = Unit {0}
-IsEnded unnamed tables names requests left left' replies replies' NoMemory = Unit {0}
-IsEnded unnamed tables names requests left left' replies replies' _ = ⊥
+IsEnded unnamed tables names requests left left' replies replies' Stopped Replied (NotExported why) = IsUnexported unnamed names Replied why
+IsEnded unnamed tables names requests left left' replies replies' Stopped Replied CannotWrite =
+    IsBeforeOrAfter unnamed names replies replies' Replied ⊎ OverSources unnamed names Stopped
+IsEnded unnamed tables names requests left left' replies replies' Stopped Replied NoMemory = IsBeforeOrAfter unnamed names replies replies' Replied
+IsEnded unnamed tables names requests left left' replies replies' Stopped Replied _ = ⊥
 
 -- Requests that are answered as they come. `given` is what their reader gives, if it is known.
 
@@ -199,10 +229,19 @@ pub record IsInterrupted (tables : TableEntries) (sources : List (List ℕ)) (gi
   pub frames' : Option (List ℕ)
   pub cut : CutsOff (start tables files) given given' frames frames' replies replies' fault
 
+-- a writer refused an answer, after which no line was read
+pub record IsLiveStopped (tables : TableEntries) (sources : List (List ℕ)) (given replies replies' : Option (List ℕ)) : Type 0 where
+  pub files : List Ivf
+  pub are : AreIvfs sources files
+  pub given' : Option (List ℕ)
+  pub frames : Option (List ℕ)
+  pub frames' : Option (List ℕ)
+  pub refuses : LiveRefuses (start tables files) given given' frames frames' replies replies'
+
 -- why not all lines were answered, if it is not known where frames went
 abbrev pub IsLiveFault : (tables : TableEntries) → (sources : List (List ℕ)) → (given replies replies' : Option (List ℕ)) → LiveFault → Type 0
 IsLiveFault tables sources given replies replies' (lives.Ivf source fault) = SourceRefuses sources source fault × Keeps replies replies'
-IsLiveFault tables sources given replies replies' lives.Write = Unit {0}
+IsLiveFault tables sources given replies replies' lives.Write = Keeps replies replies' ⊎ IsLiveStopped tables sources given replies replies'
 IsLiveFault tables sources given replies replies' lives.NoMemory = Keeps replies replies'
 IsLiveFault tables sources given replies replies' fault = IsInterrupted tables sources given replies replies' fault
 
@@ -230,20 +269,20 @@ abbrev pub IsUnopened : (requests : List ℕ) → (replies replies' : Option (Li
 IsUnopened requests replies replies' (CannotRead path) = (path.now ≡ requests) × (replies' ≡ replies)
 IsUnopened requests replies replies' _ = ⊥
 
+-- a writer stopped the answers to the lines of the requests with this name
+abbrev pub AreLiveStopped : (requests : List ℕ) → (left replies replies' : Option (List ℕ)) → (tables : TableEntries) → (sources : List (List ℕ)) → Type 0
+AreLiveStopped requests left replies replies' tables sources = (given : Option (List ℕ)) × IsInput requests left given × IsLiveStopped tables sources given replies replies'
+
 -- why not all requests with this name were answered: as for requests in a list, or they were interrupted
 abbrev pub IsLiveRefused : (tables : TableEntries) → (sources : List (List ℕ)) → (requests : List ℕ) → (left replies replies' : Option (List ℕ)) → Fault → Type 0
 IsLiveRefused tables sources requests left replies replies' fault =
-    IsRefused sources None None replies replies' fault ⊎ IsUnopened requests replies replies' fault ⊎ IsCutShort tables sources requests left replies replies' fault
+    IsUnreplied sources (AreLiveStopped requests left replies replies' tables sources) replies replies' fault
+    ⊎ IsUnopened requests replies replies' fault
+    ⊎ IsCutShort tables sources requests left replies replies' fault
 
--- all lines were answered, and then the frames of the session were not exported
-abbrev pub IsLiveUnexported : (unnamed : List ℕ) → (names : List (List ℕ)) → (requests : List ℕ) → (left replies replies' : Option (List ℕ)) → Fault → Type 0
-IsLiveUnexported unnamed names requests left replies replies' (NotExported why) = IsUnexported unnamed names (AreLiveReplied requests left replies replies') why
-IsLiveUnexported unnamed names requests left replies replies' _ = ⊥
-
--- why the program exits before it answered all requests that come one after another: as for requests in a list, or the requests were interrupted,
--- and the lines before that were answered; or after them, since the frames are not exported
+-- why the program exits with requests that come one after another: as for requests in a list, or the requests were interrupted, and the lines before
+-- that were answered
 abbrev pub IsLiveEnded : (unnamed : List ℕ) → (tables : Option (List ℕ)) → (names : List (List ℕ)) → (requests : List ℕ) → (left left' replies replies' : Option (List ℕ)) → Fault → Type 0
 IsLiveEnded unnamed tables names requests left left' replies replies' fault =
-    IsEnded unnamed tables names requests left left' replies replies' fault
-    ⊎ ((entries : TableEntries) × (sources : List (List ℕ)) × AreNamed unnamed names sources × IsCutShort entries sources requests left replies replies' fault)
-    ⊎ IsLiveUnexported unnamed names requests left replies replies' fault
+    IsEnded unnamed tables names requests left left' replies replies' (AreLiveStopped requests left replies replies') (AreLiveReplied requests left replies replies') fault
+    ⊎ OverSources unnamed names (λ entries sources. IsCutShort entries sources requests left replies replies' fault)

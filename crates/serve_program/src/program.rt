@@ -9,7 +9,7 @@ ghost use Rattle.serve_arguments.specs.CachedStates.{AreStates};
 ghost use Rattle.serve_arguments.specs.Capacities.{IsGiven};
 ghost use Rattle.serve_arguments.specs.CommandLines.{source_names};
 ghost use Rattle.serve_arguments.specs.Readings.{AreNamed};
-ghost use Rattle.serve_program.specs.Endings.{AreAnswered, IsAfterExport, IsEnded, IsExportFault, IsRefused, IsReplied, IsSaveFault, IsServed, spare_text, stream_in};
+ghost use Rattle.serve_program.specs.Endings.{AreAnswered, AreReplied, AreStopped, IsAfterExport, IsEnded, IsExportFault, IsRefused, IsReplied, IsSaveFault, IsServed, IsStopped, IsUnreplied, spare_text, stream_in};
 
 use crate::explain::{explain_end, explain_export, explain_fault, is_asked};
 use crate::exports::{Answered, with_export};
@@ -34,8 +34,9 @@ use stream_files::{EMPTY, FileBytes};
 /// The number of bytes of frames or packets that are buffered.
 pub const BYTES_AT_ONCE: usize = 65_536;
 
-/// Runs the requests over the files of the sources, 1 to 8, whose bytes are borrowed or shared, and flushes both writers. The packets of
-/// shared bytes are not copied. Returns the session after the last request.
+/// Runs the requests over the files of the sources, 1 to 8, whose bytes are borrowed or shared, and flushes the frames and then the replies. The
+/// packets of shared bytes are not copied. Returns the session after the last request.
+#[tactic(auto, using(crate::proofs::Ended::run_refused, crate::proofs::Flushed::unflushed))]
 pub fn run_to<B: FileBytes, F: Write, P: Write, V: Observer>(
     alloc: Global,
     settings: Settings,
@@ -49,7 +50,7 @@ pub fn run_to<B: FileBytes, F: Write, P: Write, V: Observer>(
     requires sources { (1 ≤ length sources.now) × (length sources.now ≤ 8) }
     ensures answered { IfOk result (λ session. Means settings.tables (map B.bytes sources.now) requests.now (F.contents frames.old) (F.contents frames.new) (P.contents replies.old) (P.contents replies.new) session.now) }
     ensures capacity { IfOk result (λ session. session.cache.capacity ≡ settings.capacity) }
-    ensures refused { IfErr result (IsRefused (map B.bytes sources.now) (F.contents frames.old) (F.contents frames.new) (P.contents replies.old) (P.contents replies.new)) }
+    ensures refused { IfErr result (IsRefused settings.tables (map B.bytes sources.now) requests.now (F.contents frames.old) (F.contents frames.new) (P.contents replies.old) (P.contents replies.new)) }
 {
     let session = match run_over(
         alloc, settings, sources, requests, frames, replies, observer,
@@ -57,12 +58,17 @@ pub fn run_to<B: FileBytes, F: Write, P: Write, V: Observer>(
         Ok(session) => session,
         Err(fault) => return Err(run_fault(fault)),
     };
-    frames.flush().map_err(|_| Fault::CannotWrite)?;
-    replies.flush().map_err(|_| Fault::CannotWrite)?;
+    if frames.flush().is_err() {
+        return Err(Fault::CannotWrite);
+    }
+    if replies.flush().is_err() {
+        return Err(Fault::CannotWrite);
+    }
     Ok(session)
 }
 
 /// Runs the requests with frames that go to the file at `path`, which is created now, or nowhere.
+#[tactic(auto, using(crate::proofs::Ended::unreplied, crate::proofs::Ended::unmade, crate::proofs::Ended::unheld))]
 fn run_to_path<R: Files + AllocGlobal, P: Write, E: Write>(
     rt: &R,
     settings: Settings,
@@ -76,7 +82,7 @@ fn run_to_path<R: Files + AllocGlobal, P: Write, E: Write>(
     requires sources { (1 ≤ length sources.now) × (length sources.now ≤ 8) }
     ensures replied { IfOk result (λ session. IsReplied settings.tables (map rc_slice_items sources.now) requests.now (P.contents replies.old) (P.contents replies.new) session.now) }
     ensures capacity { IfOk result (λ session. session.cache.capacity ≡ settings.capacity) }
-    ensures refused { IfErr result (IsRefused (map rc_slice_items sources.now) None None (P.contents replies.old) (P.contents replies.new)) }
+    ensures refused { IfErr result (IsUnreplied (map rc_slice_items sources.now) (IsStopped settings.tables (map rc_slice_items sources.now) requests.now (P.contents replies.old) (P.contents replies.new)) (P.contents replies.old) (P.contents replies.new)) }
 {
     let alloc = rt.alloc();
     if path == NO_FILE {
@@ -190,7 +196,7 @@ fn finish_batch<R: Files + AllocGlobal, E: Write>(
 
 /// Answers the requests over what was read, exports the frames and saves the packets of source 0 if that is asked for. Returns the session after
 /// that.
-#[tactic(auto, using(crate::proofs::Ended::run_ended, crate::proofs::Ended::save_ended, crate::proofs::Ended::finish_ended))]
+#[tactic(auto, using(crate::proofs::Ended::run_ended, crate::proofs::Ended::memory_ended, crate::proofs::Ended::finish_ended))]
 fn answer_inputs<R: Files + AllocGlobal, O: Write, E: Write>(
     rt: &R,
     line: &Accepted<'_>,
@@ -203,7 +209,7 @@ fn answer_inputs<R: Files + AllocGlobal, O: Write, E: Write>(
     requires named { AreNamed EMPTY (source_names line.now) (map (λ bytes. bytes.items) inputs.files.sources.items) }
     ensures replied { IfOk result (λ session. (end : Now) × IsReplied inputs.files.tables (map (λ bytes. bytes.items) inputs.files.sources.items) inputs.requests.items (O.contents output.old) (O.contents output.new) end × IsAfterExport (is_some line.now.words.exported) end session.now) }
     ensures capacity { IfOk result (λ session. AreStates line.now.capacity (stream_in (map (λ bytes. bytes.items) inputs.files.sources.items)) session.cache.capacity) }
-    ensures ended { IfErr result (λ fault. (left : Option (List ℕ)) → (left' : Option (List ℕ)) → (line.now.words.requests.now ≡ codes "-" → IfSome left (λ bytes. inputs.requests.items ≡ bytes)) → IsEnded EMPTY (option_map (λ path. path.now) line.now.words.tables) (source_names line.now) line.now.words.requests.now left left' (O.contents output.old) (O.contents output.new) fault) }
+    ensures ended { IfErr result (λ fault. (left : Option (List ℕ)) → (left' : Option (List ℕ)) → (line.now.words.requests.now ≡ codes "-" → IfSome left (λ bytes. inputs.requests.items ≡ bytes)) → IsEnded EMPTY (option_map (λ path. path.now) line.now.words.tables) (source_names line.now) line.now.words.requests.now left left' (O.contents output.old) (O.contents output.new) (AreStopped line.now.words.requests.now left (O.contents output.old) (O.contents output.new)) (AreReplied line.now.words.requests.now left (O.contents output.old) (O.contents output.new)) fault) }
 {
     let Inputs { files, requests } = inputs;
     let FilesRead { tables, sources } = files;
@@ -233,7 +239,7 @@ fn answer<'a, R: Files + AllocGlobal, I: Read, O: Write, E: Write>(
     requires capacity { IsGiven line.now.capacity }
     requires paths { length line.now.more.items ≤ 7 }
     ensures served { IfOk result (λ session. IsServed EMPTY (source_names line.now) (is_some line.now.words.tables) line.now.capacity session.cache.capacity (AreAnswered line.now.words.requests.now (I.remaining input.old) (O.contents output.old) (O.contents output.new) (is_some line.now.words.exported) session.now)) }
-    ensures ended { IfErr result (IsEnded EMPTY (option_map (λ path. path.now) line.now.words.tables) (source_names line.now) line.now.words.requests.now (I.remaining input.old) (I.remaining input.new) (O.contents output.old) (O.contents output.new)) }
+    ensures ended { IfErr result (IsEnded EMPTY (option_map (λ path. path.now) line.now.words.tables) (source_names line.now) line.now.words.requests.now (I.remaining input.old) (I.remaining input.new) (O.contents output.old) (O.contents output.new) (AreStopped line.now.words.requests.now (I.remaining input.old) (O.contents output.old) (O.contents output.new)) (AreReplied line.now.words.requests.now (I.remaining input.old) (O.contents output.old) (O.contents output.new))) }
 {
     let inputs = read_inputs(rt, line, input)?;
     answer_inputs(rt, line, inputs, output, messages)

@@ -1,5 +1,5 @@
 // What is known of a session, to explain why a request was refused.
-ghost use Rattle.std.specs.Prelude.{◌≡◌, ◌≤◌, length};
+ghost use Rattle.std.specs.Prelude.{◌≡◌, ◌≤◌, IfSome, is_some, length, nat_lt};
 ghost use Rattle.packet_edits.specs.Nearest.{IsLast};
 ghost use Rattle.packet_edits.specs.Shown.{stream_of};
 ghost use Rattle.packet_edits.specs.Sizes.{key_tag_at};
@@ -8,13 +8,28 @@ ghost use Rattle.frame_session.specs.Told.{packets_in, stated_size};
 
 use super::Session;
 use crate::size::Size;
+use packet_edits::Store;
 
 impl Session {
+    ghost use Rattle.frame_session.specs.Edits.{list_at};
+
     /// The source on which edits act.
     pub fn current(&self) -> usize
         ensures { result ≡ self.now.now.current }
     {
         self.current
+    }
+
+    /// The packets of a source, if there is such a source.
+    pub fn list(&self, source: usize) -> Option<&Store>
+        ensures list { IfSome result (λ list. list.now.list ≡ list_at self.now.now.lists source) }
+        ensures there { is_some result ≡ nat_lt source (length self.now.now.lists) }
+    {
+        if source < self.stores.len() {
+            Some(&self.stores[source])
+        } else {
+            None
+        }
     }
 
     /// The number of packets of a source; 0 if there is no such source.

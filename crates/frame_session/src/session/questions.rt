@@ -1,17 +1,24 @@
 // The answers to questions.
-ghost use Rattle.std.specs.Prelude.{IfOk, OnOk};
+ghost use Rattle.std.specs.Prelude.{◌≡◌, ◌⊎◌, ◌<◌, IfOk, OnOk, length};
 ghost use Rattle.std.specs.Io.KnownBytes.{Appends};
-ghost use Rattle.frame_session.specs.Questions.{answer_to, list_answer, packet_answer};
+ghost use Rattle.packet_lists.specs.Details.{detail_text};
+ghost use Rattle.frame_session.specs.Questions.{GainsAnswer, detail_answer, list_answer, packet_answer};
+ghost use Rattle.frame_session.specs.Replies.{newlines, refused_line, text_reply};
+ghost use Rattle.frame_session.specs.Sessions.{current_list};
 ghost use Rattle.frame_session.specs.Told.{Tells};
 
 use super::Session;
 use crate::refusal::Refusal;
 use crate::replies::{write_lines_line, write_packet, write_refused, write_script};
+use macroblock_lists::What;
 use packet_edits::Store;
-use packet_lists::write_lines;
+use packet_lists::{write_details, write_lines};
+use pixel_planes::NoMemory;
 use request_lines::Question;
+use std::alloc::Global;
 use std::io::Write;
 use stream_files::WriteFault;
+use vp8_tables::Tables;
 
 /// Writes the packet at index `at` of a source, or that there is none.
 #[tactic(auto, using(crate::proofs::Asked::packet_wrote, crate::proofs::Asked::none_wrote))]
@@ -50,18 +57,76 @@ fn write_list<W: Write>(
     Ok(None)
 }
 
+/// The number of newlines in a text.
+fn newlines(text: &[u8]) -> u64
+    ensures { result ≡ newlines text.now }
+{
+    text.iter().filter(|byte| **byte == b'\n').count() as u64
+}
+
+/// The macroblocks or the header of the packet at index `at`. `NoMemory` if memory runs out for them.
+fn detail_text(
+    alloc: Global,
+    tables: &Tables,
+    what: What,
+    store: &Store,
+    at: usize,
+) -> Result<Vec<u8>, NoMemory>
+    requires { at < length store.now.list.entries }
+    ensures { IfOk result (λ text. text.items ≡ detail_text what tables.now store.now.list at) }
+{
+    let mut text = Vec::new(alloc);
+    match write_details(&mut text, alloc, tables, what, store, at) {
+        Ok(()) => Ok(text),
+        Err(_) => Err(NoMemory),
+    }
+}
+
+/// Writes a text of several lines, after their number.
+fn write_counted<W: Write>(w: &mut W, text: &[u8]) -> Result<Option<Refusal>, WriteFault>
+    ensures wrote { OnOk result (Appends (W.contents w.old) (W.contents w.new) (text_reply text.now)) }
+    ensures told { IfOk result (Tells (W.contents w.old) (W.contents w.new)) }
+{
+    write_lines_line(w, newlines(text))?;
+    w.write_all(text).map_err(|_| WriteFault::Write)?;
+    Ok(None)
+}
+
 impl Session {
+    /// Writes the macroblocks or the header of the packet at index `at` of the current source, or that there is none, or that memory
+    /// ran out for them.
+    fn answer_details<W: Write>(
+        &self,
+        w: &mut W,
+        what: What,
+        at: u64,
+    ) -> Result<Option<Refusal>, WriteFault>
+        ensures wrote { OnOk result (Appends (W.contents w.old) (W.contents w.new) (detail_answer what self.now.now.tables (current_list self.now.now) at) ⊎ Appends (W.contents w.old) (W.contents w.new) (refused_line Refusal.NoMemory)) }
+        ensures told { IfOk result (Tells (W.contents w.old) (W.contents w.new)) }
+    {
+        let store = &self.stores[self.current];
+        if store.len() as u64 <= at {
+            return write_refused(w, Refusal::Place);
+        }
+        match detail_text(self.alloc, &self.tables, what, store, at as usize) {
+            Ok(text) => write_counted(w, text.as_slice()),
+            Err(_) => write_refused(w, Refusal::NoMemory),
+        }
+    }
+
     /// Writes the reply to a question, and returns the refusal that it reports, if it reports one. Nothing of the session changes.
     pub(crate) fn answer<W: Write>(
         &self,
         w: &mut W,
         question: Question,
     ) -> Result<Option<Refusal>, WriteFault>
-        ensures wrote { OnOk result (Appends (W.contents w.old) (W.contents w.new) (answer_to self.now.now question)) }
+        ensures wrote { OnOk result (GainsAnswer self.now.now question (W.contents w.old) (W.contents w.new)) }
         ensures told { IfOk result (Tells (W.contents w.old) (W.contents w.new)) }
     {
         match question {
             Question::Packet { at } => write_packet_at(w, &self.stores[self.current], at),
+            Question::Macroblocks { at } => self.answer_details(w, What::Macroblocks, at),
+            Question::Header { at } => self.answer_details(w, What::Header, at),
             Question::Script => write_script(w, &self.script),
             Question::List { first, count } => {
                 write_list(w, &self.stores[self.current], first, count)

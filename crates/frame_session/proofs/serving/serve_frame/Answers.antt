@@ -4,6 +4,7 @@ use Rattle.std.proofs.lemmas.Result.{on_ok_weaker}
 use Rattle.request_lines.specs.declared.lines.Line.TheVariants.{Frame}
 use Rattle.frame_session.specs.Replies.{refused_line}
 use Rattle.frame_session.specs.Answers.{Serves}
+use Rattle.frame_session.proofs.AtCost.{frame_at_cost, refused_at_cost}
 use Rattle.frame_session.proofs.Served.{frame_and_reply, frame_or_no_reply, serves_refused}
 use Rattle.frame_session.proofs.serving.serve_frame.Goals as goal
 
@@ -38,3 +39,18 @@ returns-in-Ok-clause-frame_first g c =
     let r = g.P.Write.contents c.args.replies.now in
     let r' = g.P.Write.contents c.write_answer.new.replies in
     frame_or_no_reply old f f' r r' c.args.n c.in-Ok.picture c.frame.new.self.now c.head_due-head_due.result c.head_due-head_due.ensures c.in-Ok.ensures.returned c.in-Ok.ensures.after c.write_answer.ensures.frame_first
+
+pub returns-in-Err-clause-costs : goal.returns-in-Err-clause-costs
+returns-in-Err-clause-costs g c =
+    let f = g.F.Write.contents c.args.frames.now in
+    let r = g.P.Write.contents c.args.replies.now in
+    let r' = g.P.Write.contents c.write_refused.new.w in
+    refused_at_cost c.write_refused.result c.args.session.now f f r r' c.args.n c.in-Err.refusal c.frame.new.self c.in-Err.ensures.returned c.in-Err.ensures.after c.in-Err.ensures.costs c.write_refused.ensures.wrote
+
+pub returns-in-Ok-clause-costs : goal.returns-in-Ok-clause-costs
+returns-in-Ok-clause-costs g c =
+    let f = g.F.Write.contents c.args.frames.now in
+    let f' = g.F.Write.contents c.write_answer.new.frames in
+    let r = g.P.Write.contents c.args.replies.now in
+    let r' = g.P.Write.contents c.write_answer.new.replies in
+    frame_at_cost c.write_answer.result c.args.session.now f f' r r' c.args.n c.in-Ok.picture c.frame.new.self c.head_due-head_due.result c.head_due-head_due.ensures c.in-Ok.ensures.returned c.in-Ok.ensures.after c.in-Ok.ensures.costs c.write_answer.ensures.frame c.write_answer.ensures.reply

@@ -1,0 +1,128 @@
+-- The functions that answer lines keep to the cost of the lines.
+use Rattle.std.proofs.Common.{◌≡◌, inl, ℕ, List, [], ◌∷◌, ◌++◌, map, Option, None, Some, Result, Ok, Err, refl, sym, ap, ◌∙◌, subst, append-nil}
+use Rattle.std.specs.Io.KnownBytes.{Appends, Keeps}
+use Rattle.std.specs.Prelude.{OnOk}
+use Rattle.std.proofs.KnownBytes.{Appends-kept, Appends-nil}
+use Rattle.pixel_planes.specs.Pictures.{PictureSamples}
+use Rattle.vp8_tables.specs.declared.tables.Tables.{Tables}
+use Rattle.stream_files.specs.Y4m.{frame_text}
+use Rattle.stream_files.specs.declared.ivf.Head.{Head}
+use Rattle.stream_files.specs.declared.ivf.Ivf.{Ivf}
+use Rattle.script_nodes.specs.Shown.{Shown}
+use Rattle.request_lines.specs.Requests.{asked_by}
+use Rattle.request_lines.specs.declared.lines.Line.{Line}
+use Rattle.request_lines.specs.declared.lines.Line.TheVariants as requests
+use Rattle.request_lines.specs.declared.edit.Edit.{Edit}
+use Rattle.request_lines.specs.declared.question.Question.{Question}
+use Rattle.frame_session.specs.declared.refusal.Refusal.{Refusal}
+use Rattle.frame_session.specs.IsOrNoMemory.{IsOrNoMemory, IsFrameOrNoMemory}
+use Rattle.frame_session.specs.Edits.{WrittenAnswers}
+use Rattle.frame_session.specs.Questions.{GainsAnswer, answer_to}
+use Rattle.frame_session.specs.Replies.{refused_line, edit_line, served_line}
+use Rattle.frame_session.specs.Sessions.{IsAfterFrame, choice_answer, current_list, now_after_choice, now_after_edit, now_after_script, frame_of, head_due, script_answer, size_given}
+use Rattle.frame_session.specs.Cached.{FrameCosts, SessionValue, begun, needs_picture, packet_of_frame}
+use Rattle.frame_session.specs.Answers.{Answer, Answers, AreIvfs, Runs, Serves, answer_to_frame, opening, reply_only, requests_of}
+use Rattle.frame_session.specs.LineCosts.{AnswersAtCost, EditCosts, LineCosts, MeansAtCost, RunCosts, RunsAtCost}
+use Rattle.frame_session.proofs.Served.{frame_same, size_same}
+
+-- what holds anyway holds once a writer has not failed
+on_ok_anyway : {A E P : Type 0} (w : Result A E) → P → OnOk w P
+on_ok_anyway (Ok _) p = p
+on_ok_anyway (Err _) p = tt
+
+-- the cost of a frame depends only on whether its answer follows from the packet's picture
+costs_alike : {A B : Type 0} (packet : Option (ℕ × ℕ)) (old new : SessionValue) (a : Result A Refusal) (b : Result B Refusal) → needs_picture b ≡ needs_picture a → FrameCosts packet old a new → FrameCosts packet old b new
+costs_alike None old new a b same costs = costs
+costs_alike (Some packet) old new a b same costs =
+    record { reached = costs.reached; costs = costs.costs; walks = costs.walks; others = costs.others; is_needed = λ needed. costs.is_needed (sym same ∙ needed) }
+
+-- the answer of a line that was answered at its cost
+abbrev pub serves_of : {A E : Type 0} (old : SessionValue) (line : Line) (f f' r r' : Option (List ℕ)) (told : A) (new : SessionValue) → AnswersAtCost {A = A} {E = E} old line f f' r r' (Ok told) new → Serves old.now line f f' r r' new.now
+serves_of old line f f' r r' told new at_cost = record { answer = at_cost.answer; means = at_cost.means; shown = at_cost.shown; said = at_cost.said }
+
+-- a line that was answered, whether or not its reply was flushed
+pub kept_at_cost : {A E : Type 0} (w : Result A E) (old : SessionValue) (line : Line) (f f' r r' r'' : Option (List ℕ)) (told : A) (new : SessionValue) → AnswersAtCost {A = A} {E = E} old line f f' r r' (Ok told) new → Keeps r' r'' → AnswersAtCost old line f f' r r'' w new
+kept_at_cost w old line f f' r r' r'' told new at_cost kept = record {
+  answer = at_cost.answer;
+  means = at_cost.means;
+  costs = at_cost.costs;
+  shown = on_ok_anyway w at_cost.shown;
+  said = on_ok_anyway w (Appends-kept r r' r'' at_cost.answer.reply at_cost.said kept);
+}
+
+module _ {A E : Type 0} (w : Result A E) (old : SessionValue) (f f' r r' : Option (List ℕ)) where
+  -- a line that only has a reply
+  pub replied : (line : Line) (reply : List ℕ) (new : SessionValue) → Answers old.now line (reply_only reply) new.now → LineCosts old line (reply_only reply) new → OnOk w (Appends r r' reply) → AnswersAtCost old line f f r r' w new
+  replied line reply new means costs said = record { answer = reply_only reply; means = means; costs = costs; shown = on_ok_anyway w (Appends-nil f); said = said }
+
+  pub chosen_at_cost : (source : ℕ) (chosen : Result ℕ Refusal) (new : SessionValue) → chosen ≡ choice_answer old.now source → new ≡ record old { now = now_after_choice source old.now } → OnOk w (Appends r r' (edit_line chosen)) → AnswersAtCost old (requests.Use source) f f r r' w new
+  chosen_at_cost source chosen new is after said =
+      replied (requests.Use source) (edit_line chosen) new (ap (λ (c : Result ℕ Refusal). reply_only (edit_line c)) is, ap (λ (v : SessionValue). v.now) after) (record { stores = ap (λ (v : SessionValue). v.stores) after; cache = ap (λ (v : SessionValue). v.cache) after }) said
+
+  pub script_at_cost : (text : List ℕ) (set : Result ℕ Refusal) (new : SessionValue) → IsOrNoMemory (script_answer old.now text) set → new ≡ record old { now = now_after_script text old.now set } → OnOk w (Appends r r' (edit_line set)) → AnswersAtCost old (requests.Script text) f f r r' w new
+  script_at_cost text set new returned after said =
+      replied (requests.Script text) (edit_line set) new (set, returned, (refl, ap (λ (v : SessionValue). v.now) after)) (record { stores = ap (λ (v : SessionValue). v.stores) after; cache = ap (λ (v : SessionValue). v.cache) after }) said
+
+  pub edited_at_cost : (edit : Edit (List ℕ)) (edited : Result ℕ Refusal) (new : SessionValue) → WrittenAnswers old.now.tables old.now.lists (current_list old.now) edit edited → new.now ≡ now_after_edit edit old.now edited → EditCosts edit edited old new → OnOk w (Appends r r' (edit_line edited)) → AnswersAtCost old (requests.Edit edit) f f r r' w new
+  edited_at_cost edit edited new returned after costs said = replied (requests.Edit edit) (edit_line edited) new (edited, returned, (refl, after)) (edited, refl, costs) said
+
+  pub refused_at_cost : (n : ℕ) (refusal : Refusal) (new : SessionValue) → IsOrNoMemory (frame_of old.now n) (Err refusal) → IsAfterFrame old.now (size_given (Err refusal)) new.now → FrameCosts {A = PictureSamples} (packet_of_frame old.now n) old (Err refusal) new → OnOk w (Appends r r' (refused_line refusal)) → AnswersAtCost old (requests.Frame n) f f r r' w new
+  refused_at_cost n refusal new returned after costs said =
+      replied (requests.Frame n) (refused_line refusal) new (Err refusal, returned, refl, after) (Err refusal, refl, costs_alike {A = PictureSamples} {B = Shown} (packet_of_frame old.now n) old new (Err refusal) (Err refusal) refl costs) said
+
+  -- a frame, written with the head that is due
+  pub frame_at_cost : (n : ℕ) (picture : PictureSamples) (new : SessionValue) (head : Option Head) → head ≡ head_due old.now → IsFrameOrNoMemory (frame_of old.now n) (Ok picture) → IsAfterFrame old.now (size_given (Ok picture)) new.now → FrameCosts (packet_of_frame old.now n) old (Ok picture) new
+      → OnOk w (Appends f f' (opening head picture.width picture.height ++ frame_text picture)) → OnOk w (Appends r r' (served_line n)) → AnswersAtCost old (requests.Frame n) f f' r r' w new
+  frame_at_cost n picture new head is returned after costs shown said = record {
+    answer = answer_to_frame old.now n (Ok returned.0);
+    means = (Ok returned.0, returned.1, refl, subst (λ size. IsAfterFrame old.now size new.now) (size_same picture returned.0 returned.2) after);
+    costs = (Ok returned.0, refl, costs_alike {A = PictureSamples} {B = Shown} (packet_of_frame old.now n) old new (Ok picture) (Ok returned.0) refl costs);
+    shown = subst (λ (text : List ℕ). OnOk w (Appends f f' text)) (ap (λ (h : Option Head). opening h picture.width picture.height ++ frame_text picture) is ∙ frame_same old.now n picture returned.0 returned.3 returned.2) shown;
+    said = said;
+  }
+
+-- a question
+pub asked_at_cost : {A E : Type 0} (w : Result A E) (old : SessionValue) (f r r' : Option (List ℕ)) (question : Question) → OnOk w (GainsAnswer old.now question r r') → AnswersAtCost old (requests.Ask question) f f r r' w old
+asked_at_cost (Ok told) old f r r' question gains = record {
+  answer = reply_only gains.reply;
+  means = (gains.reply, gains.means, refl, refl);
+  costs = record { stores = refl; cache = refl };
+  shown = Appends-nil f;
+  said = gains.said;
+}
+asked_at_cost (Err fault) old f r r' question failed = record {
+  answer = reply_only (answer_to old.now question);
+  means = (answer_to old.now question, inl refl, refl, refl);
+  costs = record { stores = refl; cache = refl };
+  shown = tt;
+  said = tt;
+}
+
+-- one more line
+pub costs_more : (old mid new : SessionValue) (lines : List Line) (answers : List Answer) (line : Line) (answer : Answer) → RunCosts old lines answers mid → Answers mid.now line answer new.now → LineCosts mid line answer new → RunCosts old (lines ++ line ∷ []) (answers ++ answer ∷ []) new
+costs_more old mid new [] [] line answer same means costs =
+    let P : SessionValue → Type 0 = λ v. Answers v.now line answer new.now × LineCosts v line answer new in
+    let so : P old = subst P same (means, costs) in
+    (new, so.0, so.1, refl)
+costs_more old mid new [] (x ∷ answers) line answer ran means costs = absurd ran
+costs_more old mid new (l ∷ lines) [] line answer ran means costs = absurd ran
+costs_more old mid new (l ∷ lines) (x ∷ answers) line answer ran means costs = (ran.0, ran.1, ran.2, costs_more ran.0 mid new lines answers line answer ran.3 means costs)
+
+-- lines, and lines after them
+pub costs_append : (old mid new : SessionValue) (ls ls' : List Line) (xs ys : List Answer) → RunCosts old ls xs mid → RunCosts mid ls' ys new → RunCosts old (ls ++ ls') (xs ++ ys) new
+costs_append old mid new [] ls' [] ys same ran = subst (λ (v : SessionValue). RunCosts v ls' ys new) same ran
+costs_append old mid new [] ls' (x ∷ xs) ys ran ran' = absurd ran
+costs_append old mid new (l ∷ ls) ls' [] ys ran ran' = absurd ran
+costs_append old mid new (l ∷ ls) ls' (x ∷ xs) ys ran ran' = (ran.0, ran.1, ran.2, costs_append ran.0 mid new ls ls' xs ys ran.3 ran')
+
+-- if no line is left, all are done
+pub all_at_cost : (old new : SessionValue) (done : List Line) (left : List (List ℕ)) (all : List Line) (f f' r r' : Option (List ℕ)) → left ≡ [] → done ++ map asked_by left ≡ all → (ran : Runs old.now done f f' r r' new.now) → RunCosts old done ran.answers new → RunsAtCost old all f f' r r' new
+all_at_cost old new done left all f f' r r' none whole ran costs =
+    let same : done ≡ all = sym (append-nil done) ∙ ap (λ (ls : List (List ℕ)). done ++ map asked_by ls) (sym none) ∙ whole in
+    subst (λ (ls : List Line). RunsAtCost old ls f f' r r' new) same (record { runs = ran; costs = costs })
+
+-- a run from its first session
+pub means_at_cost : (tables : Tables) (capacity : ℕ) (sources : List (List ℕ)) (requests : List ℕ) (f f' r r' : Option (List ℕ)) (files : List Ivf) (first end : SessionValue) → AreIvfs sources files → first ≡ begun tables capacity files → RunsAtCost first (requests_of requests) f f' r r' end → MeansAtCost tables capacity sources requests f f' r r' end
+means_at_cost tables capacity sources requests f f' r r' files first end are is ran =
+    let so : RunsAtCost (begun tables capacity files) (requests_of requests) f f' r r' end = subst (λ (v : SessionValue). RunsAtCost v (requests_of requests) f f' r r' end) is ran in
+    record { means = record { files = files; are = are; runs = so.runs }; costs = so.costs }
