@@ -1,7 +1,8 @@
-/* Checks of the library that need C: checks growths|fuzz|threads FILE.
+/* Checks of the library that need C: checks growths|rooms|fuzz|threads FILE.
  *
  * growths  each request for memory of a fixed list of calls is refused in turn; the call says so, can be made again, and everything after it is
  *          as without the refusal. It is linked with the archive and --wrap=malloc,--wrap=realloc
+ * rooms    frames in rooms of every size around the one that is needed, with strides around the width: each ends at a page that may not be touched
  * fuzz     a million lines of random words and bytes are answered
  * threads  two sessions in two threads serve the frames that one serves alone
  * It prints what is wrong and ends with 1, or prints nothing and ends with 0. */
@@ -9,6 +10,8 @@
 #include <stdio.h>
 #include <stdlib.h>
 #include <string.h>
+#include <sys/mman.h>
+#include <unistd.h>
 
 #include "wokureti.h"
 
@@ -109,19 +112,45 @@ static void frame(run *r, uint64_t n) {
     fail("a frame is refused again", (long)n);
 }
 
-static void save(run *r) {
+/* What makes a file, as a number: of source 0, of source 0 with new time stamps, or of the frames. */
+static uint32_t make(run *r, int what, size_t *length) {
+    wk_unexported why = {0};
+    if (what == 0) return wk_save(&r->handle, true, length);
+    return what == 1 ? wk_save_source(&r->handle, 0, true, true, length) : wk_export(&r->handle, true, length, &why);
+}
+
+static void file_of(run *r, int what) {
     for (int turn = 0; turn < 2; turn++) {
         size_t length = 0, copied = 0;
-        uint32_t status = wk_save(&r->handle, true, &length);
+        uint32_t status = make(r, what, &length);
         if (status == WK_OK) {
             if (length > r->room_size || wk_text(&r->handle, r->room, r->room_size, &copied)) fail("no file", (long)length);
             add(r, r->room, length);
             return;
         }
-        if (status != WK_MEMORY) fail("saving has another status", status);
+        if (status != WK_MEMORY && status != WK_NO_MEMORY) fail("a file has another status", status);
         r->refused++;
     }
-    fail("saving is refused again", 0);
+    fail("a file is refused again", what);
+}
+
+/* Why a line is refused, without its number, which is another one if the line is asked again. */
+static void why(run *r) {
+    static const char line[] = "delete 99999";
+    for (int turn = 0; turn < 2; turn++, r->refused++) {
+        size_t length = 0, copied = 0;
+        uint32_t status = wk_request(&r->handle, (const uint8_t *)line, sizeof line - 1, &length);
+        if (status == WK_OK) status = wk_why(&r->handle, &length);
+        if (status != WK_OK && status != WK_MEMORY) fail("a reason has another status", status);
+        /* There is no text if there was no memory to keep the line. */
+        if (status != WK_OK || !length) continue;
+        if (length > r->room_size || wk_text(&r->handle, r->room, r->room_size, &copied)) fail("no reason", (long)length);
+        uint8_t *colon = memchr(r->room, ':', length);
+        if (!colon) fail("a reason without a number", (long)length);
+        add(r, colon, length - (size_t)(colon - r->room));
+        return;
+    }
+    fail("a reason is refused again", 0);
 }
 
 static void calls(run *r) {
@@ -132,7 +161,8 @@ static void calls(run *r) {
         ask(r, lines[k]);
         frame(r, k % 7);
     }
-    save(r);
+    why(r);
+    for (int what = 0; what < 3; what++) file_of(r, what);
     wk_close(&r->handle);
 }
 
@@ -158,6 +188,80 @@ static void growths(void) {
             return;
         }
     }
+}
+
+/* Memory that ends at a page that may not be touched. */
+typedef struct {
+    uint8_t *whole, *end;
+    size_t size;
+} guarded;
+
+static guarded guarded_of(size_t most) {
+    size_t page = (size_t)sysconf(_SC_PAGESIZE), size = (most + page - 1) / page * page;
+    guarded made = {mmap(NULL, size + page, PROT_READ | PROT_WRITE, MAP_PRIVATE | MAP_ANONYMOUS, -1, 0), NULL, size + page};
+    if (made.whole == MAP_FAILED || mprotect(made.whole + size, page, PROT_NONE)) fail("no guarded memory", 0);
+    made.end = made.whole + size;
+    return made;
+}
+
+/* The room that a plane needs, or a number that no room has if its rows would overlap. */
+static size_t needed(size_t width, size_t height, size_t stride) {
+    return stride < width ? SIZE_MAX : (height - 1) * stride + width;
+}
+
+/* A frame in rooms that are this much larger than needed, or smaller; one plane's alone if it is named. Its samples are those of `wanted`. */
+static void fit(run *r, guarded rooms[3], const wk_shown *size, size_t gaps[2], int plane, long more, uint8_t *const wanted[3]) {
+    wk_shown shown = {.luma_stride = size->width + gaps[0], .chroma_stride = (size->width + 1) / 2 + gaps[1]};
+    size_t widths[3] = {size->width, (size->width + 1) / 2, (size->width + 1) / 2}, heights[3] = {size->height, (size->height + 1) / 2, (size->height + 1) / 2}, sizes[3];
+    bool fits = true;
+    for (int k = 0; k < 3; k++) {
+        size_t stride = k ? shown.chroma_stride : shown.luma_stride, need = needed(widths[k], heights[k], stride);
+        /* With strides under the width no room is large enough. */
+        sizes[k] = need == SIZE_MAX ? widths[k] * heights[k] : (size_t)((long)need + (k == plane ? more : 0));
+        fits = fits && sizes[k] >= need;
+        memset(rooms[k].whole, 0xA5, (size_t)(rooms[k].end - rooms[k].whole));
+    }
+    uint8_t *at[3] = {rooms[0].end - sizes[0], rooms[1].end - sizes[1], rooms[2].end - sizes[2]};
+    uint32_t status = wk_frame(&r->handle, 3, at[0], sizes[0], at[1], sizes[1], at[2], sizes[2], &shown);
+    if (status != (fits ? WK_OK : WK_ROOM)) fail("a room has another status", (long)status);
+    if (shown.width != size->width || shown.height != size->height) fail("another size", shown.width);
+    for (int k = 0; k < 3; k++) {
+        size_t stride = k ? shown.chroma_stride : shown.luma_stride;
+        if (at[k] > rooms[k].whole && at[k][-1] != 0xA5) fail("a byte before a room was written", k);
+        for (size_t i = 0; i < sizes[k]; i++) {
+            bool is_sample = fits && i / stride < heights[k] && i % stride < widths[k];
+            if (at[k][i] != (is_sample ? wanted[k][i / stride * widths[k] + i % stride] : 0xA5)) fail("another byte in a room", (long)i);
+        }
+    }
+}
+
+static void rooms(void) {
+    run r = {.room = NULL};
+    open_run(&r);
+    wk_shown size = {0};
+    if (wk_frame(&r.handle, 3, NULL, 0, NULL, 0, NULL, 0, &size) != WK_ROOM) fail("a frame without room", 0);
+    size_t half = (size.width + 1) / 2, low = (size.height + 1) / 2;
+    uint8_t *wanted[3] = {__real_malloc(size.width * size.height), __real_malloc(half * low), __real_malloc(half * low)};
+    wk_shown shown = {.luma_stride = size.width, .chroma_stride = half};
+    if (wk_frame(&r.handle, 3, wanted[0], size.width * size.height, wanted[1], half * low, wanted[2], half * low, &shown) != WK_OK) fail("a frame with room", 0);
+    guarded made[3];
+    for (int k = 0; k < 3; k++) made[k] = guarded_of((size.width + 8) * (size_t)size.height + 8);
+    static const size_t gaps[] = {(size_t)-1, (size_t)-2, 0, 1, 2, 3, 5};
+    for (size_t luma = 0; luma < sizeof gaps / sizeof *gaps; luma++)
+        for (size_t chroma = 0; chroma < sizeof gaps / sizeof *gaps; chroma++)
+            for (int plane = 0; plane < 3; plane++)
+                for (long more = -4; more <= 4; more++) {
+                    size_t pair[2] = {gaps[luma], gaps[chroma]};
+                    fit(&r, made, &size, pair, plane, more, wanted);
+                }
+    /* Strides whose product with the rows does not fit. */
+    shown.luma_stride = SIZE_MAX;
+    if (wk_frame(&r.handle, 3, wanted[0], size.width * size.height, wanted[1], half * low, wanted[2], half * low, &shown) != WK_ROOM) fail("a stride without end", 0);
+    for (int k = 0; k < 3; k++) {
+        munmap(made[k].whole, made[k].size);
+        free(wanted[k]);
+    }
+    wk_close(&r.handle);
 }
 
 static void fuzz(void) {
@@ -205,7 +309,7 @@ static void threads(void) {
 }
 
 int main(int argc, char **argv) {
-    if (argc != 3) fail("usage: checks growths|fuzz|threads FILE", argc);
+    if (argc != 3) fail("usage: checks growths|rooms|fuzz|threads FILE", argc);
     FILE *opened = fopen(argv[2], "rb");
     if (!opened) fail("cannot open the file", 0);
     fseek(opened, 0, SEEK_END);
@@ -215,6 +319,7 @@ int main(int argc, char **argv) {
     if (fread(file, 1, file_size, opened) != file_size) fail("cannot read the file", 0);
     fclose(opened);
     if (!strcmp(argv[1], "growths")) growths();
+    else if (!strcmp(argv[1], "rooms")) rooms();
     else if (!strcmp(argv[1], "fuzz")) fuzz();
     else threads();
     free(file);

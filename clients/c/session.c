@@ -1,7 +1,8 @@
-/* A session by the library: session OUT STATES SAVE FILE.. answers the request lines of standard input as vp8serve does. Replies go to
- * standard output, the samples of frames to OUT, and the packets of the first file to SAVE; `-` leaves either out. For OUT each frame is asked for
- * several times. Rooms have strides that are wider than their rows and a byte after their end, and what a call must not write is
- * looked at after each call. */
+/* A session by the library: session OUT STATES SAVE EXPORT OPTIONS FILE.. answers the request lines of standard input as vp8serve does. Replies go to
+ * standard output, the samples of frames to OUT, the packets of the first file to SAVE, and the frames of the script as packets to EXPORT; `-` leaves any
+ * out. OPTIONS has p for padded packets, and r for new time stamps in SAVE. If the frames are not exported, a last line of standard error says
+ * why: the status, frame, node, source and packet. For OUT each frame is asked for several times. Rooms have strides that are wider than their rows and a
+ * byte after their end, and what a call must not write is looked at after each call. */
 #include <stdio.h>
 #include <stdlib.h>
 #include <string.h>
@@ -77,6 +78,31 @@ static void write_text(wk_handle *handle, size_t length, FILE *out) {
     free(text);
 }
 
+/* Saves the packets of the first file, and those of a source that is not there. */
+static void save(wk_handle *handle, size_t sources, bool pads, bool restamps, FILE *out) {
+    size_t length = 0, again = 0;
+    if (wk_save_source(handle, sources, pads, restamps, &length) != WK_SOURCE) fail("a source that is not there was saved");
+    for (size_t source = 0; source < sources; source++)
+        if (wk_save_source(handle, source, !pads, !restamps, &length) != WK_OK || length < 32) fail("the packets of a source were not saved");
+    if (wk_save_source(handle, 0, pads, restamps, &length) != WK_OK) fail("the packets were not saved");
+    if (!restamps && (wk_save(handle, pads, &again) != WK_OK || again != length)) fail("the packets were not saved alike");
+    write_text(handle, length, out);
+}
+
+/* Exports the frames of the script, or says why not: the text is as it was then. */
+static void export(wk_handle *handle, bool pads, FILE *out) {
+    size_t before = 0, length = 0;
+    if (wk_request(handle, (const uint8_t *)"count", 5, &before) != WK_OK) fail("count was not answered");
+    wk_unexported why = {0};
+    uint32_t status = wk_export(handle, pads, &length, &why);
+    if (status == WK_OK) {
+        write_text(handle, length, out);
+        return;
+    }
+    if (length != before) fail("the text changed, although nothing was exported");
+    fprintf(stderr, "export %u %llu %llu %llu %llu\n", status, (unsigned long long)why.frame, (unsigned long long)why.node, (unsigned long long)why.source, (unsigned long long)why.packet);
+}
+
 static FILE *opened(const char *path) {
     if (!strcmp(path, "-")) return NULL;
     FILE *file = fopen(path, "wb");
@@ -85,12 +111,13 @@ static FILE *opened(const char *path) {
 }
 
 int main(int argc, char **argv) {
-    if (argc < 5) fail("usage: session OUT STATES SAVE FILE..");
-    FILE *out = opened(argv[1]), *saved = opened(argv[3]);
-    size_t count = (size_t)argc - 4, size = 0, ends[9] = {0}, length = 0;
+    if (argc < 7) fail("usage: session OUT STATES SAVE EXPORT OPTIONS FILE..");
+    FILE *out = opened(argv[1]), *saved = opened(argv[3]), *exported = opened(argv[4]);
+    bool pads = strchr(argv[5], 'p'), restamps = strchr(argv[5], 'r');
+    size_t count = (size_t)argc - 6, size = 0, ends[9] = {0}, length = 0;
     uint8_t *files = NULL;
     for (size_t k = 0; k < count && k < 9; k++) {
-        FILE *file = fopen(argv[4 + k], "rb");
+        FILE *file = fopen(argv[6 + k], "rb");
         if (!file) fail("cannot open a file");
         fseek(file, 0, SEEK_END);
         size_t more = (size_t)ftell(file);
@@ -126,14 +153,23 @@ int main(int argc, char **argv) {
         if (out && !strncmp(line, "frame ", 6)) frame(&handle, strtoull(line + 6, NULL, 10), out);
     }
     if (saved) {
-        if (wk_save(&handle, false, &length) != WK_OK) fail("the packets were not saved");
-        write_text(&handle, length, saved);
+        save(&handle, count, pads, restamps, saved);
         fclose(saved);
+    }
+    if (exported) {
+        export(&handle, pads, exported);
+        fclose(exported);
     }
     if (out) fclose(out);
     free(line);
     wk_close(&handle);
     wk_close(&handle);
-    if (handle.at || wk_request(&handle, (const uint8_t *)"count", 5, &length) != WK_CLOSED) fail("a handle that was closed answers");
+    wk_shown shown = {0};
+    wk_unexported why = {0};
+    uint8_t byte = 0;
+    if (handle.at || wk_request(&handle, (const uint8_t *)"count", 5, &length) != WK_CLOSED || wk_why(&handle, &length) != WK_CLOSED || wk_save(&handle, true, &length) != WK_CLOSED
+        || wk_save_source(&handle, 0, false, false, &length) != WK_CLOSED || wk_export(&handle, false, &length, &why) != WK_CLOSED || wk_text(&handle, &byte, 1, &length) != WK_CLOSED
+        || wk_frame(&handle, 0, &byte, 1, &byte, 1, &byte, 1, &shown) != WK_CLOSED)
+        fail("a handle that was closed answers");
     return 0;
 }

@@ -1,7 +1,7 @@
 /* libwokureti: an edited VP8 stream in the program that opens it.
  *
  * A session is held by a handle. Frames of its current script come as three planes, requests as the lines that `vp8serve --live`
- * takes (docs/requests.md), and the current packets as an IVF file:
+ * takes (docs/requests.md), the current packets as an IVF file, and the frames of the script as one, without coding again:
  *
  *     wk_handle clip = {0};
  *     wk_fault fault = {0};
@@ -56,6 +56,12 @@ typedef struct {
     uint32_t cause;
 } wk_fault;
 
+/* The first frame that wk_export cannot write, counted from 0. With WK_CHANGED the number of the first node of the script that changes
+ * samples of it, counted from 1. With WK_PACKET the source and packet that decoding refuses. */
+typedef struct {
+    uint64_t frame, node, source, packet;
+} wk_unexported;
+
 enum {
     WK_OK = 0,
     WK_ARGUMENT = 1, /* a number is outside its range */
@@ -67,12 +73,18 @@ enum {
     WK_LOST = 7,     /* out of memory for a reply; the line may have been answered */
     /* refusals, as the words of replies */
     WK_LINE = 16, WK_SOURCE, WK_PLACE, WK_FULL, WK_SPENT, WK_SIZE, WK_TOO_LARGE, WK_NO_SUCH_FRAME, WK_PACKET, WK_CROP_OUTSIDE,
-    WK_SIZE_DIFFERS, WK_SYNTAX, WK_NODES, WK_REFERENCE, WK_NUMBER, WK_NO_MEMORY, WK_NO_BIT
+    WK_SIZE_DIFFERS, WK_SYNTAX, WK_NODES, WK_REFERENCE, WK_NUMBER, WK_NO_MEMORY, WK_NO_BIT,
+    /* errors of wk_export: the script changes samples of a frame; the last four are about packets and not about a frame */
+    WK_CHANGED = 33,
+    WK_EXPORT_PLACE = 34,    /* a frame has no packet */
+    WK_EXPORT_FULL = 35,     /* more than 1,048,576 packets, or more than 1,073,741,824 bytes */
+    WK_EXPORT_SIZE = 36,     /* no packet repeats a frame of this size */
+    WK_EXPORT_TOO_LARGE = 37 /* a packet that repeats a frame would be too large */
 };
 
 enum { WK_FILE_HEADER = 1, WK_FILE_MAGIC, WK_FILE_FOURCC, WK_FILE_HEADER_LENGTH, WK_FILE_TOO_MANY, WK_FILE_NO_MEMORY };
 
-/* The version of the library: 1100 is 0.11.0, and 10203 is 1.2.3. */
+/* The version of the library: 1200 is 0.12.0, and 10203 is 1.2.3. */
 uint32_t wk_version(void);
 
 /* Opens a session over `sources` IVF files, 1 to 8, which lie one after the other in `files`, each up to its end in `ends`. At most
@@ -100,6 +112,17 @@ uint32_t wk_why(wk_handle *handle, size_t *length);
 /* Makes the IVF file of the current packets of source 0, which is the text of the handle afterwards. With `pads` a byte 00 is
  * added to each packet whose last token partition is empty (players that use libvpx show it then). */
 uint32_t wk_save(wk_handle *handle, bool pads, size_t *length);
+
+/* Makes the IVF file of the current packets of a source, counted from 0, which is the text of the handle afterwards. With `pads` as wk_save. With
+ * `restamps` the packets get new time stamps, without the gaps and jumps of edits: each shown packet stays as long as in its file. The file has
+ * the rate and scale of the source's own file. WK_SOURCE if there is no such source. (Not in 0.11.0.) */
+uint32_t wk_save_source(wk_handle *handle, size_t source, bool pads, bool restamps, size_t *length);
+
+/* Makes the IVF file of the frames of the current script, which is the text of the handle afterwards: as `vp8serve --export` writes it, without
+ * coding again. Decoding it gives exactly these frames. With `pads` as wk_save. A frame that is refused, or that a crop or a fade changes, cannot be
+ * written: its number is in `unexported`, with the number of its refusal as the status, or WK_CHANGED. The text is as it was then. Frames may be decoded for it;
+ * packets and script do not change. (Not in 0.11.0.) */
+uint32_t wk_export(wk_handle *handle, bool pads, size_t *length, wk_unexported *unexported);
 
 /* Copies the text of the handle to the front of a room. With WK_ROOM nothing is written, and `length` is the length of the text. */
 uint32_t wk_text(wk_handle *handle, uint8_t *room, size_t size, size_t *length);

@@ -1,3 +1,4 @@
 pub mod Cut
 pub mod Handles
 pub mod Unboxes
+mod Heads

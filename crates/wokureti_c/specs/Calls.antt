@@ -74,6 +74,7 @@ pub record IsKept (count : ℕ) (asked reply : List ℕ) (kept : RefusedLine) : 
 -- is kept if it was refused
 pub record IsAnswered (old : Engine) (line : List ℕ) (new : Engine) : Type 0 where
   pub serves : Serves old.session.now (asked_by line) None None (Some []) (Some new.text.items) new.session.now
+  pub heads : new.heads ≡ old.heads
   pub number : new.answered ≡ min (old.answered + 1) (2 ^ 64 - 1)
   pub kept : IfSome new.refused (IsKept new.answered line new.text.items)
 
@@ -96,6 +97,11 @@ saved_file padded now = written_text now.head ((if padded then padded_packets_of
 pub record IsSaved (old : Engine) (padded : Bool) (new : Engine) : Type 0 where
   pub rest : new ≡ record old { text = new.text }
   pub text : new.text.items ≡ saved_file padded old.session.now
+
+-- a handle that holds an engine holds it afterwards, with another session at most
+abbrev pub KeepsRest : Option Engine → Option Engine → Type 0
+KeepsRest None new = Unit {0}
+KeepsRest (Some old) new = (session : SessionValue) × (new ≡ Some (record old { session = session }))
 
 -- a handle holds an engine before and after a call, which are related by this
 abbrev pub Over : Option Engine → Option Engine → (Engine → Engine → Type 0) → Type 0

@@ -3,3 +3,5 @@ pub mod Statuses
 pub mod Openings
 pub mod Rooms
 pub mod Calls
+pub mod Exports
+pub mod Saves

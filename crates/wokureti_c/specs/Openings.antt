@@ -1,9 +1,11 @@
 -- How a session is opened over the bytes of files.
-use Rattle.std.specs.Prelude.{◌≡◌, ℕ, Bool, true, false, ◌&&◌, nat_le, List, [], ◌∷◌, length, slice_range, Option, Some, None, Ok, Err}
+use Rattle.std.specs.Prelude.{◌≡◌, ℕ, Bool, true, false, ◌&&◌, nat_le, List, [], ◌∷◌, length, map, slice_range, if◌then◌else◌, Option, Some, None, Ok, Err}
 use Rattle.vp8_tables.specs.Rfc.{rfc_entries}
 use Rattle.vp8_tables.specs.Tables.{entries_of}
 use Rattle.vp8_tables.specs.declared.fault.TableFault.{TableFault}
 use Rattle.vp8_tables.specs.declared.tables.Tables.{Tables}
+use Rattle.stream_files.specs.Ivf.{head_of}
+use Rattle.stream_files.specs.declared.ivf.Head.{Head}
 use Rattle.stream_files.specs.declared.ivf.Ivf.{Ivf}
 use Rattle.stream_files.specs.declared.ivf.IvfFault.{IvfFault}
 use Rattle.frame_session.specs.Answers.{AreIvfs, Means, SourceRefuses}
@@ -36,12 +38,17 @@ abbrev pub AreTables : List ℕ → Tables → Type 0
 AreTables [] tables = tables ≡ rfc_entries
 AreTables (byte ∷ bytes) tables = entries_of (byte ∷ bytes) ≡ Ok tables
 
--- an engine is opened over files: its session has the meaning of no requests over them, and this many states
+-- the head of a file; all fields are 0 if it is too short for them
+abbrev pub head_in : List ℕ → Head
+head_in bytes = if nat_le 24 (length bytes) then head_of bytes else record { width = 0; height = 0; rate = 0; scale = 0 }
+
+-- an engine is opened over files: its session has the meaning of no requests over them, and this many states. Their heads are kept
 pub record IsOpened (files : List (List ℕ)) (states : ℕ) (bytes : List ℕ) (engine : Engine) : Type 0 where
   pub tables : Tables
   pub are : AreTables bytes tables
   pub means : Means tables files [] None None None None engine.session.now
   pub capacity : engine.session.cache.capacity ≡ states
+  pub heads : engine.heads.items ≡ map head_of files
 
 -- why no session is opened: an argument that is not allowed, bytes that are no tables, the first file that is refused, or no memory
 -- for a session over the files

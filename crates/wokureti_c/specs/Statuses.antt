@@ -2,6 +2,8 @@
 use Rattle.std.specs.Prelude.{ℕ, ◌+◌, ◌*◌}
 use Rattle.frame_session.specs.declared.refusal.Refusal.{Refusal}
 use Rattle.frame_session.specs.declared.refusal.Refusal.TheVariants as refusals
+use Rattle.lossless_cuts.specs.declared.faults.CutFault.{CutFault}
+use Rattle.lossless_cuts.specs.declared.faults.CutFault.TheVariants as cuts
 use Rattle.stream_files.specs.declared.ivf.IvfFault.{IvfFault}
 use Rattle.stream_files.specs.declared.ivf.IvfFault.TheVariants as faults
 
@@ -28,6 +30,14 @@ number_of_refusal refusals.Reference = 29
 number_of_refusal refusals.Number = 30
 number_of_refusal refusals.NoMemory = 31
 number_of_refusal refusals.NoBit = 32
+
+-- the number of the error of the packets of an export
+abbrev pub number_of_cut_fault : CutFault → ℕ
+number_of_cut_fault cuts.Place = 34
+number_of_cut_fault cuts.Full = 35
+number_of_cut_fault cuts.Size = 36
+number_of_cut_fault cuts.TooLarge = 37
+number_of_cut_fault cuts.NoMemory = 3
 
 -- the number of the error of a file
 abbrev pub number_of_file_fault : IvfFault → ℕ

@@ -1,4 +1,5 @@
 use frame_session::{Refusal, Session};
+use stream_files::Head;
 
 /// A request line that was refused: its number, counted from 1, and why.
 #[derive(Drop)]
@@ -12,6 +13,8 @@ pub struct RefusedLine {
 #[derive(Drop)]
 pub struct Engine {
     pub session: Session,
+    /// The head of the file of each source.
+    pub heads: Vec<Head>,
     /// The text of the last call that made one: a reply, a file, or a reason.
     pub text: Vec<u8>,
     /// The number of lines that were answered.

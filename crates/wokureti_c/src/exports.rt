@@ -1,26 +1,30 @@
 //! The calls of the library.
-ghost use Rattle.std.specs.Prelude.{◌≡◌, ◌<◌, None, Some, length as count};
-ghost use Rattle.wokureti_c.specs.Calls.{IsAnswered, IsExplained, IsRefused, IsSaved, IsServed, IsTooLarge, Over};
+ghost use Rattle.std.specs.Prelude.{◌≡◌, ◌<◌, None, Some, false, length as count};
+ghost use Rattle.wokureti_c.specs.Calls.{IsAnswered, IsExplained, IsRefused, IsSaved, IsServed, IsTooLarge, KeepsRest, Over};
+ghost use Rattle.wokureti_c.specs.Exports.{IsAfterExport, IsExported, IsRefusedExport};
 ghost use Rattle.wokureti_c.specs.Openings.{IsNotOpened, IsOpened, files_in};
 ghost use Rattle.wokureti_c.specs.Rooms.{with_bytes};
+ghost use Rattle.wokureti_c.specs.Saves.{IsSavedSource, is_source};
 ghost use Rattle.wokureti_c.specs.Statuses.{version_number};
 ghost use Rattle.wokureti_c.specs.declared.engine.Engine.{Engine};
 
 use crate::engine::Engine;
+use crate::exporting::{Unexported, export};
 use crate::frames::{Fault, Shown, show};
 use crate::handle::{Handle, put, take};
-use crate::opening::open;
+use crate::opening::{Opened, open};
 use crate::requests::{answer, explain, save};
 use crate::rooms::copy;
+use crate::saving::save_source;
 use crate::statuses::{CLOSED, MEMORY, OK};
 use std::alloc::Global;
 
-/// The version of the library, 0.11.0: 10,000 times the first number, 100 times the second, and the third.
+/// The version of the library, 0.12.0: 10,000 times the first number, 100 times the second, and the third.
 #[unsafe(no_mangle)]
 pub extern "C" fn wk_version() -> u32
-    ensures { result ≡ version_number 0 11 0 }
+    ensures { result ≡ version_number 0 12 0 }
 {
-    1100
+    1200
 }
 
 /// Ends the session of a handle, if it holds one. The handle holds nothing afterwards.
@@ -50,12 +54,13 @@ pub extern "C" fn wk_open(
     ensures closed { 0 < result → handle.new.held ≡ None }
 {
     wk_close(handle, alloc);
-    let session = match open(alloc, files, ends, states, tables) {
-        Ok(session) => session,
+    let Opened { session, heads } = match open(alloc, files, ends, states, tables) {
+        Ok(opened) => opened,
         Err(fault) => return fault.report(reported),
     };
     let engine = Engine {
         session,
+        heads,
         text: Vec::new(alloc),
         answered: 0,
         refused: None,
@@ -82,6 +87,7 @@ pub extern "C" fn wk_frame(
     ensures served { result ≡ 0 → Over handle.old.held handle.new.held (λ old new. IsServed old.session n shown.old shown.new (record { y = y.old; cb = cb.old; cr = cr.old }) (record { y = y.new; cb = cb.new; cr = cr.new }) new.session) }
     ensures room { result ≡ 5 → Over handle.old.held handle.new.held (λ old new. IsTooLarge old.session n shown.new (record { y = y.old; cb = cb.old; cr = cr.old }) (record { y = y.new; cb = cb.new; cr = cr.new }) new.session) }
     ensures refused { 15 < result → Over handle.old.held handle.new.held (λ old new. IsRefused old.session n result (record { y = y.old; cb = cb.old; cr = cr.old }) (record { y = y.new; cb = cb.new; cr = cr.new }) new.session) }
+    ensures rest { KeepsRest handle.old.held handle.new.held }
     ensures closed { handle.old.held ≡ None → (result ≡ 4) × (handle.new.held ≡ None) }
 {
     let Some(mut engine) = take(handle, alloc) else {
@@ -148,7 +154,56 @@ pub extern "C" fn wk_save(handle: &mut Handle, alloc: Global, pads: bool, length
     status
 }
 
-/// Copies the text that the last request or save left to the front of a room, and reports its length, also where there is
+/// Writes the packets of a source as an IVF file, which is the text of the handle afterwards: padded with `pads` as by `wk_save`, and with
+/// `restamps` with new time stamps, by which each shown packet is shown for as long as in its file.
+#[unsafe(no_mangle)]
+pub extern "C" fn wk_save_source(
+    handle: &mut Handle,
+    alloc: Global,
+    source: usize,
+    pads: bool,
+    restamps: bool,
+    length: &mut usize,
+) -> u32
+    ensures saved { result ≡ 0 → Over handle.old.held handle.new.held (λ old new. IsSavedSource old source pads restamps new × (length.new ≡ count new.text.items)) }
+    ensures absent { result ≡ 17 → Over handle.old.held handle.new.held (λ old new. (is_source old source ≡ false) × (new ≡ old)) }
+    ensures memory { result ≡ 3 → handle.new.held ≡ handle.old.held }
+    ensures closed { handle.old.held ≡ None → (result ≡ 4) × (handle.new.held ≡ None) }
+{
+    let Some(mut engine) = take(handle, alloc) else {
+        return CLOSED;
+    };
+    let status = save_source(alloc, &mut engine, source, pads, restamps);
+    *length = engine.text.len();
+    put(handle, engine);
+    status
+}
+
+/// Writes the frames of the current script as an IVF file, without coding, which is the text of the handle afterwards; with `pads` with
+/// a byte 00 after each packet whose last token partition is empty. If a frame cannot be exported, it is reported why.
+#[unsafe(no_mangle)]
+pub extern "C" fn wk_export(
+    handle: &mut Handle,
+    alloc: Global,
+    pads: bool,
+    length: &mut usize,
+    reported: &mut Unexported,
+) -> u32
+    ensures exported { result ≡ 0 → Over handle.old.held handle.new.held (λ old new. IsExported old pads new × (length.new ≡ count new.text.items)) }
+    ensures refused { 15 < result → Over handle.old.held handle.new.held (λ old new. IsRefusedExport old pads result reported.new new) }
+    ensures memory { result ≡ 3 → Over handle.old.held handle.new.held (λ old new. IsAfterExport old new × (new.text ≡ old.text)) }
+    ensures closed { handle.old.held ≡ None → (result ≡ 4) × (handle.new.held ≡ None) }
+{
+    let Some(mut engine) = take(handle, alloc) else {
+        return CLOSED;
+    };
+    let status = export(alloc, &mut engine, pads, reported);
+    *length = engine.text.len();
+    put(handle, engine);
+    status
+}
+
+/// Copies the text that the last request, save or export left to the front of a room, and reports its length, also where there is
 /// too little room.
 #[unsafe(no_mangle)]
 pub extern "C" fn wk_text(

@@ -1,17 +1,26 @@
 //! A session over the bytes of files.
-ghost use Rattle.std.specs.Prelude.{◌≡◌, ◌≤◌, IfErr, IfOk, IfSome, None, Some, [], Err, false, length};
+ghost use Rattle.std.specs.Prelude.{◌≡◌, ◌≤◌, IfErr, IfOk, IfSome, None, Some, [], Err, false, length, map};
+ghost use Rattle.stream_files.specs.Ivf.{head_of};
 ghost use Rattle.vp8_tables.specs.Tables.{TableEntries, entries_of};
 ghost use Rattle.frame_session.specs.Answers.{Means, texts_of};
-ghost use Rattle.wokureti_c.specs.Openings.{AreTables, OpenRefuses, Reports, are_ends_from, files_in};
+ghost use Rattle.wokureti_c.specs.Openings.{AreTables, OpenRefuses, Reports, are_ends_from, files_in, head_in};
 
 use crate::frames::Fault;
 use crate::statuses::{ARGUMENT, FILE, MEMORY, TABLES, number_of_file_fault};
 use arrayvec::ArrayVec;
+use byteorder::{ByteOrder, LittleEndian};
 use frame_session::{RunFault, Session, run};
 use std::alloc::Global;
 use std::io::sink;
-use stream_files::IvfFault;
+use stream_files::{Head, IvfFault};
 use vp8_tables::{TableFault, Tables};
+
+/// A session, and the head of the file of each source.
+#[derive(Drop)]
+pub struct Opened {
+    pub session: Session,
+    pub heads: Vec<Head>,
+}
 
 /// Why no session is opened.
 #[derive(Clone, Copy)]
@@ -75,6 +84,39 @@ fn files_in<'a>(bytes: &'a [u8], ends: &[usize]) -> Option<ArrayVec<&'a [u8], 8>
     Some(files)
 }
 
+/// The head of a file; all fields are 0 if it is too short for them.
+fn head_in(bytes: &[u8]) -> Head
+    ensures { result ≡ head_in bytes.now }
+{
+    if bytes.len() < 24 {
+        return Head {
+            width: 0,
+            height: 0,
+            rate: 0,
+            scale: 0,
+        };
+    }
+    Head {
+        width: LittleEndian::read_u16(&bytes[12..]),
+        height: LittleEndian::read_u16(&bytes[14..]),
+        rate: LittleEndian::read_u32(&bytes[16..]),
+        scale: LittleEndian::read_u32(&bytes[20..]),
+    }
+}
+
+/// The heads of files, if there is memory for them.
+fn heads_in(alloc: Global, files: &[&[u8]]) -> Option<Vec<Head>>
+    ensures { IfSome result (λ heads. heads.items ≡ map head_in (texts_of files.now)) }
+{
+    let mut heads = Vec::new(alloc);
+    for file in files {
+        let Ok(()) = heads.push(head_in(file)) else {
+            return None;
+        };
+    }
+    Some(heads)
+}
+
 /// A session over files that lie one after the other, with no request answered.
 pub fn open(
     alloc: Global,
@@ -82,9 +124,10 @@ pub fn open(
     ends: &[usize],
     states: u16,
     tables: &[u8],
-) -> Result<Session, OpenFault>
-    ensures opened { IfOk result (λ session. (entries : TableEntries) × AreTables tables.now entries × Means entries (files_in bytes.now ends.now) [] None None None None session.now) }
-    ensures capacity { IfOk result (λ session. session.cache.capacity ≡ states) }
+) -> Result<Opened, OpenFault>
+    ensures opened { IfOk result (λ opened. (entries : TableEntries) × AreTables tables.now entries × Means entries (files_in bytes.now ends.now) [] None None None None opened.session.now) }
+    ensures capacity { IfOk result (λ opened. opened.session.cache.capacity ≡ states) }
+    ensures heads { IfOk result (λ opened. opened.heads.items ≡ map head_of (files_in bytes.now ends.now)) }
     ensures refused { IfErr result (OpenRefuses bytes.now ends.now states tables.now) }
 {
     if ends.is_empty() || ends.len() > 8 || states == 0 || states > 4096 {
@@ -94,7 +137,7 @@ pub fn open(
     let Some(files) = files_in(bytes, ends) else {
         return Err(OpenFault::Argument);
     };
-    match run(
+    let session = match run(
         alloc,
         tables,
         states,
@@ -103,8 +146,12 @@ pub fn open(
         &mut sink(),
         &mut sink(),
     ) {
-        Ok(session) => Ok(session),
-        Err(RunFault::Ivf { source, fault }) => Err(OpenFault::File { source, fault }),
-        Err(_) => Err(OpenFault::Memory),
+        Ok(session) => session,
+        Err(RunFault::Ivf { source, fault }) => return Err(OpenFault::File { source, fault }),
+        Err(_) => return Err(OpenFault::Memory),
+    };
+    match heads_in(alloc, files.as_slice()) {
+        Some(heads) => Ok(Opened { session, heads }),
+        None => Err(OpenFault::Memory),
     }
 }

@@ -1,8 +1,8 @@
 //! The numbers that calls return.
 ghost use Rattle.std.specs.Prelude.{◌≡◌};
-ghost use Rattle.wokureti_c.specs.Statuses.{number_of_file_fault, number_of_refusal};
+ghost use Rattle.wokureti_c.specs.Statuses.{number_of_cut_fault, number_of_file_fault, number_of_refusal};
 
-use frame_session::Refusal;
+use frame_session::{CutFault, Refusal};
 use stream_files::IvfFault;
 
 /// The call did what it says.
@@ -29,7 +29,16 @@ pub const TABLES: u32 = 6;
 /// Out of memory for a reply: the line may have been answered.
 pub const LOST: u32 = 7;
 
-/// The number of a refusal, 16 or above.
+/// There is no source with this number.
+pub const SOURCE: u32 = 17;
+
+/// The script changes samples of a frame that is exported.
+pub const CHANGED: u32 = 33;
+
+/// An export would have more than 1,048,576 packets, or more than 1,073,741,824 bytes.
+pub const EXPORT_FULL: u32 = 35;
+
+/// The number of a refusal, 16 to 32.
 pub fn number_of_refusal(refusal: Refusal) -> u32
     ensures { result ≡ number_of_refusal refusal }
 {
@@ -51,6 +60,19 @@ pub fn number_of_refusal(refusal: Refusal) -> u32
         Refusal::Number => 30,
         Refusal::NoMemory => 31,
         Refusal::NoBit => 32,
+    }
+}
+
+/// The number of the error of the packets of an export: 34 to 37, or out of memory.
+pub fn number_of_cut_fault(fault: CutFault) -> u32
+    ensures { result ≡ number_of_cut_fault fault }
+{
+    match fault {
+        CutFault::Place => 34,
+        CutFault::Full => EXPORT_FULL,
+        CutFault::Size => 36,
+        CutFault::TooLarge => 37,
+        CutFault::NoMemory => MEMORY,
     }
 }
 

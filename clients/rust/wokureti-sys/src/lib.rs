@@ -30,6 +30,16 @@ pub struct wk_fault {
     pub cause: u32,
 }
 
+/// The first frame that is not exported, and why.
+#[repr(C)]
+#[derive(Clone, Copy, Debug, Default, PartialEq, Eq)]
+pub struct wk_unexported {
+    pub frame: u64,
+    pub node: u64,
+    pub source: u64,
+    pub packet: u64,
+}
+
 pub const WK_OK: u32 = 0;
 pub const WK_ARGUMENT: u32 = 1;
 pub const WK_FILE: u32 = 2;
@@ -40,7 +50,16 @@ pub const WK_TABLES: u32 = 6;
 pub const WK_LOST: u32 = 7;
 /// The first number of a refusal.
 pub const WK_LINE: u32 = 16;
+pub const WK_SOURCE: u32 = 17;
 pub const WK_PACKET: u32 = 24;
+pub const WK_NO_MEMORY: u32 = 31;
+/// The last number of a refusal.
+pub const WK_NO_BIT: u32 = 32;
+pub const WK_CHANGED: u32 = 33;
+pub const WK_EXPORT_PLACE: u32 = 34;
+pub const WK_EXPORT_FULL: u32 = 35;
+pub const WK_EXPORT_SIZE: u32 = 36;
+pub const WK_EXPORT_TOO_LARGE: u32 = 37;
 
 extern "C" {
     pub fn wk_version() -> u32;
@@ -70,5 +89,7 @@ extern "C" {
     pub fn wk_request(handle: *mut wk_handle, line: *const u8, size: usize, length: *mut usize) -> u32;
     pub fn wk_why(handle: *mut wk_handle, length: *mut usize) -> u32;
     pub fn wk_save(handle: *mut wk_handle, pads: bool, length: *mut usize) -> u32;
+    pub fn wk_save_source(handle: *mut wk_handle, source: usize, pads: bool, restamps: bool, length: *mut usize) -> u32;
+    pub fn wk_export(handle: *mut wk_handle, pads: bool, length: *mut usize, unexported: *mut wk_unexported) -> u32;
     pub fn wk_text(handle: *mut wk_handle, room: *mut u8, size: usize, length: *mut usize) -> u32;
 }

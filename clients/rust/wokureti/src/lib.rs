@@ -26,6 +26,16 @@ pub enum Fault {
     Memory,
     /// The request was refused, for this reason: the words after `refused` in the reply.
     Refused(String),
+    /// There is no source with this number.
+    Source,
+    /// The frames are not exported: this node of the script, counted from 1, is the first that changes samples of this frame.
+    Changed { frame: u64, node: u64 },
+    /// The frames are not exported: a request for this frame is refused, for this reason.
+    Unserved { frame: u64, why: String },
+    /// The frames are not exported: there would be more than 1,048,576 packets or 1,073,741,824 bytes.
+    Full,
+    /// The frames are not exported: no packet repeats a frame of this size.
+    NoHold,
 }
 
 impl fmt::Display for Fault {
@@ -35,6 +45,11 @@ impl fmt::Display for Fault {
             Fault::File { source, cause } => write!(f, "source {source} is not an IVF file of VP8 (cause {cause})"),
             Fault::Memory => write!(f, "out of memory"),
             Fault::Refused(why) => write!(f, "refused {why}"),
+            Fault::Source => write!(f, "there is no source with this number"),
+            Fault::Changed { frame, node } => write!(f, "frame {frame} is changed by node {node}"),
+            Fault::Unserved { frame, why } => write!(f, "frame {frame} is refused: {why}"),
+            Fault::Full => write!(f, "too many packets"),
+            Fault::NoHold => write!(f, "no packet repeats a frame of this size"),
         }
     }
 }
@@ -162,6 +177,41 @@ impl Session {
         match unsafe { sys::wk_save(&mut *self.handle, pads, &mut length) } {
             sys::WK_OK => Ok(self.text(length)),
             _ => Err(Fault::Memory),
+        }
+    }
+
+    /// The current packets of a source as an IVF file; with `pads` as by `save`, with `restamps` with new time stamps, by which each shown packet stays as
+    /// long as in its file.
+    pub fn save_source(&mut self, source: usize, pads: bool, restamps: bool) -> Result<Vec<u8>, Fault> {
+        let mut length = 0;
+        // SAFETY: the handle is this session's own.
+        match unsafe { sys::wk_save_source(&mut *self.handle, source, pads, restamps, &mut length) } {
+            sys::WK_OK => Ok(self.text(length)),
+            sys::WK_SOURCE => Err(Fault::Source),
+            _ => Err(Fault::Memory),
+        }
+    }
+
+    /// The frames of the current script as an IVF file, without coding again: decoding it gives exactly these frames. With `pads` as by `save`.
+    pub fn export(&mut self, pads: bool) -> Result<Vec<u8>, Fault> {
+        let mut length = 0;
+        let mut found = sys::wk_unexported::default();
+        // SAFETY: the handle is this session's own.
+        let status = unsafe { sys::wk_export(&mut *self.handle, pads, &mut length, &mut found) };
+        match status {
+            sys::WK_OK => Ok(self.text(length)),
+            sys::WK_MEMORY | sys::WK_NO_MEMORY => Err(Fault::Memory),
+            sys::WK_CHANGED => Err(Fault::Changed {
+                frame: found.frame,
+                node: found.node,
+            }),
+            sys::WK_EXPORT_FULL => Err(Fault::Full),
+            sys::WK_EXPORT_PLACE..=sys::WK_EXPORT_TOO_LARGE => Err(Fault::NoHold),
+            // The reply names the cause.
+            _ => Err(match self.request(&format!("frame {}", found.frame)) {
+                Err(Fault::Refused(why)) => Fault::Unserved { frame: found.frame, why },
+                _ => Fault::Memory,
+            }),
         }
     }
 

@@ -39,6 +39,37 @@ fn the_saved_file_is_the_stream() {
 }
 
 #[test]
+fn each_source_is_saved() {
+    let (small, odd) = (clip("small.ivf"), clip("odd-size.ivf"));
+    let mut session = Session::open(&[&small, &odd], 2).expect("two IVF files");
+    assert_eq!(session.save_source(0, true, false), session.save(true));
+    let saved = session.save_source(1, false, false).expect("memory");
+    assert_eq!(saved.len(), odd.len());
+    // The size, the rate and the scale are those of its own file.
+    assert_eq!(saved[8..24], odd[8..24]);
+    assert_eq!(session.save_source(2, false, true), Err(Fault::Source));
+}
+
+#[test]
+fn an_export_has_the_frames_of_the_script() {
+    let file = clip("small.ivf");
+    let mut session = Session::open(&[&file], 32).expect("an IVF file");
+    session.request("script trim 0 3 4").expect("a script");
+    let wanted: Vec<Frame> = (0..4).map(|n| session.frame(n).expect("a frame")).collect();
+    let export = session.export(false).expect("an export");
+    let mut again = Session::open(&[&export], 32).expect("an IVF file");
+    assert_eq!(again.request("count").expect("a reply").split(' ').last(), Some("4"));
+    let frames: Vec<Frame> = (0..4).map(|n| again.frame(n).expect("a frame")).collect();
+    assert_eq!(frames, wanted);
+    session.request("script fade 0 2 4 256 0").expect("a script");
+    assert_eq!(session.export(false), Err(Fault::Changed { frame: 3, node: 1 }));
+    session.request("script -").expect("a script");
+    session.request("replace 5 1100").expect("a packet");
+    let why = "packet 5 ShortPacket".to_owned();
+    assert_eq!(session.export(true), Err(Fault::Unserved { frame: 5, why }));
+}
+
+#[test]
 fn refusals_have_their_words() {
     let file = clip("small.ivf");
     let mut session = Session::open(&[&file, &file], 2).expect("two IVF files");

@@ -10,4 +10,4 @@ returns-in_default-clause-refused c failed =
 pub returns-clause-opened : goal.returns-clause-opened
 returns-clause-opened c opened =
     let found = c.in-Ok.ensures.opened in
-    (_, c.put.ensures, record { tables = found.0; are = found.1; means = first_of (search rules, cc); capacity = first_of (search rules, cc) })
+    (_, c.put.ensures, record { tables = found.0; are = found.1; means = first_of (search rules, cc); capacity = first_of (search rules, cc); heads = first_of (search rules, cc) })

@@ -1,0 +1,100 @@
+//! The frames of the script as a file.
+ghost use Rattle.std.specs.Prelude.{◌≡◌, ◌<◌, ◌≤◌, IfErr, IfOk, IfSome};
+ghost use Rattle.wokureti_c.specs.Exports.{IsAfterExport, IsExportOf, IsExported, IsRefusedExport, IsUnexported, Reports, ReportsRefusal, exported_text};
+
+use crate::engine::Engine;
+use crate::statuses::{CHANGED, EXPORT_FULL, MEMORY, OK, number_of_cut_fault, number_of_refusal};
+use frame_session::{Export, ExportFault, Refusal, Session};
+use std::alloc::Global;
+
+/// The most bytes of a file that is read again.
+const MOST_BYTES: u64 = 1_073_741_824;
+
+/// Why the frames of the script are not exported: the first frame that is not, the number of the first node that changes
+/// samples of it, or the packet that broke its source.
+#[repr(C)]
+#[derive(Drop)]
+pub struct Unexported {
+    pub frame: u64,
+    pub node: u64,
+    pub source: u64,
+    pub packet: u64,
+}
+
+/// The number of a refusal of a frame. Its packet is reported if decoding refuses that.
+fn report_refusal(refusal: Refusal, reported: &mut Unexported) -> u32
+    ensures reported { ReportsRefusal refusal result reported.new }
+    ensures frame { reported.new.frame ≡ reported.old.frame }
+{
+    if let Refusal::Packet { source, place, .. } = refusal {
+        reported.source = source as u64;
+        reported.packet = place as u64;
+    }
+    number_of_refusal(refusal)
+}
+
+/// The number of the error. What is known of the frame is reported.
+fn report(fault: ExportFault, reported: &mut Unexported) -> u32
+    ensures { Reports fault result reported.new }
+{
+    match fault {
+        ExportFault::Frame { frame, refusal } => {
+            reported.frame = frame;
+            report_refusal(refusal, reported)
+        }
+        ExportFault::Changed { frame, node } => {
+            reported.frame = frame;
+            reported.node = node;
+            CHANGED
+        }
+        ExportFault::Packets(fault) => number_of_cut_fault(fault),
+    }
+}
+
+/// The export of the frames of a session, if its file is not too long, or the number of the error.
+fn export_of(session: &mut Session, pads: bool, reported: &mut Unexported) -> Result<Export, u32>
+    ensures file { IfOk result (IsExportOf session.old.now pads) }
+    ensures refused { IfErr result (λ number. IsUnexported session.old.now pads number reported.new) }
+    ensures number { IfErr result (λ number. 0 < number) }
+    ensures after { session.new.now ≡ record session.old.now { decoded = session.new.now.decoded } }
+    ensures rises { session.old.now.decoded ≤ session.new.now.decoded }
+{
+    let export = match session.export() {
+        Ok(export) => export,
+        Err(fault) => return Err(report(fault, reported)),
+    };
+    if export.bytes(pads) > MOST_BYTES {
+        return Err(EXPORT_FULL);
+    }
+    Ok(export)
+}
+
+/// The file of an export, if there is memory for it.
+fn text_of(alloc: Global, export: &Export, pads: bool) -> Option<Vec<u8>>
+    ensures { IfSome result (λ text. text.items ≡ exported_text pads export.now) }
+{
+    let Ok(mut text) = Vec::with_capacity(alloc, export.bytes(pads) as usize) else {
+        return None;
+    };
+    match export.save(&mut text, pads) {
+        Ok(()) => Some(text),
+        Err(_) => None,
+    }
+}
+
+/// Writes the file of the frames of the script, which is the text afterwards: 0, or the number of the error.
+pub fn export(alloc: Global, engine: &mut Engine, pads: bool, reported: &mut Unexported) -> u32
+    ensures exported { result ≡ 0 → IsExported engine.old pads engine.new }
+    ensures refused { 15 < result → IsRefusedExport engine.old pads result reported.new engine.new }
+    ensures memory { result ≡ 3 → IsAfterExport engine.old engine.new × (engine.new.text ≡ engine.old.text) }
+{
+    let export = match export_of(&mut engine.session, pads, reported) {
+        Ok(export) => export,
+        Err(number) => return number,
+    };
+    let Some(text) = text_of(alloc, &export, pads) else {
+        return MEMORY;
+    };
+    engine.text = text;
+    OK
+}
