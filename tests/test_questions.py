@@ -1,7 +1,8 @@
 #!/usr/bin/env python3
-"""Tests the questions `list` and `origins` over random edits of real streams: test_questions.py [LISTS [SEED]]
+"""Tests the questions `list`, `header`, `macroblocks` and `origins` over random edits of real streams: test_questions.py [LISTS [SEED]]
 
-`list` in ranges, put together, is what vp8list --json prints of the file that --save writes at that place. `origins` is what a model says here:
+`list` in ranges, put together, is what vp8list --json prints of the file that --save writes at that place; `header` and `macroblocks` of some packets are what
+it prints of that file with these options. `origins` is what a model says here:
 the script's nodes frame by frame, and the packets that `list` reports as shown. A session without the questions has the same other replies and
 the same frames. It prints what differs and ends with 1, or prints nothing and ends with 0.
 """
@@ -196,7 +197,8 @@ def one_list(dice, folder, streams):
     second, first, origins = ranges(dice, "list", counts[1]), ranges(dice, "list", counts[0]), ranges(dice, "origins", frames)
     looks = [f"frame {dice.randint(0, frames)}" for _ in range(3)]
     plain = ["use 1", "use 0", *looks, "stats", "count", "script"]
-    asked = ["use 1", *second, "use 0", *first, *origins, looks[0], first[0], *looks[1:], origins[0], "stats", "count", "script"]
+    details = [f"{dice.choice(['header', 'macroblocks'])} {dice.randrange(counts[0])}" for _ in range(4 * (counts[0] > 0))]
+    asked = ["use 1", *second, "use 0", *first, *origins, *details, looks[0], first[0], *looks[1:], origins[0], "stats", "count", "script"]
     saved, out = folder / "saved.ivf", folder / "out.y4m"
     lines = "".join(f"{line}\n" for line in [*edits, *asked])
     replies = ran(SERVE, paths[0], "-", out, "--sources", paths[1], "--save", saved, *(["--live"] if dice.random() < 0.5 else []), lines=lines).split("\n")
@@ -209,6 +211,10 @@ def one_list(dice, folder, streams):
     others.append(next(left))
     lists[0] = taken(left, first, "refused Place")
     found = taken(left, origins, "refused NoSuchFrame")
+    for question in details:
+        word, number = question.split()
+        objects = [next(left) for _ in range(int(next(left).removeprefix("lines ")))]
+        expect(objects, ran(LIST, saved, f"--{word}", number, "--json").splitlines(), question)
     rest = [line for line in left if not line.startswith(("lines ", "{", "refused Place", "refused NoSuchFrame"))]
     wanted = [line for line in without[len(others) :] if not line.startswith("refused NoSuchFrame")]
     expect(others + rest, without[: len(others)] + wanted, "another reply")

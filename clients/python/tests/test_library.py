@@ -3,6 +3,7 @@
 import gc
 import os
 import pathlib
+import re
 import subprocess
 import sys
 import threading
@@ -10,8 +11,8 @@ import unittest
 import unittest.mock
 
 import test_session
-from support import CLIP, DATA, SMALL, TOP, Case
-from wokureti import Ended, Refused, Session, library
+from support import CLIP, DATA, ODD, SMALL, TOP, Case, packets_of, write_packets
+from wokureti import Ended, Refused, Session, library, programs
 
 
 @unittest.skipIf(library.find() is None, "libwokureti.so.0 is not built: ./build.py --library makes it")
@@ -21,7 +22,7 @@ class Library(Case):
 
 
 class Requests(Library, test_session.Requests):
-    test_states_are_counted_in_bytes = None
+    pass
 
 
 class Matched(Library, test_session.Matched):
@@ -69,6 +70,30 @@ class Alike(Library):
             session.hold(3)
         self.assertEqual((folder / "ours.ivf").read_bytes(), (folder / "its.ivf").read_bytes())
 
+    def test_files_of_each_source_are_those_of_the_program(self):
+        folder, rates = self.folder(), self.folder() / "rates.ivf"
+        write_packets(rates, packets_of(SMALL), 24)
+        ours, its = (Case.session(self, SMALL, sources=[ODD, rates], engine=engine) for engine in ("library", "program"))
+        for session in (ours, its):
+            for line in ("hold 3", "copy 2 4 1", "use 1", "delete 2", "blank 0 16 16", "use 2", "move 1 5", "hide 2"):
+                session.request(line)
+        for source in range(3):
+            for pad in (False, True):
+                for restamp in (False, True):
+                    for name, session in (("ours", ours), ("its", its)):
+                        session.save(folder / name, pad, source, restamp)
+                    self.assertEqual((folder / "ours").read_bytes(), (folder / "its").read_bytes(), (source, pad, restamp))
+
+    def test_bytes_are_the_states_of_the_program(self):
+        # The program says how many states it caches once as many steps were made.
+        for path in (SMALL, ODD, CLIP):
+            for size in (1 << 20, 3 << 20, 9 << 20):
+                done = subprocess.run([programs.find("vp8serve"), path, "-", "-", "--cache-bytes", str(size), "--explain"], input=b"frame 999\n" + b"".join(b"frame %d\n" % n for n in range(48)), capture_output=True, check=False)
+                found = re.search(rb"cache: (\d+) states", done.stderr)
+                states = library.states_in(path.read_bytes(), size)
+                self.assertEqual(states, int(found[1]) if found else states, path)
+                self.assertTrue(found or states > 11)
+
     def test_reasons_are_those_of_the_program(self):
         ours, its = self.session(explain=True), Case.session(self, SMALL, explain=True)
         for line in ("delete 99999", "blank 0 0 16", "script trim 0", "frame 123456", "nonsense 1", "insert 0 0 zz", "use 3"):
@@ -99,7 +124,7 @@ class Broken(Library):
             Session(SMALL, tables=path, engine="library")
 
     def test_what_it_does_not_take(self):
-        for options in ({"cache_bytes": 1 << 20}, {"engine": "none"}):
+        for options in ({"cache": 3, "cache_bytes": 1 << 20}, {"engine": "none"}):
             with self.assertRaises(ValueError):
                 Session(SMALL, **{"engine": "library", **options})
 

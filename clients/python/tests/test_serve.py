@@ -324,7 +324,7 @@ class Prediction(Case):
                     ]
                 )()
             stream.script(script)
-            outcomes = Outcomes(stream.edits.contents())
+            outcomes = Outcomes(stream)
             self.assertEqual(outcomes.count, stream.count().frames)
             for number in range(outcomes.count):
                 outcome = outcomes.of_frame(number)

@@ -14,7 +14,7 @@ import unittest
 from unittest import mock
 
 from support import CLIP, DATA, ODD, SLOW, SMALL, TOP, Case, digest, frames_of, is_alive, packets_of, process_of
-from wokureti import Count, Ended, Refused, Session, ivf, programs
+from wokureti import Count, Ended, Refused, Session, Unexported, ivf, programs
 from wokureti.frames import FrameReader
 
 # The size of the example, and the MD5 of some of its frames, from `vpxdec --i420`.
@@ -51,6 +51,35 @@ class Requests(Case):
             self.assertEqual(digest(before), digest(after))
             stream.replace(10, packets[10])
             self.assertEqual(digest(stream.frame(12)), FRAMES[12])
+
+    def test_an_export_has_the_frames_of_the_script(self):
+        path = self.folder() / "exported.ivf"
+        with self.session(CLIP) as stream:
+            stream.hold(7)
+            stream.script("trim 0 5 6", "splice 1 0")
+            frames = [stream.frame(number).i420() for number in range(9)]
+            stream.export(path, pad=True)
+        with self.session(path) as exported:
+            self.assertEqual([exported.frame(number).i420() for number in range(9)], frames)
+
+    def test_frames_that_are_not_exported(self):
+        path = self.folder() / "exported.ivf"
+        with self.session(CLIP, sources=[SMALL]) as stream:
+            for script, lines, wanted in (
+                (["fade 0 2 4 256 0"], [], ("frame 3 is changed by node 1", 3, 1, None, None, None)),
+                (["source 1"], ["use 1", "replace 5 1100"], ("frame 5 is refused: source 1 packet 5 ShortPacket", 5, None, 1, 5, "ShortPacket")),
+                (["crop 0 0 0 4096 16"], [], ("frame 0 is refused: CropOutside", 0, None, None, None, None)),
+            ):
+                stream.script(*script)
+                for line in lines:
+                    stream.request(line)
+                with self.assertRaises(Unexported) as caught:
+                    stream.export(path)
+                found = caught.exception
+                self.assertEqual((str(found), found.frame, found.node, found.source, found.packet, found.cause), wanted)
+                self.assertFalse(path.exists())
+            with self.assertRaises(ValueError):
+                stream.export(CLIP)
 
     def test_packets_are_listed_as_they_are_saved(self):
         path = self.folder() / "saved.ivf"

@@ -15,7 +15,7 @@ Each call writes one request line to `vp8serve --live` and waits for its reply. 
 """
 
 from .edits import EditList
-from .errors import Ended, Refused
+from .errors import Ended, Refused, Unexported
 from .frames import Frame
 from .scripts import Script
 from .session import Count, Session
@@ -23,4 +23,4 @@ from .versions import version
 
 __version__ = version()
 
-__all__ = ["Count", "EditList", "Ended", "Frame", "Refused", "Script", "Session"]
+__all__ = ["Count", "EditList", "Ended", "Frame", "Refused", "Script", "Session", "Unexported"]

@@ -302,10 +302,6 @@ class Contents:
             raise IndexError(f"there is no packet {index}: there are {len(stream)}")
         return Held(self, stream[index])
 
-    def facts(self, numbers=None, source=None):
-        """The facts of packets, as vp8list has them."""
-        return self.listed.of_range(self.source(source), numbers)
-
     @property
     def rate(self):
         """Rate and scale of the frames that are served: those of the container that source 0 was in; else those of its header, whose time base may be
@@ -357,12 +353,16 @@ class Contents:
         packets = ((stamp, self.bytes(number)) for stamp, number in zip(stamps, stream))
         return ivf.pieces(self.inputs.all[source].head, len(stream), packets)
 
-    def save(self, path, pad=False, source=0, restamp=False, sound=None, say=say):
-        """Writes the packets of a source as an IVF file; with `restamp` with new time stamps. A file .webm or .mkv always has these, and the sound."""
+    def check_output(self, path):
+        """`ValueError` if a file is one that the session reads or writes."""
         if is_input(path, self.inputs.paths):
             raise ValueError(f"{path!r} is a file of the session: name another one")
         if self.edits_path is not None and checks.is_same_file(path, self.edits_path):
             raise ValueError(f"{path!r} is the list of the edits: name another file")
+
+    def save(self, path, pad=False, source=0, restamp=False, sound=None, say=say):
+        """Writes the packets of a source as an IVF file; with `restamp` with new time stamps. A file .webm or .mkv always has these, and the sound."""
+        self.check_output(path)
         source = self.source(source)
         is_container = muxing.ending_of(path) is not None
         pieces = self.restamped(source) if restamp or is_container else self.pieces(source)

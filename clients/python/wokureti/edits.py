@@ -19,7 +19,7 @@ from .errors import OtherStream, Refused, sentence
 from .files import write_whole
 
 # The requests that are not edits, and the first word of their replies. The reply to an edit begins with `ok`.
-REPLIES = {"frame": "served", "count": "packets", "stats": "decoded", "packet": "packet", "list": "lines", "origins": "lines"}
+REPLIES = {"frame": "served", "count": "packets", "stats": "decoded", "packet": "packet", "list": "lines", "origins": "lines", "header": "lines", "macroblocks": "lines"}
 STEP = re.compile(r"# step (\d{1,9})(?: (.*))?")
 STREAM = re.compile(r"# wokureti: edits of (\d+) packets, (\d+) bytes, sha256 ([0-9a-f]{64})")
 # Characters of the title of a step.

@@ -8,6 +8,8 @@ from typing import Optional
 
 # A reply such as "refused source 2 packet 60 TokenPartition 1".
 _BROKEN = re.compile(r"refused (?:source (\d+) )?packet (\d+) (.+)")
+# What the program says of an export that fails, such as "frame 12 is changed by node 2" or "frame 3 is refused: packet 60 ShortPacket".
+_UNEXPORTED = re.compile(r"frame (\d+) is (?:changed by node (\d+)|refused: (?:(?:source (\d+) )?packet (\d+) (.+)|.+))")
 
 
 class Refused(Exception):
@@ -32,6 +34,30 @@ class Refused(Exception):
             self.source = int(broken.group(1) or 0)
             self.packet = int(broken.group(2))
             self.cause = broken.group(3)
+
+
+class Unexported(Exception):
+    """The frames of the script are not exported; the session is as it was.
+
+    `frame` is the first frame that is not, and `node` the number of the first node of the script that changes samples of it, counted from 1; or `source`,
+    `packet` and `cause` name the packet that cannot be decoded. All are None if there would be too many packets, or if no packet repeats a frame.
+    """
+
+    def __init__(self, text: str) -> None:
+        super().__init__(text)
+        self.frame: Optional[int] = None
+        self.node: Optional[int] = None
+        self.source: Optional[int] = None
+        self.packet: Optional[int] = None
+        self.cause: Optional[str] = None
+        found = _UNEXPORTED.fullmatch(text)
+        if found:
+            self.frame = int(found.group(1))
+            self.node = None if found.group(2) is None else int(found.group(2))
+            if found.group(4) is not None:
+                self.source = int(found.group(3) or 0)
+                self.packet = int(found.group(4))
+                self.cause = found.group(5)
 
 
 class Ended(Exception):

@@ -7,13 +7,15 @@ import subprocess
 import tempfile
 from typing import NamedTuple
 
-from . import checks, excerpts, files, ivf, muxing, programs, times
-from .errors import Ended
+from . import checks, excerpts, files, ivf, muxing, programs, rooms, times
+from .errors import Ended, Unexported
 from .script_runs import origins
 
 # A script has 16 nodes: a part is a trim, and all but the first one are spliced.
 MOST_PARTS, MOST_STREAMS = 8, 8
 MOST_TIME = 3600
+# What the program says if it does not export the frames.
+UNEXPORTED = re.compile(r"frame \d+ is |too many packets|no packet repeats")
 CLOCK = re.compile(r"(?:(?:(\d+):)?(\d+):)?(\d+(?:\.\d*)?)")
 
 
@@ -179,9 +181,25 @@ def export(contents, lines, out, room):
     return told
 
 
-def run(program, inputs, lines, out, pad, tables):
+def export_plain(contents, lines, out, pad):
+    """Writes the frames that a session with these contents and edits serves as an IVF file. `Unexported` if they are not exported."""
+    check_program(contents.program)
+    with rooms.Room() as room:
+        between = os.path.join(room, "exported.ivf")
+        try:
+            run(contents.program, contents.inputs, lines, between, pad, contents.tables, explains=False)
+        except Ended as ended:
+            text = ended.text.removeprefix("vp8serve: ")
+            if ended.status == 1 and UNEXPORTED.match(text):
+                raise Unexported(text) from None
+            raise
+        with open(between, "rb") as file:
+            files.write_whole(out, iter(lambda: file.read(1 << 20), b""))
+
+
+def run(program, inputs, lines, out, pad, tables, explains=True):
     """Runs the program on the edits of a session. `Ended` with what it says if it refuses."""
-    words = [program, inputs.words[0], "-", "-", "--export", out, "--explain", *(["--pad"] if pad else [])]
+    words = [program, inputs.words[0], "-", "-", "--export", out, *(["--explain"] if explains else []), *(["--pad"] if pad else [])]
     words += ["--sources", ":".join(inputs.words[1:])] if len(inputs.words) > 1 else []
     words += ["--tables", checks.path(tables)] if tables is not None else []
     with tempfile.TemporaryFile() as given, tempfile.TemporaryFile() as errors:

@@ -5,7 +5,6 @@ it let it follow. So each packet is listed once, after a key packet, when it is 
 whether they are key, shown or refused is stored, since a stream may have a million.
 """
 
-import json
 import os
 import subprocess
 import tempfile
@@ -134,58 +133,3 @@ class Facts:
             found = dict(zip(listed, self.by_themselves(listed)))
             for number in new:
                 self.add(*found[number]) if number in found else self.add_copy(contents.root(number))
-
-    def of_range(self, source, numbers):
-        """The facts of the packets of a range, of all if it is None, as dictionaries."""
-        self.learn()
-        stream = self.contents.streams[source]
-        numbers = range(len(stream)) if numbers is None else numbers
-        wanted = [number for number in numbers if 0 <= number < len(stream)]
-        if not wanted:
-            return []
-        first, end = min(wanted), max(wanted) + 1
-        begin = first
-        while begin and not self.flags[stream[begin]] & KEY:
-            begin -= 1
-        # Once a key frame's header was accepted, inter frames may follow, and a packet is listed by itself.
-        follows = any(self.flags[number] & (KEY | REFUSED) == KEY for number in stream[: begin + 1])
-        start, lost = (first, self.lost(stream, begin, first)) if follows else (begin, first)
-        key = [(0, self.contents.forge("blank", 1, 1))] if follows else []
-        packets = (*key, *((self.contents.stamp(number), self.contents.bytes(number)) for number in stream[start:end]))
-        lines = list(run_on(self.contents.lister, packets, "--json"))[len(key) :]
-        frames, bytes_before = self.before(stream, start, end)
-        shift = bytes_before[0] - sum(ivf.RECORD.size + len(data) for _, data in key)
-        found = [placed(json.loads(lines[place - start]), place, frames[place - start], shift) for place in wanted]
-        for facts in found:
-            if facts["packet"] < lost:
-                facts["cause"] = "lost"
-        return found
-
-    def lost(self, stream, begin, first):
-        """The end of the packets, starting at `first`, that are lost with a refused one between the key packet `begin` and `first`."""
-        end = first
-        if any(self.flags[number] & REFUSED for number in stream[begin:first]):
-            while end < len(stream) and not self.flags[stream[end]] & KEY:
-                end += 1
-        return end
-
-    def before(self, stream, start, end):
-        """For each packet from `start` to `end` how many shown ones, and how many bytes of records, come before it."""
-        shown = self.flags.translate(bytes(bool(flags & SHOWN) for flags in range(256)))
-        frames, places = array("I"), array("Q")
-        count, place = sum(map(shown.__getitem__, stream[:start])), ivf.RECORD.size * start + self.contents.bytes_of(stream[:start])
-        for number in stream[start:end]:
-            frames.append(count)
-            places.append(place)
-            count += shown[number]
-            place += ivf.RECORD.size + self.contents.size(number)
-        return frames, places
-
-
-def placed(facts, place, frame, shift):
-    """The facts of a packet that is at another index than it was listed at."""
-    facts["packet"] = place
-    facts["frame"] = frame if facts["show"] == "shown" else None
-    if "byte" in facts:
-        facts["byte"] += shift
-    return facts

@@ -1,7 +1,6 @@
 """The files of a mounted stream, as they are at a revision: nothing is written, and each part of a file is made when it is read."""
 
 import bisect
-import json
 import os
 import threading
 import time
@@ -157,7 +156,7 @@ class Revision:
             if name == EDITS:
                 return Text("".join(f"{line}\n" for line in live.session.edits).encode())
             if name == FACTS:
-                return Text("".join(json.dumps(facts) + "\n" for facts in contents.facts(None, 0)).encode())
+                return Text(live.ask(lambda session: session.ask(f"list 0 {len(contents.streams[0])}", 0)).partition("\n")[2].encode() + b"\n" * bool(contents.streams[0]))
             if name in CONTAINERS:
                 return self.container(contents, name)
         if name == CLIP:

@@ -16,9 +16,12 @@ from .frames import MARK, size_of
 from .pipes import Gone, Late, Strange
 
 NAME = "libwokureti.so.0"
-CACHE = 32
+CACHE, MOST_STATES = 32, 4096
 V3 = {"avx2", "bmi1", "bmi2", "f16c", "fma", "abm", "movbe"}
-OK, FILE, ROOM, LOST = 0, 2, 5, 7
+OK, FILE, MEMORY, ROOM, LOST, NO_MEMORY = 0, 2, 3, 5, 7, 31
+# Numbers of `wk_export`: a frame that the script changes, and too many packets.
+CHANGED, FULL = 33, 35
+REFUSALS = range(16, 33)
 FAULTS = {
     1: "a number is outside its range: 1 to 8 files and 1 to 4096 states",
     3: "out of memory",
@@ -46,6 +49,25 @@ class Fault(ctypes.Structure):
     _fields_ = [("source", ctypes.c_uint64), ("cause", ctypes.c_uint32)]
 
 
+class Unwritten(ctypes.Structure):
+    """`wk_unexported` of the header."""
+
+    _fields_ = [("frame", ctypes.c_uint64), ("node", ctypes.c_uint64), ("source", ctypes.c_uint64), ("packet", ctypes.c_uint64)]
+
+
+class NotExported(Exception):
+    """What `wk_export` returned, and what it reported."""
+
+    def __init__(self, status, frame, node):
+        super().__init__(status)
+        self.frame = frame
+        self.is_refused = status in REFUSALS
+        if status == CHANGED:
+            self.text = f"frame {frame} is changed by node {node}"
+        else:
+            self.text = "too many packets" if status == FULL else "no packet repeats a frame of this size"
+
+
 def processors():
     """The processors whose programs run here, the best one first."""
     try:
@@ -65,6 +87,39 @@ def find():
     return next((str(path) for path in places if path.is_file()), None)
 
 
+def plane_bytes(width, height):
+    """The bytes of a plane with its border."""
+    return (width + 64) * (height + 64)
+
+
+def picture_bytes(width, height):
+    """The bytes of a cached picture: its whole macroblocks."""
+    columns, rows = (width + 15) // 16, (height + 15) // 16
+    return plane_bytes(16 * columns, 16 * rows) + 2 * plane_bytes(8 * columns, 8 * rows)
+
+
+def first_key_size(file):
+    """The size of the first key packet of a file that has one, or None."""
+    _, place = ivf.parse_head(file[: ivf.HEAD.size])
+    while place + ivf.RECORD.size <= len(file):
+        size, _ = ivf.RECORD.unpack_from(file, place)
+        start = place + ivf.RECORD.size
+        place = start + size
+        found = ivf.key_size(file[start : start + min(size, 10)]) if size >= 10 and place <= len(file) else None
+        if found:
+            return found
+    return None
+
+
+def states_in(file, size):
+    """The number of states whose pictures take at most so many bytes, as vp8serve counts them: by the first key packet that has a size."""
+    try:
+        found = first_key_size(file)
+    except ivf.NotIvf:
+        found = None
+    return CACHE if found is None else max(1, min(MOST_STATES, size // picture_bytes(*found)))
+
+
 def load(path=None):
     """The library. `OSError` if it is nowhere, or is not one."""
     path = path or find()
@@ -81,7 +136,12 @@ def load(path=None):
         "wk_save": [pointer, ctypes.c_bool, pointer],
         "wk_text": [pointer, pointer, size, pointer],
     }
-    for name, types in calls.items():
+    # Version 0.11.0 has not these.
+    later = {
+        "wk_save_source": [pointer, size, ctypes.c_bool, ctypes.c_bool, pointer],
+        "wk_export": [pointer, ctypes.c_bool, pointer, pointer],
+    }
+    for name, types in (calls | later if hasattr(found, "wk_export") else calls).items():
         call = getattr(found, name)
         call.argtypes, call.restype = types, None if name == "wk_close" else ctypes.c_uint32
     return found
@@ -145,10 +205,24 @@ class Engine:
             return ""
         return self.text().decode(errors="replace").rstrip("\n")
 
-    def saved(self, pads):
-        """The IVF file of the current packets of source 0."""
-        if self.library.wk_save(self.handle, bool(pads), ctypes.byref(self.length)) != OK:
+    def saved(self, pads, source=0, restamps=False):
+        """The IVF file of the current packets of a source."""
+        if source or restamps:
+            status = self.library.wk_save_source(self.handle, source, bool(pads), bool(restamps), ctypes.byref(self.length))
+        else:
+            status = self.library.wk_save(self.handle, bool(pads), ctypes.byref(self.length))
+        if status != OK:
             raise MemoryError("out of memory for the file of the packets")
+        return self.text()
+
+    def exported(self, pads):
+        """The IVF file of the frames of the current script."""
+        found = Unwritten()
+        status = self.library.wk_export(self.handle, bool(pads), ctypes.byref(self.length), ctypes.byref(found))
+        if status in (MEMORY, NO_MEMORY):
+            raise MemoryError("out of memory for the file of the frames")
+        if status != OK:
+            raise NotExported(status, found.frame, found.node)
         return self.text()
 
     def close(self):
@@ -232,6 +306,19 @@ class Library:
             if picture is not None:
                 self.reader.size = picture[:2]
         return found
+
+    @property
+    def has_files(self):
+        """Whether the library makes the files of all sources, and of the frames. Version 0.11.0 does not."""
+        return hasattr(self.engine.library, "wk_export")
+
+    def saved(self, pads, source, restamps, deadline):
+        """The IVF file of the current packets of a source."""
+        return self.call(lambda: self.engine.saved(pads, source, restamps), deadline)
+
+    def exported(self, pads, deadline):
+        """The IVF file of the frames of the current script."""
+        return self.call(lambda: self.engine.exported(pads), deadline)
 
     def explanation(self, number):
         """The text that explains the refusal of request line `number`; those of earlier lines are dropped."""

@@ -229,6 +229,10 @@ class Live:
 
         return self.ask(view)
 
+    def details(self, word, source, packet):
+        """What `header` or `macroblocks` reports of a packet of a source now, line by line."""
+        return self.ask(lambda session: session.ask(f"{word} {packet}", source)).encode().split(b"\n")[1:]
+
     def ask(self, function):
         """What a function returns of the session. If the program ended, it is started again, and asked again once."""
         with self.lock:
@@ -277,7 +281,7 @@ class Live:
         """The revision, and the outcomes of its frames."""
         with self.lock:
             if self.known[0] != self.revision:
-                self.known = (self.revision, Outcomes(self.contents()))
+                self.known = (self.revision, self.ask(Outcomes))
             return self.known
 
     def rate(self):

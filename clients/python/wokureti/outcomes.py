@@ -14,13 +14,14 @@ class TooMany(Exception):
     """The script makes too many runs."""
 
 
-def of_source(contents, source):
+def of_source(session, source):
     """The runs of the shown packets of a source."""
+    contents = session.edits.contents()
     facts = contents.listed
     facts.learn()
     stream = contents.streams[source]
     flags, name = facts.flags, f"source {source} " if source else ""
-    early = causes_before_first(contents, source)
+    early = causes_before_first(session, source)
     runs, outcome, count = [], None, 0
     for place, number in enumerate(stream):
         flag = flags[number]
@@ -39,12 +40,9 @@ def of_source(contents, source):
     return runs
 
 
-def causes_before_first(contents, source):
+def causes_before_first(session, source):
     """The cause against the first packet, if it is no key packet: an inter frame needs a key frame."""
-    stream = contents.streams[source]
-    if not stream or contents.listed.flags[stream[0]] & KEY:
-        return {}
-    return {0: contents.listed.of_range(source, range(1))[0]["cause"]}
+    return {packet["packet"]: packet["cause"] for packet in session.packets(range(1), source) if packet["kind"] != "key"}
 
 
 def trimmed(runs, first, count):
@@ -68,12 +66,12 @@ def cropped(outcome, x, y, width, height):
     return (width, height) if x + width <= outcome[0] and y + height <= outcome[1] else "CropOutside"
 
 
-def of_node(contents, nodes, words):
+def of_node(session, nodes, words):
     """The runs of a node, given those of the nodes before it."""
     word, *numbers = words
     numbers = [int(number) for number in numbers]
     if word == "source":
-        return of_source(contents, numbers[0])
+        return of_source(session, numbers[0])
     runs = nodes[numbers[0]]
     if word == "trim":
         return trimmed(runs, *numbers[1:])
@@ -84,12 +82,12 @@ def of_node(contents, nodes, words):
     return runs
 
 
-def of_script(contents):
+def of_script(session):
     """The runs of the frames that are served."""
-    nodes = [of_source(contents, 0)]
-    if contents.script != "-":
-        for text in contents.script.split(";"):
-            nodes.append(of_node(contents, nodes, text.split()))
+    nodes, script = [of_source(session, 0)], session.edits.contents().script
+    if script != "-":
+        for text in script.split(";"):
+            nodes.append(of_node(session, nodes, text.split()))
             if len(nodes[-1]) > MOST_RUNS:
                 raise TooMany
     return nodes[-1]
@@ -98,8 +96,8 @@ def of_script(contents):
 class Outcomes:
     """The outcomes of all frames, for finding that of one of them."""
 
-    def __init__(self, contents):
-        self.runs = of_script(contents)
+    def __init__(self, session):
+        self.runs = of_script(session)
         self.ends, end = [], 0
         for count, _ in self.runs:
             end += count

@@ -368,32 +368,34 @@ class PageRoutes(Routes):
                 self.live.run_step(lines, f"{'Move' if members['move'] else 'Copy'} {found.count} packets to {found.first}")
             return as_json({"revision": self.live.revision, "first": found.first, "count": found.count, "deleted": found.deleted, "made": len(lines)})
 
-    def lines_of(self, request, option):
-        """The view, and what vp8list says of a packet: lines, and members that say why there are none."""
+    def lines_of(self, request, word):
+        """What `header` or `macroblocks` reports of a packet: lines, and members that say why there are none."""
         self.only(request, "packet", "source")
-        view = self.live.current_view()
-        source = self.source_of(request, view)
-        packet = self.number(request, "packet", 0)
-        if packet >= len(view.streams[source]):
-            raise Refuse(404, "there is no such packet")
+        with self.live.lock:
+            view = self.live.current_view()
+            source = self.source_of(request, view)
+            packet = self.number(request, "packet", 0)
+            if packet >= len(view.streams[source]):
+                raise Refuse(404, "there is no such packet")
+            lines = self.live.details(word, source, packet)
         members = {"revision": view.revision, "source": source, "packet": packet, "refused": None, "repeats": False}
         try:
-            return records.of_packet(view.contents, view.streams[source], packet, option), members
+            return records.checked(lines), members
         except records.Refused as refused:
             return [], {**members, "refused": {"packet": refused.packet, "cause": refused.cause}}
         except records.NoBytes:
             return [], {**members, "repeats": True}
 
     def macroblocks(self, request):
-        """The macroblocks of a packet, in raster order, as objects of `vp8list --macroblocks --json`."""
-        lines, members = self.lines_of(request, "--macroblocks")
+        """The macroblocks of a packet, in raster order, as objects of the question `macroblocks`."""
+        lines, members = self.lines_of(request, "macroblocks")
         # Thousands of lines that are JSON are not read here to be written again.
         text = json.dumps(members).encode()[:-1] + b', "macroblocks": [' + b",".join(lines) + b"]}\n"
         return Response(200, "application/json", text)
 
     def header(self, request):
         """The header of a packet: its fields, and the probabilities that it changes."""
-        lines, members = self.lines_of(request, "--header")
+        lines, members = self.lines_of(request, "header")
         return as_json({**members, **(records.header(lines) if lines else {"fields": None, "changes": []})})
 
     def check_of(self, request):

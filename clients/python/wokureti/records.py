@@ -1,9 +1,8 @@
-"""What vp8list says of the macroblocks and of the header of a packet: it reads the packets from the key packet before it on."""
+"""What vp8list says of the macroblocks and of the header of a packet, and vp8serve of one of a session."""
 
 import json
-import os
 
-from . import checks, facts, ivf, rooms
+from . import checks, facts
 
 
 class Refused(Exception):
@@ -32,29 +31,6 @@ def checked(lines):
     if members.get("repeats"):
         raise NoBytes
     return lines
-
-
-def of_packet(contents, stream, packet, option):
-    """The lines of a packet of a session. The index in them, and that of a refused packet, is the packet's in the stream."""
-    first = contents.group_start(stream, packet)
-    with rooms.Room() as folder:
-        path = os.path.join(folder, "packets.ivf")
-        with open(path, "wb") as file:
-            file.write(ivf.EMPTY.text(packet + 1 - first))
-            file.writelines(contents.records(stream[first : packet + 1]))
-        try:
-            lines = of_file(contents.lister, path, option, packet - first, contents.tables)
-        except Refused as refused:
-            raise Refused(refused.packet + first, refused.cause) from None
-    return [placed(line, packet - first, packet) for line in lines]
-
-
-def placed(line, index, packet):
-    """A line with the packet's index in the stream in place of that in the file that was listed."""
-    start = b'{"packet":%d,' % index
-    if not line.startswith(start):
-        raise ValueError(f"vp8list wrote {line[:60]!r}")
-    return b'{"packet":%d,%s' % (packet, line[len(start) :])
 
 
 def header(lines):

@@ -180,7 +180,7 @@ class Routes:
             if source >= len(contents.streams):
                 raise Refuse(404, "there is no such source")
             total = len(contents.streams[source])
-            found = contents.facts(range(min(first, total), min(first + count, total)), source)
+            found = self.live.ask(lambda session: session.packets(range(first, first + count), source))
             return as_json({"revision": self.live.revision, "source": source, "count": total, "packets": found})
 
     def findings(self, request):

@@ -9,12 +9,12 @@ import threading
 import time
 from typing import Any, Callable, Iterable, Iterator, NamedTuple, Optional, Union
 
-from . import checks, muxing, programs
+from . import checks, exports, files, muxing, programs
 from .edits import EditList, begins_reply, is_edit, words_of
-from .errors import Ended, Refused
+from .errors import Ended, Refused, Unexported
 from .frames import Frame, frame_of
 from .inputs import Inputs
-from .library import CACHE, Library
+from .library import Library, NotExported, states_in
 from .pipes import Gone, Late, Pipes, Strange
 from .scripts import Script
 
@@ -49,8 +49,8 @@ class Session:
     `timeout` is the number of seconds that a call may take, if it gives none of its own. With `explain` the program says why it refuses
     a request, in `Refused.reason`.
 
-    With `engine="library"` there is no program: the same proved code answers in this process, from `libwokureti.so.0`, without a pipe. It
-    takes no `cache_bytes`, and a call that takes too long is left to its thread, and the session is over.
+    With `engine="library"` there is no program: the same proved code answers in this process, from `libwokureti.so.0`, without a pipe. A
+    call that takes too long is left to its thread, and the session is over.
 
     Threads may share a session: a call waits until the one before it has its reply and its picture. What leaves a call in the middle, as
     an exception of a signal's handler, or a call that takes too long, ends the session, since the reply would be taken for the next
@@ -128,12 +128,12 @@ class Session:
         """The session in this process, over the bytes of the files as they were opened."""
         if engine != "library":
             raise ValueError(f'the engine is {engine!r}, but must be "program" or "library"')
-        if cache_bytes is not None:
-            raise ValueError("the library does not take cache_bytes: use the program")
+        if cache is not None and cache_bytes is not None:
+            raise ValueError("either cache or cache_bytes is given, not both")
         if save is not None:
             checks.outputs(save, [*self._inputs.paths, *([] if tables is None else [tables])], "save")
         files = [item.whole() for item in self._inputs.all]
-        states = CACHE if cache is None else checks.states(cache)
+        states = states_in(files[0], checks.number(MOST_CACHED if cache_bytes is None else cache_bytes)) if cache is None else checks.states(cache)
         try:
             return Library(files, states, b"" if tables is None else pathlib.Path(tables).read_bytes(), None if save is None else checks.path(save), pad, self._explain)
         except Gone as error:
@@ -284,6 +284,18 @@ class Session:
         self._exchange(b"stats", deadline=deadline)
         return Refused(reply, self._pipes.explanation(number))
 
+    def ask(self, question: str, source: Optional[int] = None, timeout: Optional[float] = None) -> str:
+        """The reply to a question about the packets of a source, without its newline. The current source stays as it is, also if the question is refused."""
+        text = checks.line(question)
+        with self._locked(timeout) as deadline:
+            current = self._edits.contents().current
+            there, back = ([], []) if source in (None, current) else ([f"use {checks.number(source)}".encode()], [f"use {current}".encode()])
+            replies = [reply for reply, _ in self._exchange(*there, text, *back, deadline=deadline)]
+            reply = replies[len(there)]
+            if reply.startswith("refused "):
+                raise self._refused(reply, self._lines - len(back), deadline)
+            return reply
+
     def _number(self, line, timeout=None):
         return int(self.request(line, timeout).split()[1])
 
@@ -408,6 +420,16 @@ class Session:
         the packet, and the numbers of the nodes that change its samples."""
         return objects_of(self.request(f"origins {checks.number(first)} {checks.number(count)}", timeout))
 
+    def packet_header(self, index: int, timeout: Optional[float] = None) -> list[dict[str, Any]]:
+        """The header of a packet of the current source, as `vp8list --header --json` has it of the file that the packets are saved to: a dictionary of its
+        fields, and one for each probability that it changes. Of a packet that decoding refuses one dictionary with `refused` and `cause`, of one
+        of no bytes one with `repeats`."""
+        return objects_of(self.request(f"header {checks.number(index)}", timeout))
+
+    def macroblocks(self, index: int, timeout: Optional[float] = None) -> list[dict[str, Any]]:
+        """The macroblocks of a packet of the current source, as `vp8list --macroblocks --json` has them: a dictionary for each, or one as `packet_header` has it."""
+        return objects_of(self.request(f"macroblocks {checks.number(index)}", timeout))
+
     def packet(self, index: int, source: Optional[int] = None) -> bytes:
         """The bytes of a packet of the current source, or of another one."""
         with self._locked(None):
@@ -460,8 +482,49 @@ class Session:
 
         If the path ends in `.webm` or `.mkv`, the time stamps are new ones, and the sound of the files is cut with the packets: `sound` is `copy`,
         `encode` or `none`; without it packets of sound are copied where that is exact, else coded again. `ValueError` if it cannot be done."""
-        with self._locked(None):
-            self._edits.contents().save(path, pad, source, restamp, sound)
+        with self._locked(None) as deadline:
+            contents = self._edits.contents()
+            number = contents.source(source)
+            if self._makes_files() and muxing.ending_of(path) is None and self._inputs.all[number].media is None:
+                contents.check_output(path)
+                files.write_whole(path, [self._file(lambda: self._pipes.saved(pad, number, restamp, deadline))])
+            else:
+                contents.save(path, pad, number, restamp, sound)
+
+    def export(self, path: AnyPath, pad: bool = False, timeout: Optional[float] = None) -> None:
+        """Writes the frames of the current script as an IVF file now, as `vp8serve --export` does: without coding again. `Unexported` if a frame is
+        refused, or if the script changes samples of one. With `pad` players that use libvpx show packets that repeat a frame."""
+        with self._locked(timeout) as deadline:
+            contents = self._edits.contents()
+            contents.check_output(path)
+            if self._makes_files():
+                files.write_whole(path, [self._exported(pad, deadline)])
+            else:
+                exports.export_plain(contents, list(self._edits), path, pad)
+
+    def _makes_files(self):
+        """Whether the engine makes the files of packets and of frames."""
+        return not self._ended and isinstance(self._pipes, Library) and self._pipes.has_files
+
+    def _file(self, call):
+        """The file that a call of the library makes."""
+        try:
+            return call()
+        except Late:
+            self._end("a file was not made in time, so the session was ended")
+            raise self._error() from None
+
+    def _exported(self, pad, deadline):
+        """The file of the frames, by the library."""
+        try:
+            return self._file(lambda: self._pipes.exported(pad, deadline))
+        except NotExported as error:
+            text = error.text
+            if error.is_refused:
+                # The reply names the cause.
+                [(reply, _)] = self._exchange(b"frame %d" % error.frame, deadline=deadline)
+                text = f"frame {error.frame} is refused: {reply.removeprefix('refused ')}"
+            raise Unexported(text) from None
 
 
 class _Turn:
