@@ -95,3 +95,19 @@ u128 __multi3(u128 a, u128 b) {
     u64 high = s + (q >> 32) + (r >> 32) + (middle >> 32) + (u64)(a >> 64) * y + x * (u64)(b >> 64);
     return (u128)high << 64 | (middle << 32 | (p & low));
 }
+
+/* The quotient, bit by bit where a half of 64 bits does not hold both: a number of 128 bits is divided only to be written in decimal. */
+u128 __udivti3(u128 a, u128 b) {
+    if (!(u64)(a >> 64) && !(u64)(b >> 64)) return (u64)a / (u64)b;
+    u128 quotient = 0, rest = 0;
+    for (int bit = 0; bit < 128; bit++) {
+        rest = rest << 1 | (u64)(a >> 127);
+        a <<= 1;
+        quotient <<= 1;
+        if (rest >= b) {
+            rest -= b;
+            quotient |= 1;
+        }
+    }
+    return quotient;
+}
