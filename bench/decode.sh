@@ -34,7 +34,7 @@ make_clip partitions-8-720p "$(zoom 1280x720)" 300 2500 --token-parts=3
 # For x86-64-v2, and for what build.py builds for on this machine, which comes last, so that bin/ has it. If WOKURETI_CPU names a
 # processor, only for that one.
 build
-own=$(PYTHONPATH="$top" python3 -c 'import build; print(build.cpu_of([]))')
+own=$(PYTHONPATH="$top" python3 -c 'import build; print(build.processor(""))')
 levels=$own
 [ -n "${WOKURETI_CPU:-}" ] || [ "$own" = x86-64-v2 ] || levels="x86-64-v2 $own"
 for level in $levels; do

@@ -10,7 +10,7 @@ cat > "$room/crates/token_times/src/lib.rt" <<'END'
 #![tactic(auto)]
 
 use bool_coder::Decoder;
-use token_parser::{Tokens, read_macroblock};
+use token_parser::{Rows, Tokens, read_macroblock};
 
 fn mixed(mut sum: u32, tokens: &Tokens) -> u32 {
     for (end, block) in tokens.ends.iter().zip(&tokens.coefficients) {
@@ -26,11 +26,12 @@ pub extern "C" fn proved_tokens(bytes: &[u8], probs: &[u8], macroblocks: u32) ->
     if probs.len() == 1056 {
         probabilities.copy_from_slice(probs);
     }
+    let rows = Rows::of(&probabilities);
     let mut decoder = Decoder::new(bytes);
     let mut tokens = Tokens::new();
     let mut sum = 0;
     for n in 0..macroblocks {
-        read_macroblock(&mut decoder, &probabilities, n % 3 > 0, &mut tokens);
+        read_macroblock(&mut decoder, &rows, n % 3 > 0, &mut tokens);
         sum = mixed(sum, &tokens);
         tokens.clear();
     }

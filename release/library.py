@@ -20,6 +20,27 @@ Libs: -L${{prefix}} -lwokureti
 Cflags: -I${{prefix}}
 """
 
+# find_package(wokureti 0.12 CONFIG) in CMake, with wokureti_DIR or CMAKE_PREFIX_PATH naming the folder.
+CMAKE = """if(NOT TARGET wokureti::wokureti)
+  add_library(wokureti::wokureti SHARED IMPORTED)
+  set_target_properties(wokureti::wokureti PROPERTIES
+    IMPORTED_LOCATION "${{CMAKE_CURRENT_LIST_DIR}}/{shared}"
+    IMPORTED_SONAME "{shared}"
+    INTERFACE_INCLUDE_DIRECTORIES "${{CMAKE_CURRENT_LIST_DIR}}")
+endif()
+"""
+# As Cargo has it: versions 0.x are compatible if x is the same, and none is older than the one that is asked for.
+CMAKE_VERSION = """set(PACKAGE_VERSION "{version}")
+string(REGEX MATCH "^[0-9]+\\.[0-9]+" wokureti_here "${{PACKAGE_VERSION}}")
+string(REGEX MATCH "^[0-9]+\\.[0-9]+" wokureti_asked "${{PACKAGE_FIND_VERSION}}")
+if(wokureti_here STREQUAL wokureti_asked AND NOT PACKAGE_VERSION VERSION_LESS PACKAGE_FIND_VERSION)
+  set(PACKAGE_VERSION_COMPATIBLE TRUE)
+endif()
+if(PACKAGE_VERSION VERSION_EQUAL PACKAGE_FIND_VERSION)
+  set(PACKAGE_VERSION_EXACT TRUE)
+endif()
+"""
+
 
 def in_copy(room, is_proved, say, words):
     """Runs a command in a copy of the library's crate, over the proved crates below it, and returns the copy. If `is_proved`, rt ci has proved these in this
@@ -73,7 +94,7 @@ def shared(room, cpus, is_proved, say):
 
 
 def build(room, folder, cpu, is_proved, say):
-    """Puts the shared library, the archive, the header and the file for pkg-config into a folder."""
+    """Puts the shared library, the archive, the header and the files for pkg-config and CMake into a folder."""
     for program in ("gcc", "ar"):
         if shutil.which(program) is None:
             raise Failed(f"the library is linked with {program}: install gcc and binutils")
@@ -85,11 +106,12 @@ def build(room, folder, cpu, is_proved, say):
     script = f"create {fresh / ARCHIVE}\\naddlib {made}\\naddlib {heap}\\nsave\\nend\\n"
     ran("sh", "-c", f"printf '{script}' | ar -M")
     shutil.copyfile(HEADER, fresh / HEADER.name)
-    (fresh / "wokureti.pc").write_text(PC.format(version=version()), encoding="ascii")
+    for name, text in (("wokureti.pc", PC), ("wokureti-config.cmake", CMAKE), ("wokureti-config-version.cmake", CMAKE_VERSION)):
+        (fresh / name).write_text(text.format(version=version(), shared=SHARED), encoding="ascii")
     folder.mkdir(exist_ok=True)
     for path in fresh.iterdir():
         os.replace(path, folder / path.name)
     name = folder / "libwokureti.so"
     name.unlink(missing_ok=True)
     name.symlink_to(SHARED)
-    say(f"the library is in {folder}: {SHARED}, {ARCHIVE}, {HEADER.name} and wokureti.pc")
+    say(f"the library is in {folder}: {SHARED}, {ARCHIVE}, {HEADER.name}, wokureti.pc and wokureti-config.cmake")

@@ -73,6 +73,8 @@ Requests, a line each; the reply goes to standard output:
   packet N                                            packet STAMP HEX
   list FIRST COUNT                                    lines K, and packets as JSON
   origins FIRST COUNT                                 lines K, and frames as JSON
+  header N                                            lines K, and fields as JSON
+  macroblocks N                                       lines K, and macroblocks as JSON
   count                                               packets K frames F
   stats                                               decoded D (packets so far)
 Packets, frames and sources are numbered from 0; source 0 is IN. Edits and K are
@@ -282,11 +284,11 @@ fn shows_its_version(rt: HostRuntime) {
         &rt,
         "vp8serve --version",
         "frame 0\n",
-        "vp8serve 0.11.0\n",
+        "vp8serve 0.12.0\n",
         "",
         0,
     );
-    expect(&rt, "vp8serve -V", "frame 0\n", "vp8serve 0.11.0\n", "", 0);
+    expect(&rt, "vp8serve -V", "frame 0\n", "vp8serve 0.12.0\n", "", 0);
 }
 
 #[test]
@@ -297,6 +299,6 @@ fn shows_help_of_the_list(rt: HostRuntime) {
 
 #[test]
 fn shows_the_version_of_the_list(rt: HostRuntime) {
-    expect_list(&rt, &["vp8list", "--version"], "vp8list 0.11.0\n");
-    expect_list(&rt, &["vp8list", "-V"], "vp8list 0.11.0\n");
+    expect_list(&rt, &["vp8list", "--version"], "vp8list 0.12.0\n");
+    expect_list(&rt, &["vp8list", "-V"], "vp8list 0.12.0\n");
 }
