@@ -114,7 +114,7 @@ class Broken(Library):
     def test_a_file_that_is_none(self):
         path = self.folder() / "none.ivf"
         path.write_bytes(b"no file of packets, but longer than a header\n")
-        with self.assertRaisesRegex(Ended, "source 1: Magic"):
+        with self.assertRaisesRegex(Ended, "libwokureti: source 1 Magic"):
             Session(SMALL, sources=[path], engine="library")
 
     def test_tables_that_are_none(self):
