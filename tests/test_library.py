@@ -63,7 +63,7 @@ def of_readme(folder):
     start = lines.index("    wk_handle clip = {0};")
     end = next(place for place in range(start, len(lines)) if lines[place] == "    }")
     text = "\n".join(lines[start : end + 1])
-    source, made, clip = folder / "readme.c", folder / "readme", CLIPS / "small.ivf"
+    source, made, clip = folder / "readme.c", folder / "readme", TOP / "examples/mandelbrot.ivf"
     source.write_text(README % text)
     words = ["gcc", "-std=c11", "-O1", "-Wall", "-Wextra", "-Werror", "-I", TOP / "clients/c/include", source, LIBRARY, "-o", made, f"-Wl,-rpath,{LIBRARY.parent}"]
     subprocess.run(list(map(str, words)), check=True, timeout=LIMIT)
@@ -254,7 +254,7 @@ def main():
         session, is_checked = compiled(folder)
         if not is_checked:
             print("skipped: the compiler has no -fsanitize=address")
-        differ += [*refusals(session, folder), *checks(folder), *cmake(folder)]
+        differ += [*refusals(session, folder), *checks(folder), *cmake(folder), *of_readme(folder)]
         for number in range(LISTS):
             differ += compare(chance, session, folder, number)
         for number in range(LIVE_LISTS):
