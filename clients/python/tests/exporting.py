@@ -19,9 +19,19 @@ def run(words, given=None):
     return subprocess.run(words, input=given, capture_output=True, timeout=100, check=False)
 
 
+def origins(script, counts):
+    """The source of each frame of a script of source, trim and splice, and its frame there, for sources of so many frames."""
+    sources = [[(source, frame) for frame in range(count)] for source, count in enumerate(counts)]
+    nodes = [sources[0]]
+    for text in script.split(";") if script != "-" else ():
+        word, *rest = text.split()
+        one, *rest = map(int, rest)
+        nodes.append(sources[one] if word == "source" else nodes[one] + nodes[rest[0]] if word == "splice" else nodes[one][rest[0] : sum(rest)])
+    return nodes[-1]
+
+
 def export(words):
     import exports
-    from wokureti.script_runs import origins
 
     place = words.index("--export")
     out, rest = words[place + 1], [word for word in words[:place] + words[place + 2 :] if word not in ("--explain", "--pad")]
@@ -37,7 +47,7 @@ def export(words):
         if "fade" in script or "crop" in script:
             sys.exit("vp8serve: --export: frame 0: node 1, fade, changes it")
         clips = [exports.Clip(path) for path in (saved, *sources)]
-        targets = [(source, clips[source].shown[first + turn]) for count, source, first in origins(script, [len(clip.shown) for clip in clips]) for turn in range(count)]
+        targets = [(source, clips[source].shown[frame]) for source, frame in origins(script, [len(clip.shown) for clip in clips])]
         packets = exports.exported(clips, targets, exports.hold_packet(clips[0].size, room))
         pathlib.Path(out).write_bytes(exports.ivf(clips[0].head, packets))
 

@@ -10,7 +10,7 @@ import test_containers
 import test_page
 from support import DATA, SMALL, Case, command, packets_of, serve, write_packets
 from test_containers import clip, frames, media, needs_ffmpeg, setUpModule, sound_packets  # noqa: F401
-from wokureti import convert, exports, ivf, opus, programs
+from wokureti import convert, exports, ivf, opened, opus, programs
 
 MS = 10**6
 SCENES = DATA / "scene-cuts.ivf"
@@ -242,8 +242,15 @@ class Scripts(Case):
             "crop 0 0 0 2 2; trim 0 0 5": None,
             "crop 0 0 0 2 2; trim 0 0 5; splice 1 2": (1, "crop 0 0 0 2 2"),
             "source 1; fade 1 0 1 0 0; fade 0 0 1 0 0; splice 3 2": (2, "fade 1 0 1 0 0"),
+            # These change nothing.
+            "fade 0 0 5 256 256; crop 1 0 0 7 5": None,
+            "trim 0 0 3; fade 0 9 1 256 0; splice 2 1": (2, "fade 0 9 1 256 0"),
         }
-        self.assertEqual({script: exports.changing_node(script) for script in cases}, cases)
+        live = opened.Opened({"stream": SMALL, "sources": [SMALL]})
+        self.addCleanup(live.close)
+        for script, wanted in cases.items():
+            live.run(f"script {script}")
+            self.assertEqual(live.current_view().changing(), wanted, script)
 
 
 @needs_ffmpeg

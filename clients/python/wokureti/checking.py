@@ -1,4 +1,4 @@
-"""vp8list --check in the background: its findings as they come, and how far it is."""
+"""vp8list --check in the background: its findings as they come, and how far it is. There is no question for findings yet, so the packets are written to another program."""
 
 import contextlib
 import json

@@ -3,6 +3,8 @@
 import operator
 import os
 
+from . import lines
+
 MOST = (1 << 64) - 1
 MOST_STATES = 4096
 
@@ -55,6 +57,13 @@ def line(text):
     if not words or words.startswith("#"):
         raise ValueError(f"not a request: {text!r}")
     return text.encode()
+
+
+def question(text):
+    """A question, as bytes without its newline."""
+    if lines.first_word(text) in lines.EDITS and lines.is_edit(text):
+        raise ValueError(f"not a question, but an edit: {text!r}")
+    return line(text)
 
 
 def path(value):

@@ -1,4 +1,5 @@
-"""The packets of a session as they are after its edits: the program has them too, but does not give them out."""
+"""Which packet of which file each packet of a session is now. No question of the session says that, nor how long a packet is shown, so edits are followed
+here as far as these need it; all else of a packet is what the session answers."""
 
 import itertools
 import math
@@ -7,223 +8,186 @@ from array import array
 from typing import NamedTuple
 
 from . import checks, excerpts, files, ivf, muxing, runs, times
-from .facts import Facts
 from .inputs import is_input
+from .lines import rest_of, spaced, words_of
+from .listing import Listing
 from .progress import say
 
-
-# For each value of tags whether it is that of a key packet.
-KEY_OF = bytes(map(ivf.KEY.__and__, range(256)))
-# Packets that are read together, at most.
-MOST_TOGETHER = 1 << 16
+# Packets that are read together, and those that are asked for together, at most.
+MOST_TOGETHER, MOST_ASKED = 1 << 16, 256
 
 
 class Operation(NamedTuple):
-    """A change of the packets of a source that was made, or that takes one back. `numbers` are those of the request line; where the line
-    has the bytes of a packet, `packet` is its number in the pool."""
+    """A change of the packets of a source that was made, or that takes one back: a request line without what it inserts. `packet` is the number of the packet
+    that is inserted, and `text` what the line has of it: its time stamp and its bytes, or a script."""
 
     word: str
     numbers: tuple
     packet: object = None
     text: str = ""
 
-
-class Held(NamedTuple):
-    """A packet that is read or forged when its bytes are needed."""
-
-    contents: object
-    number: int
-
     @property
-    def stamp(self):
-        return self.contents.stamp(self.number)
+    def line(self):
+        return " ".join([self.word, *map(str, self.numbers), *([self.text] if self.text else [])])
+
+
+class Made(NamedTuple):
+    """A packet that an edit made: the number of the packet whose time it has, or None; the source that it was made in; and whether it was forged."""
+
+    timed: object
+    source: int
+    is_forged: bool
+
+
+class Packet(NamedTuple):
+    """A packet as the session has it."""
+
+    stamp: int
+    data: bytes
 
     def bytes(self):
-        return self.contents.bytes(self.number)
+        return self.data
+
+
+def packet_of(text):
+    """A packet of the answer to `packet`, without its first word."""
+    stamp, data = words_of(text)
+    return Packet(int(stamp), b"" if data == "-" else bytes.fromhex(data))
 
 
 class Contents:
     """The packets of all sources.
 
-    Each packet has a number in a pool: those of the files first, then each one that an edit made, a copy too. A stream is a list of such
-    numbers, so an edit moves numbers, a packet's bytes are where they were, and a number is in one stream at most, once: it says which
-    packet is meant, wherever that is now.
+    Each packet has a number: those of the files first, then each one that an edit made, a copy too. A stream is a list of such numbers, so an edit moves
+    numbers, and a number is in one stream at most, once: it says which packet is meant, wherever that is now. The bytes of a number stay the same.
     """
 
-    def __init__(self, inputs, settings, edits_path):
-        self.inputs = inputs
-        self.program, self.lister, self.tables = settings
-        self.edits_path = edits_path
+    def __init__(self, session, edits_path):
+        self.session, self.inputs, self.edits_path = session, session._inputs, edits_path
+        self.program, self.lister, self.tables = session._settings
         # Numbers of packets that edits made are those of these contents alone.
         self.name = secrets.token_hex(4)
         self.current = 0
-        self.script = "-"
-        # For each packet of a stream also whether it has a key tag: the last one before a packet is found at once.
-        self.bases, self.streams, self.keys = [], [], []
-        count = 0
-        for item in inputs.all:
+        self.bases, self.streams, count = [], [], 0
+        for item in self.inputs.all:
             records = len(item.records())
             self.bases.append(count)
             self.streams.append(array("I", range(count, count + records)))
-            self.keys.append(item.records().tags.translate(KEY_OF))
             count += records
         self.of_files = count
-        self.file_sizes = None
-        # Of the packets that edits made: the time stamp; the bytes, or what the program makes them of, or the number of the packet that a
-        # copy was made of; the number of the packet whose time it has, or None; and the source that it was made in.
-        self.made = []
-        self.forged, self.key_sizes = {}, {}
-        self.listed = Facts(self)
+        # The packets that edits made, and of those that edits took away since what `packet` answered.
+        self.made, self.lost = [], {}
+        self.listing = Listing(self)
 
-    def apply(self, line):
-        """Makes an accepted edit, and returns what takes it back."""
-        word, *rest = line.split(" ")
+    # Edits
+
+    def apply(self, line, lost=""):
+        """Makes an accepted edit, which lost this, and returns what takes it back."""
+        word, *rest = words_of(line)
         if word == "script":
-            return self.perform(Operation("script", (), None, " ".join(rest)))
-        if word in ("insert", "replace"):
-            data = b"" if rest[-1] == "-" else bytes.fromhex(rest[-1])
-            rest.pop()
-            at = int(rest[0])
-            timed = None if word == "insert" else self.streams[self.current][at]
-            stamp = int(rest[1]) if word == "insert" else self.stamp(timed)
-            return self.perform(Operation(word, (at,), self.make(stamp, data, timed)))
-        numbers = tuple(map(int, rest))
+            return Operation(word, (), None, lost)
+        if word in ("insert", "blank", "hold"):
+            return self.perform(Operation("insert", (int(rest[0]),), self.make(None, word != "insert")))
         if word == "copy":
-            source, index, at = numbers
+            source, index, at = map(int, rest)
             copied = self.streams[source][index]
-            return self.perform(Operation("insert", (at,), self.make(self.stamp(copied), self.root(copied), copied)))
-        if word in ("hide", "show"):
-            packet = self.streams[self.current][numbers[0]]
-            first, *rest = self.bytes(packet)
-            data = bytes((first | 16 if word == "show" else first & ~16, *rest))
-            return self.perform(Operation("replace", numbers, self.make(self.stamp(packet), data, packet)))
-        if word in ("blank", "hold"):
-            at, *size = numbers
-            return self.perform(Operation("insert", (at,), self.forge_at(word, at, size)))
-        return self.perform(Operation(word, numbers))
+            return self.perform(Operation("insert", (at,), self.make(copied, self.is_forged(copied))))
+        if word in ("replace", "hide", "show"):
+            at = int(rest[0])
+            return self.perform(Operation("replace", (at,), self.make(self.streams[self.current][at])), lost)
+        return self.perform(Operation(word, tuple(map(int, rest))), lost)
 
-    def apply_all(self, lines):
+    def apply_all(self, lines, losses=None):
         """Makes accepted edits, and returns what takes each of them back. Packets that are deleted one after the other go together."""
-        found = []
+        found, losses = [], itertools.repeat("") if losses is None else iter(losses)
         for line, group in itertools.groupby(lines):
-            count = sum(1 for _ in group)
-            if count > 1 and line.startswith("delete "):
-                at = int(line.split(" ")[1])
-                numbers = self.streams[self.current][at : at + count]
-                del self.streams[self.current][at : at + count], self.keys[self.current][at : at + count]
-                found += [Operation("insert", (at,), number) for number in numbers]
-            else:
-                found += [self.apply(line) for _ in range(count)]
+            texts = [next(losses) for _ in group]
+            word, *rest = words_of(line)
+            if len(texts) == 1 or word != "delete":
+                found += [self.apply(line, text) for text in texts]
+                continue
+            at, stream = int(rest[0]), self.streams[self.current]
+            numbers = stream[at : at + len(texts)]
+            del stream[at : at + len(texts)]
+            found += [self.take(Operation("insert", (at,), number, text)) for number, text in zip(numbers, texts)]
         return found
 
-    def perform_all(self, operations):
+    def perform_all(self, operations, losses=None):
         """Makes changes, and returns what takes each of them back. Packets that are inserted at one index go in together: the last one comes first."""
-        found = []
+        found, losses = [], itertools.repeat("") if losses is None else iter(losses)
         for (word, numbers), group in itertools.groupby(operations, lambda operation: operation[:2]):
-            group = list(group)
+            group = [(operation, next(losses)) for operation in group]
             if word != "insert" or len(group) == 1:
-                found += map(self.perform, group)
+                found += [self.perform(operation, text) for operation, text in group]
                 continue
             [at] = numbers
-            packets = array("I", [operation.packet for operation in reversed(group)])
-            self.streams[self.current][at:at] = packets
-            self.keys[self.current][at:at] = bytes(map(self.has_key_tag, packets))
+            self.streams[self.current][at:at] = array("I", [operation.packet for operation, _ in reversed(group)])
             found += [Operation("delete", (at,))] * len(group)
         return found
 
-    def perform(self, operation):
-        """Makes a change, and returns what takes it back."""
-        word, numbers, packet, text = operation
-        stream, keys = self.streams[self.current], self.keys[self.current]
+    def perform(self, operation, lost=""):
+        """Makes a change, which lost this, and returns what takes it back."""
+        word, numbers, packet, _ = operation
+        stream = self.streams[self.current]
         if word == "script":
-            before, self.script = self.script, text
-            return Operation("script", (), None, before)
+            return Operation(word, (), None, lost)
         if word == "use":
             before, self.current = self.current, numbers[0]
-            return Operation("use", (before,))
+            return Operation(word, (before,))
         if word == "move":
             start, to = numbers
             stream.insert(to, stream.pop(start))
-            keys.insert(to, keys.pop(start))
-            return Operation("move", (to, start))
+            return Operation(word, (to, start))
         at = numbers[0]
         if word == "insert":
             stream.insert(at, packet)
-            keys.insert(at, self.has_key_tag(packet))
             return Operation("delete", (at,))
         if word == "delete":
-            keys.pop(at)
-            return Operation("insert", (at,), stream.pop(at))
-        before, stream[at], keys[at] = stream[at], packet, self.has_key_tag(packet)
-        return Operation("replace", (at,), before)
+            return self.take(Operation("insert", (at,), stream.pop(at), lost))
+        before, stream[at] = stream[at], packet
+        self.take(Operation("insert", (at,), before, lost))
+        # A packet that is replaced keeps its time stamp.
+        return Operation("replace", (at,), before, rest_of(lost))
 
-    def line(self, operation):
-        """The request line of a change."""
-        word, numbers, packet, text = operation
-        words = [word, *map(str, numbers)]
-        if word == "script":
-            words.append(text)
-        if word == "insert":
-            words.append(str(self.stamp(packet)))
-        if packet is not None:
-            words.append(self.bytes(packet).hex() or "-")
-        return " ".join(words)
+    def take(self, operation):
+        """The operation, which inserts a packet again that is taken away: an edit made it, so it is in no file."""
+        if operation.packet >= self.of_files and operation.text:
+            self.lost[operation.packet] = operation.text
+        return operation
 
-    def make(self, stamp, data, timed=None):
+    def make(self, timed, is_forged=False):
         """The number of a new packet."""
-        self.made.append((stamp, data, timed, self.current))
+        self.made.append(Made(timed, self.current, is_forged))
         return self.of_files + len(self.made) - 1
 
-    def forge_at(self, word, at, size):
-        """The number of a forged packet, inserted at an index."""
-        stream = self.streams[self.current]
-        stamp = self.stamp(stream[at - 1]) if at else 0
-        if word == "hold":
-            number = stream[self.keys[self.current].rindex(1, 0, at)]
-            if number not in self.key_sizes:
-                self.key_sizes[number] = ivf.key_size(self.bytes(number, 10))
-            size = self.key_sizes[number]
-        return self.make(stamp, (word, *size))
+    def is_forged(self, number):
+        return number >= self.of_files and self.made[number - self.of_files].is_forged
 
-    def root(self, number):
-        """The packet that a copy was made of; any other packet is its own."""
-        found = self.made[number - self.of_files][1] if number >= self.of_files else number
-        return found if isinstance(found, int) else number
+    @property
+    def script(self):
+        """The current script."""
+        return spaced(rest_of(self.session.ask("script")))
+
+    # Times
 
     def where(self, number):
         """The file and the index of a packet of a file."""
         source = max(place for place, base in enumerate(self.bases) if base <= number and len(self.inputs.all[place].index))
         return self.inputs.all[source], number - self.bases[source]
 
-    def stamp(self, number):
-        """The time stamp of a packet."""
-        if number >= self.of_files:
-            return self.made[number - self.of_files][0]
-        item, index = self.where(number)
-        return item.index.stamps[index]
-
     def timed(self, number):
         """The packet of a file that a packet has its time from: itself, or the one that it was copied from or is in the place of; else None."""
         while number is not None and number >= self.of_files:
-            number = self.made[number - self.of_files][2]
+            number = self.made[number - self.of_files].timed
         return number
 
     def duration(self, number, source):
         """The duration of a packet in the time base of a source: that of its file; for one that has no time the median step of the source that it was made in."""
         made_in = None
         while number is not None and number >= self.of_files:
-            _, _, number, made_in = self.made[number - self.of_files]
+            number, made_in, _ = self.made[number - self.of_files]
         item, index = (self.inputs.all[made_in], None) if number is None else self.where(number)
         return times.scaled(item.step() if index is None else item.durations()[index], item.head, self.inputs.all[source].head)
-
-    def is_shown(self, number):
-        """Whether a packet is shown as a frame."""
-        number = self.root(number)
-        if number < self.of_files:
-            item, index = self.where(number)
-            return bool(item.index.tags[index] & ivf.SHOWN)
-        data = self.made[number - self.of_files][1]
-        return not isinstance(data, bytes) or ivf.is_shown(data)
 
     def durations(self, source, stream):
         """The durations of packets in the time base of a source."""
@@ -231,56 +195,79 @@ class Contents:
 
     def stamps(self, source, stream):
         """New time stamps for packets in the order of a source, and the end of the last one."""
+        self.listing.learn()
         return times.stamps_of(zip(map(self.is_shown, stream), self.durations(source, stream)))
 
-    def bytes(self, number, size=None):
-        """The bytes of a packet, or the first ones of them."""
-        number = self.root(number)
-        if number < self.of_files:
-            item, index = self.where(number)
-            return item.read(index, size)
-        data = self.made[number - self.of_files][1]
-        data = data if isinstance(data, bytes) else self.forge(*data)
-        return data if size is None else data[:size]
+    # Facts
+
+    def stamp(self, number):
+        """The time stamp of a packet."""
+        return self.listing.stamps[self.known(number)]
+
+    def is_shown(self, number):
+        """Whether a packet is shown as a frame."""
+        return bool(self.listing.tags[self.known(number)] & ivf.SHOWN)
+
+    def has_key_tag(self, number):
+        return bool(self.listing.tags[self.known(number)] & ivf.KEY)
 
     def size(self, number):
         """The number of bytes of a packet."""
-        number = self.root(number)
-        if number < self.of_files:
-            item, index = self.where(number)
-            return item.index.sizes[index]
-        return len(self.bytes(number))
+        return self.listing.sizes[self.known(number)]
 
-    def bytes_of(self, numbers):
-        """The number of bytes of packets."""
-        if self.file_sizes is None:
-            self.file_sizes = array("I")
-            for item in self.inputs.all:
-                self.file_sizes += item.records().sizes
-        sizes, count = self.file_sizes, self.of_files
-        return sum(sizes[number] if number < count else self.size(number) for number in numbers)
+    def known(self, number):
+        """The number, whose facts are asked for if they are not known yet."""
+        if number not in self.listing:
+            self.listing.learn()
+        if number not in self.listing:
+            # An edit took it away before it was listed.
+            stamp, data = self.asked([number])[0]
+            self.listing.put([number], [ivf.tag_of(len(data), data[0] if data else 0)], [len(data)], [stamp])
+        return number
 
-    def has_key_tag(self, number):
-        number = self.root(number)
-        if number < self.of_files:
-            item, index = self.where(number)
-            return bool(item.index.tags[index] & ivf.KEY)
-        data = self.made[number - self.of_files][1]
-        return ivf.is_key(data) if isinstance(data, bytes) else data[0] == "blank"
+    # Bytes
 
-    def group_start(self, stream, packet):
-        """The index of the key packet at or before a packet of a stream; 0 if there is none."""
-        while packet > 0 and not self.has_key_tag(stream[packet]):
-            packet -= 1
-        return packet
+    def bytes(self, number):
+        """The bytes of a packet."""
+        return next(self.data([number]))
 
-    def forge(self, word, width, height):
-        """The bytes of a packet of `blank` or `hold`: those that the program saves after the same request."""
-        key = (word, width, height)
-        if key not in self.forged:
-            lines = [f"blank 0 {width} {height}"] + ["hold 1"] * (word == "hold")
-            self.forged[key] = runs.saved_packets(self.program, lines, self.tables)[-1][1]
-        return self.forged[key]
+    def data(self, numbers):
+        """The bytes of packets, one after the other. Those of a file are read from it, the others are asked for together."""
+        place = 0
+        while place < len(numbers):
+            if numbers[place] < self.of_files:
+                item, index = self.where(numbers[place])
+                yield item.read(index)
+                place += 1
+                continue
+            end = self.end_of_made(numbers, place)
+            yield from (packet.data for packet in self.asked(numbers[place:end]))
+            place = end
+
+    def end_of_made(self, numbers, place):
+        """Up to where packets follow that edits made and that are asked for together."""
+        end, limit = place + 1, min(len(numbers), place + MOST_ASKED)
+        while end < limit and numbers[end] >= self.of_files:
+            end += 1
+        return end
+
+    def asked(self, numbers):
+        """Packets that edits made, as the session has them, or had them before an edit took them away."""
+        with self.session.turn():
+            places = self.places({number for number in numbers if number not in self.lost})
+            found = dict.fromkeys(numbers)
+            for source in sorted({source for source, _ in places.values()}):
+                mine = [number for number, place in places.items() if place[0] == source]
+                answers = self.session.ask_all([f"packet {places[number][1]}" for number in mine], source)
+                found.update(zip(mine, map(rest_of, answers)))
+            return [packet_of(found[number] or self.lost[number]) for number in numbers]
+
+    def places(self, numbers):
+        """Where packets are: for each of the numbers the source and the index. Those that edits took away are left out."""
+        if len(numbers) == 1:
+            [number] = numbers
+            return {number: (source, stream.index(number)) for source, stream in enumerate(self.streams) if number in stream}
+        return {number: (source, index) for source, stream in enumerate(self.streams) for index, number in enumerate(stream) if number in numbers} if numbers else {}
 
     def is_edited(self, source, stream):
         """Whether the packets of a source are others than those of its file."""
@@ -295,12 +282,11 @@ class Contents:
         return source
 
     def packet(self, index, source=None):
-        """A packet of a stream."""
-        stream = self.streams[self.source(source)]
-        index = checks.number(index)
-        if index >= len(stream):
-            raise IndexError(f"there is no packet {index}: there are {len(stream)}")
-        return Held(self, stream[index])
+        """A packet of a source now."""
+        source, index = self.source(source), checks.number(index)
+        if index >= len(self.streams[source]):
+            raise IndexError(f"there is no packet {index}: there are {len(self.streams[source])}")
+        return packet_of(rest_of(self.session.ask(f"packet {index}", source)))
 
     @property
     def rate(self):
@@ -318,8 +304,8 @@ class Contents:
 
     def shown_kinds(self, source):
         """For each shown packet of a source its kind, `key` or `inter`."""
-        tags = (self.bytes(number, 3) for number in self.streams[source])
-        return ["key" if ivf.is_key(tag) else "inter" for tag in tags if ivf.is_shown(tag)]
+        self.listing.learn()
+        return ["key" if self.has_key_tag(number) else "inter" for number in self.streams[source] if self.is_shown(number)]
 
     def pieces(self, source=0):
         """The text of an IVF file of the packets of a source, piece by piece."""
@@ -333,10 +319,11 @@ class Contents:
         while place < len(stream):
             number = stream[place]
             if number >= self.of_files:
-                data = self.bytes(number)
-                yield ivf.RECORD.pack(len(data), self.stamp(number))
-                yield data
-                place += 1
+                end = self.end_of_made(stream, place)
+                for packet in self.asked(stream[place:end]):
+                    yield ivf.RECORD.pack(len(packet.data), packet.stamp)
+                    yield packet.data
+                place = end
                 continue
             item, first = self.where(number)
             end, index = place + 1, first + 1
@@ -350,8 +337,7 @@ class Contents:
         """The text of an IVF file of packets in the order of a source, with new time stamps, piece by piece."""
         stream = self.streams[source] if stream is None else stream
         stamps, _ = self.stamps(source, stream)
-        packets = ((stamp, self.bytes(number)) for stamp, number in zip(stamps, stream))
-        return ivf.pieces(self.inputs.all[source].head, len(stream), packets)
+        return ivf.pieces(self.inputs.all[source].head, len(stream), zip(stamps, self.data(stream)))
 
     def check_output(self, path):
         """`ValueError` if a file is one that the session reads or writes."""

@@ -7,52 +7,36 @@ line says which stream the list is of, and `# step 3 Repair all` that the next t
 
 from __future__ import annotations
 
+import bisect
 import contextlib
 import os
 import re
 import warnings
+from itertools import accumulate
 from typing import Callable, Iterable, Iterator, Optional, Union
 
 from .contents import Contents
 from .edit_files import EditFile, NotWritten
 from .errors import OtherStream, Refused, sentence
 from .files import write_whole
+from .lines import first_word, is_edit, plain, question_before, rest_of, words_of
 
-# The requests that are not edits, and the first word of their replies. The reply to an edit begins with `ok`.
-REPLIES = {"frame": "served", "count": "packets", "stats": "decoded", "packet": "packet", "list": "lines", "origins": "lines", "header": "lines", "macroblocks": "lines"}
 STEP = re.compile(r"# step (\d{1,9})(?: (.*))?")
 STREAM = re.compile(r"# wokureti: edits of (\d+) packets, (\d+) bytes, sha256 ([0-9a-f]{64})")
 # Characters of the title of a step.
 MOST_TITLE = 100
 
 
-def words_of(line):
-    """A request line with one space between its words."""
-    return " ".join(word for word in line.removesuffix("\r").split(" ") if word)
-
-
-def is_edit(line):
-    """Whether a line of a list is an edit, and not a comment or another request."""
-    words = words_of(line)
-    word = words.split(" ")[0]
-    return bool(word) and not word.startswith("#") and word not in REPLIES and words != "script"
-
-
-def begins_reply(line):
-    """The first word of the reply to a line, if it is not refused. `script` alone asks for the script."""
-    words = words_of(line)
-    return "script" if words == "script" else REPLIES.get(words.split(" ")[0], "ok")
-
-
 class Entry:
-    """An edit: its line, the lines of the file before it, the step that it belongs to, and what takes it back, once that is known. The first
-    edit of a step has its title."""
+    """An edit: its line, the lines of the file before it, the step that it belongs to, what it lost, and what takes it back, once that is known.
+    The first edit of a step has its title."""
 
-    def __init__(self, line, step, before="", title=""):
+    def __init__(self, line, step, before="", title="", lost=""):
         self.line = line
         self.step = step
         self.before = before
         self.title = title
+        self.lost = lost
         self.inverse = None
 
     @property
@@ -61,7 +45,7 @@ class Entry:
 
     @property
     def is_use(self):
-        return self.line.startswith("use ")
+        return first_word(self.line) == "use"
 
 
 def parsed(text, step=0):
@@ -79,7 +63,7 @@ def parsed(text, step=0):
             continue
         if not left:
             step += 1
-        entries.append(Entry(words_of(line), step, before, title))
+        entries.append(Entry(plain(line), step, before, title))
         numbers.append(number)
         left, before, title = max(0, left - 1), "", ""
     return entries, numbers, before
@@ -191,7 +175,7 @@ class EditList:
         entries, numbers, _ = self._parsed(text, path)
         self._replay(entries, path, numbers)
         for entry in entries:
-            self.accept(entry.line)
+            self.accept(entry.line, entry.lost)
 
     def _parsed(self, text, path):
         """The entries of a list, which must be of this stream."""
@@ -204,10 +188,10 @@ class EditList:
         return parsed(text, self._step)
 
     def _replay(self, entries, path, numbers):
-        replies = self._session.request_all([entry.line for entry in entries])
-        for entry, number, reply in zip(entries, numbers, replies):
+        for entry, number, (reply, lost) in zip(entries, numbers, self._send([entry.line for entry in entries])):
             if isinstance(reply, Refused):
                 raise ValueError(f"{path}, line {number}: {entry.line[:80]}: {reply}. The list is not of this stream") from None
+            entry.lost = lost
 
     def resume(self, other):
         """Goes on with the list of a session that ended: with its edits, those too that its file does not have, and with what was undone."""
@@ -230,13 +214,42 @@ class EditList:
             self._say(sentence(error))
 
     def contents(self):
-        """The packets after the edits, which are found when they are needed first."""
+        """Which packets there are after the edits, which is found when it is needed first."""
         if self._contents is None:
-            contents = Contents(self._session._inputs, self._session._settings, self.path)
-            for entry, inverse in zip(self._entries, contents.apply_all([entry.line for entry in self._entries])):
-                entry.inverse = inverse
+            contents = Contents(self._session, self.path)
+            self._know(contents, self._entries)
             self._contents = contents
         return self._contents
+
+    @staticmethod
+    def _know(contents, entries):
+        """Makes accepted edits in the contents, and finds what takes each of them back."""
+        inverses = contents.apply_all([entry.line for entry in entries], [entry.lost for entry in entries])
+        for entry, inverse in zip(entries, inverses):
+            entry.inverse = inverse
+
+    @property
+    def current(self) -> int:
+        """The current source: that of the last accepted `use`."""
+        if self._contents is not None:
+            return self._contents.current
+        return next((int(words_of(entry.line)[1]) for entry in reversed(self._entries) if entry.is_use), 0)
+
+    def _send(self, lines, timeout=None, progress=None):
+        """Sends edits, each after the question what it loses. For each that was sent the reply, which may be a refusal, and what was lost.
+        `progress` is called with how many were made."""
+        asked = [(question_before(line), line) for line in lines]
+        sent = [text for pair in asked for text in pair if text is not None]
+        ends = list(accumulate(1 + (question is not None) for question, _ in asked))
+        told = None if progress is None else lambda done: progress(bisect.bisect_right(ends, done))
+        replies, found = iter(self._session.request_all(sent, timeout, told)), []
+        for question, _ in asked:
+            answer = next(replies, None) if question is not None else None
+            reply = next(replies, None)
+            if reply is None:
+                break
+            found.append((reply, rest_of(answer) if isinstance(answer, str) else ""))
+        return found
 
     @contextlib.contextmanager
     def step(self, title: str = "") -> Iterator[None]:
@@ -264,30 +277,29 @@ class EditList:
         if self._depth == 0:
             self._step += 1
 
-    def accept(self, line):
-        """Adds an edit that the program accepted."""
+    def accept(self, line, lost=""):
+        """Adds an edit that the program accepted, and what it lost."""
         self._new_step()
         before = self._after or ("" if self._entries else self._first_line())
-        entry = Entry(line, self._step, before)
+        entry = Entry(line, self._step, before, lost=lost)
         self._after = ""
         if self._contents is not None:
-            entry.inverse = self._contents.apply(line)
+            self._know(self._contents, [entry])
         self._entries.append(entry)
         self._undone.clear()
         self._write()
 
-    def _accept_all(self, lines):
+    def _accept_all(self, lines, losses):
         """Adds the edits of a step that the program accepted."""
         contents, start = self._contents, len(self._entries)
         self._contents = None
         try:
-            for line in lines:
-                self.accept(line)
+            for line, lost in zip(lines, losses):
+                self.accept(line, lost)
         finally:
             self._contents = contents
         if contents is not None:
-            for entry, inverse in zip(self._entries[start:], contents.apply_all(lines)):
-                entry.inverse = inverse
+            self._know(contents, self._entries[start:])
 
     def _first_line(self):
         """The comment that says which stream a list is of."""
@@ -345,19 +357,23 @@ class EditList:
     def run_step(self, lines: Iterable[str], timeout: Optional[float] = None, progress: Optional[Callable[[int], None]] = None, title: str = "") -> str:
         """Makes edits as one step, and returns the reply to the last one. If one is refused, none is made, and what was undone can be made
         again as before. `progress` is called with the number of edits that were made."""
-        count, undone, after, lines = len(self._entries), list(self._undone), self._after, list(lines)
+        with self._session.turn(timeout):
+            return self._run_step(list(lines), timeout, progress, title)
+
+    def _run_step(self, lines, timeout, progress, title):
+        count, undone, after = len(self._entries), list(self._undone), self._after
         # After a refusal the program may have made some of the edits that follow it: those are taken back too.
-        replies = self._session.request_all(lines, timeout, progress)
-        refused = next((reply for reply in replies if isinstance(reply, Refused)), None)
+        replies = self._send(lines, timeout, progress)
+        refused = refusal_of(replies)
         if refused is None:
             with self.step(title):
-                self._accept_all(list(map(words_of, lines)))
-            return replies[-1] if replies else ""
+                self._accept_all(list(map(plain, lines)), [lost for _, lost in replies])
+            return replies[-1][0] if replies else ""
         self._depth += 1
         try:
-            for line, reply in zip(lines, replies):
+            for line, (reply, lost) in zip(lines, replies):
                 if not isinstance(reply, Refused):
-                    self.accept(words_of(line))
+                    self.accept(plain(line), lost)
             self._take_back(self._entries[count:], timeout)
             del self._entries[count:]
             self._undone, self._after = undone, after
@@ -396,15 +412,15 @@ class EditList:
         self._perform([entry.inverse for entry in reversed(group)], timeout)
 
     def _perform(self, operations, timeout):
-        """Makes changes of the packets that are not listed, and returns what takes each of them back. If one is refused for want of memory,
+        """Makes changes that are not listed, and returns what takes each of them back. If one is refused for want of memory,
         those that were made are taken back."""
         contents = self.contents()
-        replies = self._session.request_all((contents.line(operation) for operation in operations), timeout)
-        refused = next((reply for reply in replies if isinstance(reply, Refused)), None)
-        done = contents.perform_all([operation for operation, reply in zip(operations, replies) if not isinstance(reply, Refused)])
+        replies = self._send([operation.line for operation in operations], timeout)
+        refused, made = refusal_of(replies), [(operation, lost) for operation, (reply, lost) in zip(operations, replies) if not isinstance(reply, Refused)]
+        done = contents.perform_all([operation for operation, _ in made], [lost for _, lost in made])
         if refused is not None:
             for operation in reversed(done):
-                self._session.request(contents.line(operation), timeout, listed=False)
+                self._session.request(operation.line, timeout, listed=False)
                 contents.perform(operation)
             raise refused
         return done
@@ -414,16 +430,22 @@ class EditList:
         if not self._undone:
             return []
         group, contents = self._undone[-1], self.contents()
-        replies = self._session.request_all([entry.line for entry in group], timeout)
-        accepted = [entry for entry, reply in zip(group, replies) if not isinstance(reply, Refused)]
-        made = list(zip(accepted, contents.apply_all([entry.line for entry in accepted])))
-        refused = next((reply for reply in replies if isinstance(reply, Refused)), None)
+        replies = self._send([entry.line for entry in group], timeout)
+        refused, made = refusal_of(replies), []
+        for entry, (reply, lost) in zip(group, replies):
+            if not isinstance(reply, Refused):
+                entry.lost = lost
+                made.append(entry)
+        self._know(contents, made)
         if refused is not None:
-            self._perform([inverse for _, inverse in reversed(made)], timeout)
+            self._perform([entry.inverse for entry in reversed(made)], timeout)
             raise refused
-        for entry, inverse in made:
-            entry.inverse = inverse
         self._undone.pop()
         self._entries += group
         self._write()
         return [entry.line for entry in group]
+
+
+def refusal_of(replies):
+    """The first refusal of pairs of a reply and what was lost, or None."""
+    return next((reply for reply, _ in replies if isinstance(reply, Refused)), None)

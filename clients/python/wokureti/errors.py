@@ -6,6 +6,8 @@ import os
 import re
 from typing import Optional
 
+from .lines import words_of
+
 # A reply such as "refused source 2 packet 60 TokenPartition 1".
 _BROKEN = re.compile(r"refused (?:source (\d+) )?packet (\d+) (.+)")
 # What the program says of an export that fails, such as "frame 12 is changed by node 2" or "frame 3 is refused: packet 60 ShortPacket".
@@ -24,7 +26,7 @@ class Refused(Exception):
         super().__init__(f"{reply}: {reason}" if reason else reply)
         self.reply = reply
         self.reason = reason
-        self.word = reply.split()[1]
+        self.word = words_of(reply)[1]
         self.source: Optional[int] = None
         self.packet: Optional[int] = None
         self.cause: Optional[str] = None

@@ -9,7 +9,7 @@ from typing import NamedTuple
 
 from . import checks, excerpts, files, ivf, muxing, programs, rooms, times
 from .errors import Ended, Unexported
-from .script_runs import origins
+from .origins import joined, runs_of
 
 # A script has 16 nodes: a part is a trim, and all but the first one are spliced.
 MOST_PARTS, MOST_STREAMS = 8, 8
@@ -62,17 +62,18 @@ def check_program(program):
 
 
 class Frames:
-    """The frames of each source of a session, and those that its script serves; or of other streams of its packets, and another script."""
+    """The frames of each source of a session, and those that its script serves; or of other streams of its packets, and other runs of frames."""
 
-    def __init__(self, contents, streams=None, script=None):
-        self.contents, self.script, self.shown = contents, contents.script if script is None else script, []
+    def __init__(self, contents, streams=None, runs=None):
+        self.contents, self.runs, self.shown = contents, runs, []
+        contents.listing.learn()
         for source, stream in enumerate(contents.streams if streams is None else streams):
             pairs = [(number, duration) for number, duration in zip(stream, contents.durations(source, stream)) if contents.is_shown(number)]
             self.shown.append([(number, duration, source) for number, duration in pairs])
 
     def served(self):
         """The packets of the frames that the script serves, with their durations and sources."""
-        runs = origins(self.script, list(map(len, self.shown)))
+        runs = joined(runs_of(self.contents.session)) if self.runs is None else self.runs
         return [frame for count, source, first in runs for frame in self.shown[source][first : first + count]]
 
     def length_text(self):
@@ -129,21 +130,6 @@ def spliced(nodes, pieces):
         nodes.append(f"splice {last} {piece}")
         last = len(nodes)
     return "; ".join(nodes)
-
-
-def changing_node(script):
-    """The number and the text of the first node on which the last one depends and that changes samples, or None."""
-    nodes = [] if script == "-" else [text.split() for text in script.split(";")]
-    wanted, found = [len(nodes)], None
-    while wanted:
-        number = wanted.pop()
-        if number == 0:
-            continue
-        word, *numbers = nodes[number - 1]
-        if word in ("fade", "crop"):
-            found = min(number, found or number)
-        wanted += map(int, numbers[:2] if word == "splice" else numbers[:1] if word != "source" else ())
-    return None if found is None else (found, " ".join(nodes[found - 1]))
 
 
 class Output(NamedTuple):

@@ -11,9 +11,10 @@ from itertools import accumulate
 from . import ivf, png
 from .errors import Refused
 from .frames import MARK, frame_of
+from .lines import EDITS as EDIT_WORDS
+from .lines import first_word
 from .live import Changed
 from .outcomes import TooMany
-from .session import EDITS as EDIT_WORDS
 from .virtual import Cannot, Clip
 
 # Bytes of pictures that are kept for the next read: programs read a frame in many pieces.
@@ -62,11 +63,10 @@ class Packets:
     def read(self, start, end):
         pieces = [self.head[start:end]]
         place = max(0, bisect.bisect_right(self.places, start) - 1)
-        while place < len(self.numbers) and self.places[place] < end:
-            data = self.contents.bytes(self.numbers[place])
-            text = ivf.RECORD.pack(len(data), self.stamps[place]) + data
-            pieces.append(text[max(0, start - self.places[place]) : end - self.places[place]])
-            place += 1
+        stop = min(len(self.numbers), bisect.bisect_left(self.places, end))
+        for at, data in enumerate(self.contents.data(self.numbers[place:stop]), place):
+            text = ivf.RECORD.pack(len(data), self.stamps[at]) + data
+            pieces.append(text[max(0, start - self.places[at]) : end - self.places[at]])
         return b"".join(pieces)
 
 
@@ -241,7 +241,7 @@ class Folder:
         lines = [line for line in lines if line and not line.startswith("#")]
         try:
             for line in lines:
-                if line.split()[0] not in EDIT_WORDS:
+                if first_word(line) not in EDIT_WORDS:
                     raise ValueError(f"{line[:80]!r} is no edit")
             with self.live.lock:
                 replace_edits(self.live, lines)

@@ -5,12 +5,17 @@ import json
 import threading
 import time
 
-from . import checks, facts, ivf, live
+from . import checks, facts, live
 from .checking import Check
+from .contents import packet_of
 from .errors import Ended, Lost, Refused
+from .lines import first_word, rest_of
+from .origins import runs_of
 from .views import Pool, View
 
 
+# Seconds between two pages of a list in the background, and packets that a preview asks for at a time.
+PAUSE, PAGE = 0.001, 256
 # The packets of a group that a preview checks, at most.
 MOST_GROUP = 1000
 # Checks whose findings are stored.
@@ -22,7 +27,7 @@ class Opened(live.Live):
 
     def __init__(self, options, edits=None, save=None, pad=False, stems=()):
         self.pad = pad
-        self.current, self.pool = None, None
+        self.current, self.pool, self.known_runs = None, None, (None, None)
         self.check_lock, self.check, self.checks, self.count = threading.Lock(), None, [], 0
         # Programs beside the one of the stream: of edits that are not made, and of packets that no frame shows.
         self.originals, self.preview, self.aside = {}, Preview(options), Preview(options)
@@ -34,18 +39,21 @@ class Opened(live.Live):
     # Views
 
     def list_files(self):
-        """Lists the headers of all packets; until that is done, no packet is known to be refused."""
+        """Lists the headers of all packets, some at a time; until that is done, no packet is known to be refused."""
         with contextlib.suppress(OSError, Ended, Lost, Refused):
             self.session.read_indexes()
             with self.lock:
                 contents = self.contents()
-            contents.listed.learn()
+            for source in range(len(contents.streams)):
+                while source not in contents.listing.seen:
+                    contents.listing.go_on(source)
+                    # Whoever waits for the session comes first.
+                    time.sleep(PAUSE)
             # What the first edit writes to the list.
             contents.inputs.all[0].digest()
             with self.lock:
-                if self.pool is not None and self.pool.contents is contents:
-                    self.pool.refuse(contents.listed)
-                    self.current = self.make_view(self.current, lends=False)
+                if self.current is not None and self.current.contents is contents:
+                    self.current = self.make_view(self.current)
                 self.changed.notify_all()
 
     def current_view(self):
@@ -59,25 +67,47 @@ class Opened(live.Live):
         with self.lock:
             found = self.current
             if found is None or found.revision != self.revision:
-                found = self.current = self.make_view(found)
+                found = self.current = self.ask(lambda session: self.make_view(self.current))
             return found
 
-    def make_view(self, before, lends=True):
+    def make_view(self, before):
         contents = self.contents()
+        if contents.listing.is_whole or contents.made:
+            contents.listing.learn()
         if self.pool is None or self.pool.contents is not contents:
             self.pool, before = Pool(contents), None
-            if contents.listed.is_learnt:
-                # Those that edits made may not be listed yet.
-                contents.listed.learn()
-                self.pool.refuse(contents.listed)
         else:
-            self.pool.grow(contents)
-        return View(self.revision, contents, self.pool, self.session.edits, before, lends)
+            self.pool.grow()
+        return View(self.revision, contents, self.pool, self.session, before, self.served)
+
+    def served(self, view):
+        """The frames that the script serves at a revision, as runs. They stay the same as long as the script and the numbers of frames of the sources do.
+        `Changed` if the stream is of another revision."""
+        with self.lock:
+            if view.revision != self.revision:
+                raise live.Changed
+            key = (view.contents, view.script, tuple(view.timeline(source).frames[-1] for source in range(len(view.streams))))
+            if self.known_runs[0] != key:
+                self.known_runs = (key, self.ask(runs_of))
+            return self.known_runs[1]
+
+    def origins(self, view, first, count):
+        """For frames of a revision the source and the packet that each shows."""
+        end = min(first + count, view.frames)
+        if view.has_runs:
+            return [view.origin(frame) for frame in range(first, end)]
+        with self.lock:
+            if view.revision != self.revision:
+                raise live.Changed
+            found = self.ask(lambda session: session.origins(first, end - first)) if first < end else []
+        return [(origin["source"], origin["packet"]) for origin in found]
 
     def tell(self):
         super().tell()
         if self.current is not None:
-            self.current = self.make_view(self.current)
+            # If the program ended, the view is made when it is asked for.
+            with contextlib.suppress(Ended):
+                self.current = self.make_view(self.current)
 
     def again(self, ended):
         super().again(ended)
@@ -183,14 +213,11 @@ class Preview:
 
     def packet(self, lines, source, packet, frame=None):
         """The picture of a packet of a source after these edits, without the script. `frame` is its frame in the source, if that is known."""
-        lines = [line for line in lines if not line.startswith("script")]
+        lines = [line for line in lines if first_word(line) != "script"]
         with self.lock:
             self.follow([*lines, *([f"script source {source}"] if source else [])])
             if frame is None:
-                contents = self.live.contents()
-                stream = contents.streams[source]
-                shown = [ivf.is_shown(contents.bytes(number, 3)) for number in stream]
-                frame = max(0, min(sum(shown[:packet]), sum(shown) - 1))
+                frame = self.live.ask(lambda session: frame_at(session, source, packet))
             return self.live.picture(frame)
 
     def findings(self, lines, packet):
@@ -198,9 +225,9 @@ class Preview:
         with self.lock:
             self.follow(lines)
             contents = self.live.contents()
-            stream = contents.streams[0]
-            first, end = group_of(contents, stream, packet)
-            packets = [(contents.stamp(number), contents.bytes(number)) for number in stream[first:end]]
+            first, end = self.live.ask(lambda session: group_of(session, packet))
+            answers = self.live.ask(lambda session: session.ask_all([f"packet {index}" for index in range(first, end)], 0))
+            packets = [packet_of(rest_of(answer)) for answer in answers]
         tables = [] if contents.tables is None else ["--tables", checks.path(contents.tables)]
         found = [json.loads(line) for line in facts.run_on(contents.lister, packets, "--check", "--json", *tables, statuses=(0, 1))]
         found = [finding for finding in found if finding["packet"] is not None]
@@ -223,10 +250,34 @@ def interrupt(stream):
     stream.session.kill()
 
 
-def group_of(contents, stream, packet):
-    """The packets from the key packet at or before a packet to the next one, as a range of indexes."""
-    packet = min(packet, len(stream) - 1)
-    first, end = contents.group_start(stream, max(packet, 0)), packet + 1
-    while end < len(stream) and not contents.has_key_tag(stream[end]):
-        end += 1
-    return first, min(end, first + MOST_GROUP)
+def frame_at(session, source, packet):
+    """The frame that shows a packet of a source, or the next shown one after it, or else the last one, of a script that serves this source."""
+    while True:
+        found = session.packets(range(packet, packet + PAGE), source)
+        frame = next((facts["frame"] for facts in found if facts["frame"] is not None), None)
+        if frame is not None:
+            return frame
+        if len(found) < PAGE:
+            return max(0, session.count().frames - 1)
+        packet += PAGE
+
+
+def group_of(session, packet):
+    """The packets of source 0 from the key packet at or before a packet to the next one, as a range of indexes."""
+    count = len(session.edits.contents().streams[0])
+    packet = max(0, min(packet, count - 1))
+    first, end = packet + 1, packet + 1
+    while first > 0:
+        begin = max(0, first - PAGE)
+        keys = [facts["packet"] for facts in session.packets(range(begin, first), 0) if facts["kind"] == "key"]
+        first = keys[-1] if keys else begin
+        if keys:
+            break
+    while end < min(count, first + MOST_GROUP):
+        found = session.packets(range(end, end + PAGE), 0)
+        key = next((facts["packet"] for facts in found if facts["kind"] == "key"), None)
+        if key is not None:
+            end = key
+            break
+        end += len(found)
+    return first, min(end, first + MOST_GROUP, count)

@@ -1,10 +1,17 @@
-"""Which frames are served, told from headers, the sizes of key packets and the script, before a frame is decoded.
+"""Which frames are served, before a frame is decoded: from the sizes and causes that `list` reports, and the origins of frames. No question says the size of a frame
+yet, nor whether a crop reaches past the picture, so crops are read from the script here.
 
 A list of runs says it: (count, outcome), for frames one after the other with the same outcome, which is a size (width, height), or the
 reply that refuses them, without the word `refused`.
 """
 
-from .facts import KEY, REFUSED, SHOWN
+import bisect
+from itertools import accumulate
+
+from .ivf import KEY, SHOWN
+from .lines import nodes_of
+from .listing import LOST
+from .origins import runs_of
 
 # More runs than this are not listed: splices may double them.
 MOST_RUNS = 1 << 21
@@ -16,88 +23,65 @@ class TooMany(Exception):
 
 def of_source(session, source):
     """The runs of the shown packets of a source."""
-    contents = session.edits.contents()
-    facts = contents.listed
-    facts.learn()
-    stream = contents.streams[source]
-    flags, name = facts.flags, f"source {source} " if source else ""
-    early = causes_before_first(session, source)
+    listing = session.edits.contents().listing
+    seen, tags, name = listing.look(source), listing.tags, f"source {source} " if source else ""
     runs, outcome, count = [], None, 0
-    for place, number in enumerate(stream):
-        flag = flags[number]
-        before = outcome
-        if flag & KEY or outcome is None:
-            cause = early.get(place) if place in early else facts.causes.get(number)
-            outcome = f"{name}packet {place} {cause}" if cause else facts.sizes[number]
-        elif flag & REFUSED and not isinstance(outcome, str):
-            outcome = f"{name}packet {place} {facts.causes[number]}"
+    for place, (number, cause) in enumerate(zip(seen.stream, seen.causes)):
+        before, tag = outcome, tags[number]
+        if cause:
+            if cause != LOST:
+                outcome = f"{name}packet {place} {listing.causes[cause]}"
+        elif tag & KEY:
+            outcome = listing.pictures[number]
         if outcome != before and count:
             runs.append((count, before))
             count = 0
-        count += bool(flag & SHOWN)
+        count += bool(tag & SHOWN)
     if count:
         runs.append((count, outcome))
     return runs
 
 
-def causes_before_first(session, source):
-    """The cause against the first packet, if it is no key packet: an inter frame needs a key frame."""
-    return {packet["packet"]: packet["cause"] for packet in session.packets(range(1), source) if packet["kind"] != "key"}
+def trimmed(runs, ends, first, count):
+    """The runs of a part of the frames, given the end of each run."""
+    place = bisect.bisect_right(ends, first)
+    while count > 0:
+        taken = min(count, ends[place] - first)
+        yield taken, runs[place][1]
+        first, count, place = first + taken, count - taken, place + 1
 
 
-def trimmed(runs, first, count):
-    """The runs of a part of the frames."""
-    found = []
-    for length, outcome in runs:
-        skipped = min(first, length)
-        first -= skipped
-        taken = min(count, length - skipped)
-        if taken > 0:
-            found.append((taken, outcome))
-            count -= taken
-        if count <= 0:
-            break
-    return found
-
-
-def cropped(outcome, x, y, width, height):
-    if isinstance(outcome, str):
-        return outcome
-    return (width, height) if x + width <= outcome[0] and y + height <= outcome[1] else "CropOutside"
-
-
-def of_node(session, nodes, words):
-    """The runs of a node, given those of the nodes before it."""
-    word, *numbers = words
-    numbers = [int(number) for number in numbers]
-    if word == "source":
-        return of_source(session, numbers[0])
-    runs = nodes[numbers[0]]
-    if word == "trim":
-        return trimmed(runs, *numbers[1:])
-    if word == "splice":
-        return runs + nodes[numbers[1]]
-    if word == "crop":
-        return [(count, cropped(outcome, *numbers[1:])) for count, outcome in runs]
-    return runs
+def cropped(outcome, nodes, changed):
+    """The outcome of a frame that these nodes change."""
+    for node in changed:
+        word, *numbers = nodes[node - 1]
+        if word == "crop" and not isinstance(outcome, str):
+            _, x, y, width, height = map(int, numbers)
+            outcome = (width, height) if x + width <= outcome[0] and y + height <= outcome[1] else "CropOutside"
+    return outcome
 
 
 def of_script(session):
     """The runs of the frames that are served."""
-    nodes, script = [of_source(session, 0)], session.edits.contents().script
-    if script != "-":
-        for text in script.split(";"):
-            nodes.append(of_node(session, nodes, text.split()))
-            if len(nodes[-1]) > MOST_RUNS:
-                raise TooMany
-    return nodes[-1]
+    contents = session.edits.contents()
+    nodes, origins = nodes_of(contents.script), runs_of(session)
+    sources, found = {}, []
+    for count, source, first, changed in origins:
+        if source not in sources:
+            runs = of_source(session, source)
+            sources[source] = (runs, list(accumulate(length for length, _ in runs)))
+        found += [(length, cropped(outcome, nodes, changed)) for length, outcome in trimmed(*sources[source], first, count)]
+        if len(found) > MOST_RUNS:
+            raise TooMany
+    return found
 
 
 class Outcomes:
     """The outcomes of all frames, for finding that of one of them."""
 
     def __init__(self, session):
-        self.runs = of_script(session)
+        with session.turn():
+            self.runs = of_script(session)
         self.ends, end = [], 0
         for count, _ in self.runs:
             end += count

@@ -8,9 +8,9 @@ from . import excerpts, times
 from .exports import Frames
 
 
-def begins(contents, streams=None, script=None):
+def begins(contents, streams=None, runs=None):
     """The time of each frame that is served, in nanoseconds, and the end of the last one."""
-    return list(accumulate((span.length for span in excerpts.of_frames(contents, Frames(contents, streams, script).served())), initial=0))
+    return list(accumulate((span.length for span in excerpts.of_frames(contents, Frames(contents, streams, runs).served())), initial=0))
 
 
 def step_of(rate):

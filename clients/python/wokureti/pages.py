@@ -12,12 +12,12 @@ import time
 from . import adding, exports, ivf, muxing, records, repair
 from .clipboard import Clipboard, Gone, numbers_of, runs_of
 from .differences import Lasting
-from .edits import is_edit
 from .errors import Ended, Refused
 from .frames import MARK
+from .lines import EDITS, first_word, is_edit
+from .live import Changed
 from .proposals import Proposals
 from .routes import Routes, until_ended
-from .session import EDITS
 from .views import MOST_ENTRIES
 from .virtual import header_of
 from .web import Refuse, Response, as_json
@@ -95,7 +95,10 @@ class PageRoutes(Routes):
         """A browser reports each status of 400 and more as an error of the page: with `refusals=answers` a refusal is an answer."""
         wants = request.query.pop("refusals", None) == "answers"
         try:
-            response = super().answer(request)
+            try:
+                response = super().answer(request)
+            except Changed:
+                raise Refuse(412, "the stream was changed", revision=self.live.revision) from None
         except Refuse as refuse:
             if not wants or refuse.status not in REFUSALS:
                 raise
@@ -143,11 +146,11 @@ class PageRoutes(Routes):
             "saved": all(source["saved"] for source in saves),
             "saves": saves,
             "exports": exports.has_option(view.contents.program, "--export"),
-            "changing": exports.changing_node(view.script),
+            "changing": view.changing(),
             "list": edits.path,
             "unwritten": max(0, len(edits) - edits.written),
             "notices": self.live.notices,
-            "listed": view.pool.is_listed,
+            "listed": view.is_listed,
             "restarts": len(self.live.events),
             "shown": first.frames[-1],
             "source_frames": [view.timeline(source).frames[-1] for source in range(len(view.streams))],
@@ -198,7 +201,7 @@ class PageRoutes(Routes):
         self.only(request, "from", "count")
         view = self.live.current_view()
         first, count = self.number(request, "from", 0), min(self.number(request, "count", 256), MOST_ORIGINS)
-        found = [view.origin(frame) for frame in range(first, min(first + count, view.frames))]
+        found = self.live.origins(view, first, count)
         before = [self.original_frame(view, *origin) for origin in found]
         members = {"sources": [source for source, _ in found], "packets": [packet for _, packet in found], "before": before}
         return as_json({"revision": view.revision, "from": first, **members})
@@ -303,7 +306,7 @@ class PageRoutes(Routes):
         """The next frame that does not follow the one before it in its source, or the one before: where a script joins, and its end."""
         self.only(request, "frame", "step")
         view = self.live.current_view()
-        frame, ends = self.number(request, "frame", 0), [0, *view.runs()[1][:-1]]
+        frame, ends = self.number(request, "frame", 0), [0, *view.runs()[2][:-1]]
         if self.step_of(request) > 0:
             found = next((end for end in ends if end > frame), None)
         else:
@@ -668,7 +671,7 @@ def checked_lines(members):
     if len(lines) > MOST_LINES:
         raise Refuse(400, f"a step has at most {MOST_LINES} edits")
     for line in lines:
-        if not isinstance(line, str) or "\n" in line or "\r" in line or line.strip(" ").split(" ")[0] not in EDITS or not is_edit(line):
+        if not isinstance(line, str) or "\n" in line or "\r" in line or first_word(line) not in EDITS or not is_edit(line):
             raise Refuse(400, "lines are edits")
     return lines
 

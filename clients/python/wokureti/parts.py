@@ -12,6 +12,7 @@ from typing import NamedTuple
 
 from . import ivf
 from .errors import Refused
+from .lines import words_of
 
 # Parts a process: so that one long part holds up no process.
 PARTS_A_PROCESS = 4
@@ -48,30 +49,24 @@ def first_frame(session):
     return None, refused
 
 
-def is_key_at(contents, place):
-    return contents.has_key_tag(contents.streams[0][place])
-
-
 def find_first(session, number):
     """What the parts need of the first frame."""
     contents = session.edits.contents()
     place = None
     if contents.script == "-":
-        last = shown_places(contents)[number]
+        contents.listing.learn()
+        stream = contents.streams[0]
+        last = [place for place, packet in enumerate(stream) if contents.is_shown(packet)][number]
         begin = last
-        while begin and not is_key_at(contents, begin):
+        while begin and not contents.has_key_tag(stream[begin]):
             begin -= 1
         place = (begin, last + 1)
     return First(number, session.header, session.frame_size, place)
 
 
-def shown_places(contents):
-    """The index of the packet of each frame of source 0."""
-    return [place for place, number in enumerate(contents.streams[0]) if ivf.is_shown(contents.bytes(number, 3))]
-
-
 def by_packets(contents, processes, frame_size):
     """The parts of source 0, cut at packets with a key tag. `frame_size` is the number of bytes of a frame."""
+    contents.listing.learn()
     stream = contents.streams[0]
     sizes = [contents.size(number) for number in stream]
     share = max(1, sum(sizes) // (PARTS_A_PROCESS * processes))
@@ -81,7 +76,7 @@ def by_packets(contents, processes, frame_size):
             parts.append(Part(frame, frame + frames, (begin, place)))
             begin, frame, frames, bytes_so_far = place, frame + frames, 0, 0
         bytes_so_far += sizes[place]
-        frames += ivf.is_shown(contents.bytes(number, 3))
+        frames += contents.is_shown(number)
     if frames:
         parts.append(Part(frame, frame + frames, (begin, len(stream))))
     return parts
@@ -99,9 +94,9 @@ class Room:
     def __init__(self, folder, session, first):
         self.folder = folder
         self.contents = session.edits.contents()
-        self.first = first
+        self.first, self.script = first, self.contents.script
         self.sources = []
-        if self.contents.script != "-":
+        if self.script != "-":
             for source in range(len(self.contents.streams)):
                 path = os.path.join(folder, f"source-{source}.ivf")
                 with open(path, "wb") as file:
@@ -116,7 +111,7 @@ class Room:
         leads = part.first > self.first.number
         with open(self.path(number, "list"), "w", encoding="ascii") as file:
             if part.packets is None:
-                file.write(f"script {self.contents.script}\n")
+                file.write(f"script {self.script}\n")
                 frames = ([self.first.number] if leads else []) + list(range(part.first, part.end))
             else:
                 before = self.write_packets(number, part, leads)
@@ -129,10 +124,10 @@ class Room:
         begin, end = self.first.packets if leads else (0, 0)
         before = list(stream[begin:end])
         numbers = before + list(stream[part.packets[0] : part.packets[1]])
-        packets = ((contents.stamp(packet), contents.bytes(packet)) for packet in numbers)
+        packets = zip(map(contents.stamp, numbers), contents.data(numbers))
         with open(self.path(number, "ivf"), "wb") as file:
             file.writelines(ivf.pieces(contents.inputs.all[0].head, len(numbers), packets))
-        return sum(ivf.is_shown(contents.bytes(packet, 3)) for packet in before)
+        return sum(map(contents.is_shown, before))
 
     def words(self, number, program, tables=None):
         """The command line of a part."""
@@ -158,7 +153,7 @@ class Room:
         found = []
         for frame, reply in enumerate(replies, part.first):
             if reply.startswith("refused packet "):
-                words = reply.split()
+                words = words_of(reply)
                 reply = " ".join([*words[:2], str(int(words[2]) + shift), *words[3:]])
             if not reply.startswith("served "):
                 found.append(f"frame {frame}: {reply}")

@@ -115,7 +115,7 @@ class Pipes:
         """The next reply with all its lines, and its picture."""
         reply = self.line(deadline)
         if reply.startswith("lines "):
-            return "\n".join([reply, *(self.line(deadline) for _ in range(int(reply[6:])))]), None
+            return f"{reply}{self.lines_after(int(reply[6:]), deadline)}", None
         if not reply.startswith("served "):
             return reply, None
         # The frame was written before its reply, so it is in the pipe even if the program has ended since.
@@ -138,6 +138,22 @@ class Pipes:
         line = bytes(self.read[:end]).decode(errors="replace")
         del self.read[: end + 1]
         return line
+
+    def lines_after(self, count, deadline):
+        """The next lines of the replies, each after a newline: there may be many, so they are counted as they come and taken together."""
+        end, counted = 0, 0
+        while True:
+            there = self.read.count(b"\n", end)
+            if counted + there >= count:
+                break
+            end, counted = len(self.read), counted + there
+            self.check()
+            self.wait(deadline, self.open)
+        for _ in range(count - counted):
+            end = self.read.index(b"\n", end) + 1
+        text = bytes(self.read[: max(0, end - 1)]).decode(errors="replace")
+        del self.read[:end]
+        return f"\n{text}" if count else ""
 
     def write(self, left, deadline):
         """Writes a line. The program may not read it: it may have ended, or wait for room to explain something."""

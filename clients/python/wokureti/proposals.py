@@ -4,6 +4,7 @@ import collections
 from typing import NamedTuple
 
 from .differences import Lasting, renewals
+from .lines import words_of
 
 # The edits of a proposal, at most.
 MOST_EDITS = 10000
@@ -68,11 +69,11 @@ class Proposals:
     def shift(self, source, near):
         """What to add to the time stamps of a source; None if no packet near an index is one of the source's."""
         mine = range(max(0, near - NEAR), min(len(self.stream), near + NEAR))
-        stamps = {self.contents.bytes(self.stream[index]): self.stamp(index) for index in mine if self.timeline.sizes[index] > 16}
+        large = [self.stream[index] for index in mine if self.timeline.sizes[index] > 16]
+        stamps = dict(zip(self.contents.data(large), map(self.contents.stamp, large)))
         other = self.view.streams[source][:MOST_COMPARED]
         found = collections.Counter()
-        for number in other:
-            data = self.contents.bytes(number)
+        for number, data in zip(other, self.contents.data(other)):
             if data in stamps:
                 found[stamps[data] - self.contents.stamp(number)] += 1
         if not found:
@@ -134,7 +135,7 @@ class Proposals:
         while first > 0 and not self.contents.is_shown(self.stream[first]):
             first -= 1
         numbers = list(self.stream[first : packet + NEAR_BY])
-        packets = [(self.contents.stamp(number), self.contents.bytes(number)) for number in numbers]
+        packets = list(zip(map(self.contents.stamp, numbers), self.contents.data(numbers)))
         lasts = [(index, None) for index in range(len(packets))]
         known = [(stamp, data, index) for stamp, data in packets for index in (stamps or {}).get(stamp - shift, ())]
         theirs = {(stamp, data): index for stamp, data, index in known if self.contents.bytes(self.view.streams[source][index]) == data}
@@ -142,7 +143,7 @@ class Proposals:
         for index in theirs.values():
             other[index] = self.contents.duration(self.view.streams[source][index], 0)
         for line in lines:
-            word, *rest = line.split(" ")
+            word, *rest = words_of(line)
             at = int(rest[0 if word == "insert" else -1]) - first
             if word == "move":
                 start = int(rest[0]) - first
@@ -179,8 +180,8 @@ class Proposals:
 
     def is_lost_from_start(self, packet):
         """Whether no key packet that can be decoded comes before a packet."""
-        sound = (index for index in range(packet) if self.timeline.keys[index])
-        return not any(self.contents.listed.causes.get(self.stream[index]) is None for index in sound)
+        causes = self.timeline.causes or bytes(packet)
+        return not any(self.timeline.keys[index] and not causes[index] for index in range(packet))
 
     def held(self, first, end):
         """The edits that hold the last picture for the shown packets of a range, and remove the hidden ones."""

@@ -1,4 +1,4 @@
-"""What vp8list says of the macroblocks and of the header of a packet, and vp8serve of one of a session."""
+"""The records of macroblocks and headers: what vp8serve answers of a packet of a session, and vp8list of one of a file, for which `wokureti compare` has no session."""
 
 import json
 

@@ -6,11 +6,11 @@ import re
 import time
 
 from . import png, ranges
-from .edits import is_edit
 from .errors import Ended, Lost, Refused, sentence
 from .frames import frame_of
+from .lines import EDITS, first_word, is_edit
 from .outcomes import TooMany
-from .session import EDITS, Session
+from .session import Session
 from .virtual import ENDINGS, MODES, Cannot, Clip, header_of
 from .web import Dropped, Refuse, Response, as_json
 
@@ -103,7 +103,7 @@ class Routes:
         """What there is."""
         self.only(request)
         with self.live.lock:
-            count = self.live.ask(Session.count)
+            count, script = self.live.ask(lambda session: (session.count(), session.edits.contents().script))
             contents = self.live.contents()
             rate = contents.rate
             members = {
@@ -113,7 +113,7 @@ class Routes:
                 "rate": list(rate),
                 "sources": [len(stream) for stream in contents.streams],
                 "source": contents.current,
-                "script": contents.script,
+                "script": script,
             }
         return as_json(members)
 
@@ -198,7 +198,7 @@ class Routes:
                 "revision": self.live.revision,
                 "edits": list(session.edits),
                 "undone": session.edits.undone,
-                "source": session.edits.contents().current,
+                "source": session.edits.current,
                 "saved": self.live.is_saved(),
             }
         return as_json(members)
@@ -252,7 +252,7 @@ def parse_change(body):
     if revision is not None and (not isinstance(revision, int) or isinstance(revision, bool)):
         raise Refuse(400, "revision is a number")
     line = members["line"]
-    word = line.strip(" ").split(" ")[0]
+    word = first_word(line)
     if word not in (*EDITS, *WORDS) or (word in WORDS and line != word) or (word in EDITS and not is_edit(line)):
         raise Refuse(400, f"the line is an edit, or {', '.join(WORDS)}")
     return line, revision

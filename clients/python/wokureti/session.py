@@ -7,20 +7,20 @@ import os
 import pathlib
 import threading
 import time
-from typing import Any, Callable, Iterable, Iterator, NamedTuple, Optional, Union
+from typing import Any, Callable, ContextManager, Iterable, Iterator, NamedTuple, Optional, Union
 
 from . import checks, exports, files, muxing, programs
-from .edits import EditList, begins_reply, is_edit, words_of
+from .edits import EditList
 from .errors import Ended, Refused, Unexported
 from .frames import Frame, frame_of
 from .inputs import Inputs
 from .library import MOST_FILE, Library, NotExported, engine_of, states_in
+from .lines import EDITS, begins_reply, first_word, is_edit, is_refusal, plain, question_before, rest_of, words_of
 from .pipes import Gone, Late, Pipes, Strange
 from .scripts import Script
 
 AnyPath = Union[str, bytes, "os.PathLike[str]", "os.PathLike[bytes]"]
 AnyBytes = Union[bytes, bytearray, memoryview]
-EDITS = frozenset(("use", "insert", "replace", "delete", "move", "copy", "blank", "hold", "hide", "show", "script"))
 # Lines and bytes that are sent at a time, at most.
 MOST_LINES, MOST_BYTES = 500, 1 << 18
 # Packets of a source, at most.
@@ -226,15 +226,18 @@ class Session:
         return reply
 
     def request_all(self, lines: Iterable[str], timeout: Optional[float] = None, progress: Optional[Callable[[int], None]] = None) -> list[Union[str, Refused]]:
-        """The replies to edits, which are not listed. Many are sent together, so a reply may be a refusal, as an exception in the list: the
-        edits that were sent with it are made, and those after them are not. `progress` is called with how many were made."""
+        """The replies to edits, which are not listed, and to questions between them. Many are sent together, so a reply may be a refusal, as an exception
+        in the list: after one of an edit those that were sent with it are made, and those after them are not. `progress` is called with how many lines
+        were answered."""
         replies = []
         for batch in batches(lines):
             with self._locked(timeout) as deadline:
                 found = self._exchange(*map(checks.line, batch), deadline=deadline)
                 first, is_refused = self._lines - len(found) + 1, False
                 for number, (line, (reply, _)) in enumerate(zip(batch, found), first):
-                    if reply.startswith("refused "):
+                    if not is_edit(line):
+                        replies.append(Refused(reply) if is_refusal(reply) else reply)
+                    elif is_refusal(reply):
                         # The program explains them in their order: the first one is that of the first line.
                         replies.append(Refused(reply) if is_refused else self._refused(reply, number, deadline))
                         is_refused = True
@@ -251,25 +254,28 @@ class Session:
     def _ask(self, line, timeout=None, listed=True):
         """The reply to a request line, and the width, height and samples of its picture, if it serves one."""
         text = checks.line(line)
+        is_known = is_edit(line) and first_word(line) in EDITS
+        # What the edit loses is asked for, so that it can be taken back.
+        question = question_before(line) if is_known and listed else None
         with self._locked(timeout) as deadline:
-            [(reply, picture)] = self._exchange(text, deadline=deadline)
-            if reply.startswith("refused "):
+            *answers, (reply, picture) = self._exchange(*([] if question is None else [question.encode()]), text, deadline=deadline)
+            if is_refusal(reply):
                 raise self._refused(reply, self._lines, deadline)
-            if is_edit(line) and line.split()[0] in EDITS:
+            if is_known:
                 if self.on_edit is not None:
                     self.on_edit(line)
                 if listed:
-                    self._edits.accept(words_of(line))
+                    self._edits.accept(plain(line), rest_of(answers[0][0]) if answers else "")
             return reply, picture
 
     def _exchange(self, *lines, deadline):
-        """Writes lines and reads their replies. Whatever leaves this in the middle ends the session."""
+        """Writes lines and reads their replies. Whatever leaves this in the middle ends the session, which then names the last line."""
         if self._ended:
             raise self._error()
         if self._pending is not None:
             self._end(f"{self._pending} was left in the middle, so the session was ended")
             raise self._error()
-        self._pending = shown = _shown(lines[0])
+        self._pending = shown = _shown(lines[-1])
         try:
             self._lines += len(lines)
             found = self._pipes.exchange([line + b"\n" for line in lines], deadline)
@@ -300,18 +306,31 @@ class Session:
 
     def ask(self, question: str, source: Optional[int] = None, timeout: Optional[float] = None) -> str:
         """The reply to a question about the packets of a source, without its newline. The current source stays as it is, also if the question is refused."""
-        text = checks.line(question)
+        return self.ask_all([question], source, timeout)[0]
+
+    def ask_all(self, questions: Iterable[str], source: Optional[int] = None, timeout: Optional[float] = None) -> list[str]:
+        """The replies to several questions about the packets of a source, of which many are sent together. The first one that is refused raises `Refused`."""
+        replies = []
         with self._locked(timeout) as deadline:
-            current = self._edits.contents().current
+            current = self._edits.current
             there, back = ([], []) if source in (None, current) else ([f"use {checks.number(source)}".encode()], [f"use {current}".encode()])
-            replies = [reply for reply, _ in self._exchange(*there, text, *back, deadline=deadline)]
-            reply = replies[len(there)]
-            if reply.startswith("refused "):
-                raise self._refused(reply, self._lines - len(back), deadline)
-            return reply
+            for batch in batches(questions):
+                found = self._exchange(*there, *map(checks.question, batch), *back, deadline=deadline)
+                if there and is_refusal(found[0][0]):
+                    raise self._refused(found[0][0], self._lines - len(found) + 1, deadline)
+                first = self._lines - len(found) + len(there) + 1
+                for number, (reply, _) in enumerate(found[len(there) : len(found) - len(back)], first):
+                    if is_refusal(reply):
+                        raise self._refused(reply, number, deadline)
+                    replies.append(reply)
+        return replies
+
+    def turn(self, timeout: Optional[float] = None) -> ContextManager[Optional[float]]:
+        """A block in which no other thread has the session."""
+        return self._locked(timeout)
 
     def _number(self, line, timeout=None):
-        return int(self.request(line, timeout).split()[1])
+        return int(words_of(self.request(line, timeout))[1])
 
     def frame(self, number: int, timeout: Optional[float] = None) -> Frame:
         """Frame `number` of the current stream."""
@@ -365,7 +384,7 @@ class Session:
         if not lines:
             return self.count(timeout).packets
         with self._locked(timeout):
-            return int(self._edits.run_step(lines, timeout).split()[1])
+            return int(words_of(self._edits.run_step(lines, timeout))[1])
 
     def move(self, index: int, to: int, timeout: Optional[float] = None) -> int:
         """Removes a packet and inserts it at index `to` of the remaining ones."""
@@ -397,7 +416,7 @@ class Session:
 
     def count(self, timeout: Optional[float] = None) -> Count:
         """The number of packets and frames."""
-        words = self.request("count", timeout).split()
+        words = words_of(self.request("count", timeout))
         return Count(int(words[1]), int(words[3]))
 
     def decoded(self, timeout: Optional[float] = None) -> int:
@@ -445,9 +464,11 @@ class Session:
         return objects_of(self.request(f"macroblocks {checks.number(index)}", timeout))
 
     def packet(self, index: int, source: Optional[int] = None) -> bytes:
-        """The bytes of a packet of the current source, or of another one."""
+        """The bytes of a packet of the current source, or of another one. `OSError` if a file was changed since the session was opened."""
         with self._locked(None):
-            return self._edits.contents().packet(index, source).bytes()
+            contents = self._edits.contents()
+            self._inputs.all[contents.source(source)].check()
+            return contents.packet(index, source).data
 
     def packets(self, numbers: Optional[Iterable[int]] = None, source: Optional[int] = None) -> list[dict[str, Any]]:
         """The facts of the packets of a range, or of all, of the current source or another one, as `list_packets` has them. Those that do not exist are
@@ -455,16 +476,13 @@ class Session:
         wanted = range(MOST_PACKETS) if numbers is None else [number for number in numbers if number >= 0]
         if not wanted:
             return []
-        first, end = (wanted[0], len(wanted)) if numbers is None else (min(wanted), max(wanted) + 1)
-        lines = [f"list {first} {end - first}"]
-        with self._locked(None) as deadline:
-            if source is not None:
-                contents = self._edits.contents()
-                other, current = contents.source(source), contents.current
-                lines = lines if other == current else [f"use {other}", *lines, f"use {current}"]
-            reply, _ = self._exchange(*map(checks.line, lines), deadline=deadline)[len(lines) // 2]
-        # Refused is only an index past the end.
-        found = [] if reply.startswith("refused ") else objects_of(reply)
+        first, end = (0, MOST_PACKETS) if numbers is None else (min(wanted), max(wanted) + 1)
+        with self._locked(None):
+            try:
+                found = objects_of(self.ask(f"list {first} {end - first}", None if source is None else self._edits.contents().source(source)))
+            except Refused:
+                # Only an index past the end is refused.
+                found = []
         return found if numbers is None else [found[number - first] for number in wanted if number - first < len(found)]
 
     @property
@@ -581,7 +599,7 @@ def objects_of(reply):
 
 def is_reply(reply, line):
     """Whether a reply may be that of a line: a refusal, or one that begins as this request's does."""
-    return reply.split(" ")[0] in ("refused", begins_reply(line.decode(errors="replace")))
+    return is_refusal(reply) or first_word(reply) == begins_reply(line.decode(errors="replace"))
 
 
 def _shown(text):

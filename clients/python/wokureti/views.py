@@ -1,14 +1,19 @@
-"""The packets of one revision as a page draws them. A view is made after each edit, and never changes: no request waits for the program."""
+"""The packets of one revision as a page draws them: columns of what `list` and `origins` report. A view is made after each edit and never changes, so
+that requests do not wait for the program; only the frames of a script are asked for when they are needed first."""
 
 import bisect
 import operator
+import re
 import threading
 from array import array
 from itertools import accumulate, chain
 
-from . import ivf, paces
+from . import paces
 from .ivf import KEY, NO_BYTES, SHOWN
-from .script_runs import origins
+from .lines import nodes_of
+from .listing import common
+from .listing import LOST as LOST_CAUSE
+from .origins import Run, first_change, joined
 
 # Kinds of packets, each one worse than those before it: a column of several packets has the kind of its worst.
 INTER, HIDDEN, KEY_PACKET, FORGED, DROPPED, DAMAGED, LOST, BROKEN = range(8)
@@ -19,6 +24,8 @@ MOST_ENTRIES = 4096
 MOST_TEXT = 200
 # The edits that are shown: the last ones.
 MOST_EDITS = 500
+# The nodes that may change samples.
+CHANGING = ("crop", "fade")
 
 
 def kind_of(tags):
@@ -31,60 +38,40 @@ def kind_of(tags):
 
 # What is said of each value of tags.
 KIND_OF, KEY_OF, SHOWN_OF = (bytes(map(say, range(256))) for say in (kind_of, KEY.__and__, lambda tags: bool(tags & SHOWN)))
+# Packets that decoding refuses one after the other, and the kind that says so.
+REFUSED, KIND_OF_CAUSE = re.compile(b"[^\0]+"), bytes(LOST if cause == LOST_CAUSE else BROKEN for cause in range(256))
 
 
 class Pool:
-    """Of each packet of the pool of `Contents` the kind, the size, and whether it has a key tag and is shown."""
+    """Of each packet of `Contents` the kind, the size, and whether it has a key tag and is shown."""
 
     def __init__(self, contents):
-        self.contents = contents
-        self.kinds, self.sizes, self.keys, self.shown = bytearray(), array("I"), bytearray(), bytearray()
-        for item in contents.inputs.all:
-            index = item.records()
-            self.sizes += index.sizes
-            self.keys += index.tags.translate(KEY_OF)
-            self.shown += index.tags.translate(SHOWN_OF)
-            self.kinds += index.tags.translate(KIND_OF)
-        self.is_listed = False
+        self.contents, self.is_listed = contents, contents.listing.is_whole
+        self.kinds, self.keys, self.shown, self.sizes = bytearray(), bytearray(), bytearray(), contents.listing.sizes
         # For each source how many shown packets of its file come before each of them.
-        self.files = {}
-        self.grow(contents)
+        self.files, self.waiting = {}, set()
+        self.grow()
 
-    def grow(self, contents):
-        """Adds the packets that edits made."""
-        new = range(len(self.kinds), contents.of_files + len(contents.made))
-        has_bytes = False
-        for number in new:
-            made, root = contents.made[number - contents.of_files][1], contents.root(number)
-            if root != number:
-                for known in (self.sizes, self.keys, self.shown, self.kinds):
-                    known.append(known[root])
-                has_bytes = True
-                continue
-            data = contents.bytes(number)
-            tags = ivf.tag_of(len(data), data[0] if data else 0)
-            self.sizes.append(len(data))
-            self.keys.append(tags & KEY)
-            self.shown.append(bool(tags & SHOWN))
-            self.kinds.append(kind_of(tags) if isinstance(made, bytes) else FORGED)
-            has_bytes = has_bytes or (isinstance(made, bytes) and made != b"")
-        if has_bytes and self.is_listed:
-            contents.listed.learn()
-            self.refuse(contents.listed, new)
-
-    def refuse(self, facts, numbers=None):
-        """Marks the packets whose headers are refused."""
-        for number in list(facts.causes) if numbers is None else numbers:
-            if number in facts.causes and number < len(self.kinds):
-                self.kinds[number] = BROKEN
-        self.is_listed = True
+    def grow(self):
+        """Adds the packets that edits made. Those that edits took away before they were listed are known when they come back."""
+        first, tags, unknown = len(self.kinds), self.contents.listing.tags, self.contents.listing.unknown
+        new = tags[first:]
+        self.keys += new.translate(KEY_OF)
+        self.shown += new.translate(SHOWN_OF)
+        self.kinds += new.translate(KIND_OF)
+        self.waiting.update(range(max(first, self.contents.of_files), len(tags)))
+        for number in self.waiting - unknown:
+            tag = tags[number]
+            self.keys[number], self.shown[number] = tag & KEY, bool(tag & SHOWN)
+            self.kinds[number] = FORGED if self.contents.is_forged(number) else kind_of(tag)
+        self.waiting &= unknown
 
 
 class Timeline:
     """The packets of a source: for each its kind, its size, and how many shown packets come before it. `own` are the packets of its file, and
-    `old` is the timeline before the last edits, of which most is taken over."""
+    `old` is the timeline before the last edits, of which most is taken over. `causes` are those against the packets, if they are known."""
 
-    def __init__(self, pool, stream, own, old=None):
+    def __init__(self, pool, stream, own, old=None, causes=b""):
         self.stream = stream
         # The check whose findings are marked, and how many of them.
         self.marked = (None, 0)
@@ -108,23 +95,14 @@ class Timeline:
                 after = old.frames[rest + 1 :]
                 self.frames = old.frames[:first] + self.frames + (array("I", map(shift.__add__, after)) if shift else after)
             self.edited = edited(stream, own, first, len(stream) - end, old)
-        self.kinds, self.sound, self.keys = bytearray(kinds), bytes(kinds), bytes(keys)
-        self.lose()
+        self.kinds, self.sound, self.keys, self.causes = bytearray(kinds), bytes(kinds), bytes(keys), causes
+        for found in REFUSED.finditer(causes):
+            self.kinds[found.start() : found.end()] = found.group().translate(KIND_OF_CAUSE)
 
     def next_key(self, index):
         """The next packet with a key tag, or the number of packets."""
         found = self.keys.find(1, index)
         return len(self.keys) if found < 0 else found
-
-    def lose(self):
-        """Marks the packets that are lost with a refused one, up to the next key packet."""
-        if self.keys and not self.keys[0]:
-            self.kinds[0] = BROKEN
-        place = self.kinds.find(BROKEN)
-        while place >= 0:
-            end = self.next_key(place + 1)
-            self.kinds[place + 1 : end] = bytes([LOST]) * (end - place - 1)
-            place = self.kinds.find(BROKEN, end)
 
     def damage(self, check):
         """Marks the packets that are read past their end, or not to it, as far as a check is."""
@@ -155,19 +133,6 @@ class Timeline:
         if not 0 <= frame < self.frames[-1]:
             return None
         return bisect.bisect_right(self.frames, frame) - 1
-
-
-def common(one, other, step=1):
-    """How many items two arrays have in common at the beginning, or at the end if the step is -1."""
-    low, high = 0, min(len(one), len(other))
-    part = (lambda items, start, stop: items[start:stop]) if step > 0 else (lambda items, start, stop: items[len(items) - stop : len(items) - start])
-    while low < high:
-        middle = (low + high + 1) // 2
-        if part(one, low, middle) == part(other, low, middle):
-            low = middle
-        else:
-            high = middle - 1
-    return low
 
 
 def edited(stream, own, first, end, old):
@@ -201,20 +166,22 @@ def is_marked(stream, own, place):
 
 
 class View:
-    """The stream at a revision."""
+    """The stream at a revision. `served` returns the frames that the script serves at this revision, as runs."""
 
-    def __init__(self, revision, contents, pool, edits, before=None, lends=True):
-        self.revision, self.contents, self.pool = revision, contents, pool
-        self.lock = threading.RLock()
-        self.streams, self.timelines, self.origins, self.ends = [], {}, None, None
+    def __init__(self, revision, contents, pool, session, before, served):
+        self.revision, self.contents, self.pool, self.served = revision, contents, pool, served
+        self.lock, self.is_listed = threading.RLock(), contents.listing.is_whole
+        self.streams, self.causes, self.timelines, self.found_runs = [], [], {}, None
         for source, stream in enumerate(contents.streams):
             old = before.streams[source] if before is not None and source < len(before.streams) else None
             self.streams.append(old if old is not None and old == stream else array("I", stream))
+            self.causes.append(contents.listing.look(source).causes if self.is_listed else b"")
         # The view before lends its timelines, and no view before it.
-        self.before = before if lends else None
+        self.before = before
         if before is not None:
             before.before = None
-        self.script, self.source, self.found_times = contents.script, contents.current, None
+        self.script, self.source, self.frames, self.found_times = contents.script, contents.current, session.count().frames, None
+        edits = session.edits
         self.edits_before = max(0, len(edits.entries) - MOST_EDITS)
         self.edits = [(entry.line[:MOST_TEXT], entry.step, entry.title) for entry in edits.entries[-MOST_EDITS:]]
         self.undone = [line[:MOST_TEXT] for line in edits.undone[:MOST_EDITS]]
@@ -225,27 +192,35 @@ class View:
             found = self.timelines.get(source)
             if found is None:
                 old = self.before.timelines.get(source) if self.before is not None else None
-                is_same = old is not None and old.stream is self.streams[source]
-                found = self.timelines[source] = old if is_same else Timeline(self.pool, self.streams[source], self.own(source), old)
+                is_same = old is not None and old.stream is self.streams[source] and old.causes is self.causes[source]
+                found = self.timelines[source] = old if is_same else Timeline(self.pool, self.streams[source], self.own(source), old, self.causes[source])
             return found
 
     def runs(self):
-        """The frames that are served, as runs, and the frame after each of them."""
-        with self.lock:
-            if self.origins is None:
-                self.origins = origins(self.script, [self.timeline(source).frames[-1] for source in range(len(self.streams))])
-                self.ends = list(accumulate(count for count, _, _ in self.origins))
-            return self.origins, self.ends
+        """The frames that are served, as runs with the nodes that change them, the same as triples, and the frame after each of these."""
+        if self.found_runs is None:
+            # Nothing is locked meanwhile: who has the session may ask the view.
+            runs = [Run(self.frames, 0, 0, ())] * (self.frames > 0) if self.script == "-" else self.served(self)
+            triples = joined(runs)
+            self.found_runs = (runs, triples, list(accumulate(count for count, _, _ in triples)))
+        return self.found_runs
 
     @property
-    def frames(self):
-        """The number of frames that are served."""
-        ends = self.runs()[1]
-        return ends[-1] if ends else 0
+    def has_runs(self):
+        """Whether nothing is to be asked for the frames that are served."""
+        return self.script == "-" or self.found_runs is not None
+
+    def changing(self):
+        """The number and the text of the first node that changes samples of a frame, or None."""
+        nodes = nodes_of(self.script)
+        if not any(words[0] in CHANGING for words in nodes):
+            return None
+        node = first_change(self.runs()[0])
+        return None if node is None else (node, " ".join(nodes[node - 1]))
 
     def origin(self, frame):
         """The source and the packet that a frame shows, or None."""
-        runs, ends = self.runs()
+        _, runs, ends = self.runs()
         place = bisect.bisect_right(ends, frame)
         if place == len(runs):
             return None
@@ -254,7 +229,7 @@ class View:
 
     def frame_of(self, source, packet):
         """The first frame that shows a packet, or the next shown one after it; None if the script shows neither."""
-        runs, ends = self.runs()
+        _, runs, ends = self.runs()
         shown = self.timeline(source).frames[min(packet, len(self.streams[source]))]
         for (count, other, first), end in zip(runs, ends):
             if other == source and first <= shown < first + count:
@@ -263,7 +238,7 @@ class View:
 
     def range_of(self, source, first, end):
         """The frames from the first one that shows one of these packets to the last one, or None if none does."""
-        runs, ends = self.runs()
+        _, runs, ends = self.runs()
         shown, found = self.timeline(source).frames, []
         for (count, other, start), stop in zip(runs, ends):
             low, high = max(start, shown[first]), min(start + count, shown[end])
@@ -277,14 +252,14 @@ class View:
 
     def times(self):
         """The milliseconds at which each frame begins, if source 0 was in a container and its rate varies, else None."""
-        with self.lock:
-            if self.found_times is None:
-                self.found_times = (None,)
-                if self.contents.inputs.all[0].media is not None:
-                    starts = paces.begins(self.contents, self.streams, self.script)
-                    if paces.drift(starts, self.rate) >= paces.step_of(self.rate):
-                        self.found_times = ([round(start / 10**6) for start in starts[:-1]],)
-            return self.found_times[0]
+        if self.found_times is None:
+            found = None
+            if self.contents.inputs.all[0].media is not None:
+                starts = paces.begins(self.contents, self.streams, self.runs()[1])
+                if paces.drift(starts, self.rate) >= paces.step_of(self.rate):
+                    found = [round(start / 10**6) for start in starts[:-1]]
+            self.found_times = (found,)
+        return self.found_times[0]
 
     def own(self, source):
         """The packets of the file of a source, as numbers of the pool."""

@@ -1,0 +1,69 @@
+"""Request lines, replies and scripts as words: the only place where the client splits them. docs/requests.md has the requests."""
+
+# The requests that change something.
+EDITS = frozenset(("use", "insert", "replace", "delete", "move", "copy", "blank", "hold", "hide", "show", "script"))
+# The requests that are not edits, and the first word of their replies. The reply to an edit begins with `ok`.
+REPLIES = {"frame": "served", "count": "packets", "stats": "decoded", "packet": "packet", "list": "lines", "origins": "lines", "header": "lines", "macroblocks": "lines"}
+# The edits after which the bytes that a packet had are nowhere in the session.
+LOSING = frozenset(("delete", "replace", "hide", "show"))
+
+
+def words_of(line):
+    """The words of a line, which spaces separate."""
+    words = line.removesuffix("\r").split(" ")
+    return [word for word in words if word] if "" in words else words
+
+
+def plain(line):
+    """A line with one space between its words."""
+    return " ".join(words_of(line))
+
+
+def first_word(line):
+    """The first word of a line, or an empty text."""
+    word, space, _ = line.lstrip(" ").partition(" ")
+    return word if space else word.removesuffix("\r")
+
+
+def asks_for_script(word, line):
+    """Whether a line that begins with this word is `script` alone, which asks for the script."""
+    return word == "script" and len(words_of(line)) == 1
+
+
+def is_edit(line):
+    """Whether a line of a list is an edit, and not a comment or another request."""
+    word = first_word(line)
+    return bool(word) and word not in REPLIES and not word.startswith("#") and not asks_for_script(word, line)
+
+
+def begins_reply(line):
+    """The first word of the reply to a line, if it is not refused."""
+    word = first_word(line)
+    return word if asks_for_script(word, line) else REPLIES.get(word, "ok")
+
+
+def question_before(line):
+    """The question whose answer has what an edit loses, so that it can be taken back, or None if it loses nothing."""
+    word = first_word(line)
+    if word in LOSING:
+        return " ".join(["packet", *words_of(line)[1:2]])
+    return word if word == "script" and not asks_for_script(word, line) else None
+
+
+def is_refusal(reply):
+    return reply.startswith("refused ")
+
+
+def rest_of(reply):
+    """A reply without its first word."""
+    return reply.partition(" ")[2]
+
+
+def nodes_of(script):
+    """The nodes of a script, each as its words."""
+    return [] if script == "-" else [words_of(node) for node in script.split(";")]
+
+
+def spaced(script):
+    """A script as the session has it, with a space after each node, as people write it."""
+    return script.replace(";", "; ")

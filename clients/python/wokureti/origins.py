@@ -1,0 +1,71 @@
+"""Where the frames of a script come from, as `origins` reports it: runs of frames that follow each other in a source."""
+
+import re
+from typing import NamedTuple
+
+# Frames that are asked for at a time.
+PAGE = 4096
+# What is used of an object of `origins`.
+ORIGIN = re.compile(r'"source":(\d+),"source_frame":(\d+),"packet":\d+,"changed":\[([\d,]*)\]}')
+
+
+class Run(NamedTuple):
+    """So many frames, from a frame of a source on, and the numbers of the nodes that change their samples."""
+
+    count: int
+    source: int
+    first: int
+    changed: tuple
+
+
+def runs_of(session, first=0, count=None):
+    """The frames that the script serves now, or some of them, as runs. Without a script they are those of source 0, and nothing is asked for them."""
+    end = session.count().frames
+    end = end if count is None else min(end, first + count)
+    if session.edits.contents().script == "-":
+        return [Run(end - first, 0, first, ())] if end > first else []
+    found = []
+    while first < end:
+        reply = session.ask(f"origins {first} {min(PAGE, end - first)}")
+        for run in runs_in(ORIGIN.findall(reply)):
+            last = found[-1] if found else None
+            if last is not None and (last.source, last.first + last.count, last.changed) == run[1:]:
+                found[-1] = last._replace(count=last.count + run.count)
+            else:
+                found.append(run)
+        first += PAGE
+    return found
+
+
+def runs_in(origins):
+    """The runs of frames, for each of which its source, its frame there and the nodes that change it are given as texts."""
+    source, start, following, changed = None, 0, None, None
+    for one, frame, nodes in origins:
+        place = int(frame)
+        if place != following or one != source or nodes != changed:
+            if source is not None:
+                yield Run(following - start, int(source), start, nodes_of_text(changed))
+            source, start, changed = one, place, nodes
+        following = place + 1
+    if source is not None:
+        yield Run(following - start, int(source), start, nodes_of_text(changed))
+
+
+def nodes_of_text(text):
+    return tuple(map(int, text.split(","))) if text else ()
+
+
+def joined(runs):
+    """Runs that follow each other in a source as one, whatever changes their samples: triples of a count, a source and its frame."""
+    found = []
+    for count, source, first, _ in runs:
+        if found and found[-1][1] == source and sum(found[-1][::2]) == first:
+            found[-1] = (found[-1][0] + count, source, found[-1][2])
+        else:
+            found.append((count, source, first))
+    return found
+
+
+def first_change(runs):
+    """The number of the first node that changes samples of a frame, or None."""
+    return min((run.changed[0] for run in runs if run.changed), default=None)
