@@ -9,8 +9,7 @@ import sys
 import tempfile
 
 TOP = pathlib.Path(__file__).resolve().parents[3]
-REAL = os.environ["REAL_VP8SERVE"]
-os.environ["VP8SERVE"] = REAL
+REAL = os.environ.get("REAL_VP8SERVE", "")
 sys.path[:0] = [str(TOP / "compare"), str(TOP / "clients/python")]
 HELP = "      --export <FILE>       IVF file for the frames of the script as packets, after the last request\n"
 
@@ -53,6 +52,7 @@ def export(words):
 
 
 def main(words):
+    os.environ["VP8SERVE"] = REAL
     if "--help" in words:
         print(run([REAL, *words]).stdout.decode().replace("      --pad", f"{HELP}      --pad"), end="")
     elif "--export" in words:

@@ -30,6 +30,11 @@ class Operation(NamedTuple):
     def line(self):
         return " ".join([self.word, *map(str, self.numbers), *([self.text] if self.text else [])])
 
+    @property
+    def is_lost(self):
+        """Whether it is not known what the line inserts."""
+        return self.word in ("insert", "replace", "script") and not self.text
+
 
 class Made(NamedTuple):
     """A packet that an edit made: the number of the packet whose time it has, or None; the source that it was made in; and whether it was forged."""

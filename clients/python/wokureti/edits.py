@@ -173,9 +173,10 @@ class EditList:
         with open(path, encoding="utf-8") as file:
             text = file.read()
         entries, numbers, _ = self._parsed(text, path)
-        self._replay(entries, path, numbers)
-        for entry in entries:
-            self.accept(entry.line, entry.lost)
+        with self._session.turn():
+            self._replay(entries, path, numbers)
+            for entry in entries:
+                self.accept(entry.line, entry.lost)
 
     def _parsed(self, text, path):
         """The entries of a list, which must be of this stream."""
@@ -415,6 +416,8 @@ class EditList:
         """Makes changes that are not listed, and returns what takes each of them back. If one is refused for want of memory,
         those that were made are taken back."""
         contents = self.contents()
+        if any(operation.is_lost for operation in operations):
+            raise Refused("refused NoMemory", "there was no memory to ask for what the edit took away")
         replies = self._send([operation.line for operation in operations], timeout)
         refused, made = refusal_of(replies), [(operation, lost) for operation, (reply, lost) in zip(operations, replies) if not isinstance(reply, Refused)]
         done = contents.perform_all([operation for operation, _ in made], [lost for _, lost in made])

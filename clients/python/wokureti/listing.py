@@ -67,10 +67,13 @@ class Listing:
     def go_on(self, source):
         """Lists the next packets of a source that is not wholly listed. Edits may come before the next call."""
         with self.contents.session.turn():
+            if source in self.seen:
+                return
             stream = self.contents.streams[source]
             known = self.begun.setdefault(source, Seen(array("I"), bytearray()))
-            del known.stream[common(known.stream, stream) :]
-            del known.causes[len(known.stream) :]
+            if known.stream != stream[: len(known.stream)]:
+                del known.stream[common(known.stream, stream) :]
+                del known.causes[len(known.stream) :]
             place = len(known.stream)
             # The program reads the headers up to the first packet that is asked for, so pages grow.
             count = min(max(PAGE, place), MOST_PAGE, len(stream) - place)
@@ -85,10 +88,11 @@ class Listing:
         first = common(old.stream, stream)
         rest = len(stream) - common(old.stream[first:], stream[first:], -1)
         shift = len(old.stream) - len(stream)
-        causes = old.causes[:first]
+        causes, after = old.causes[:first], 1
         while len(causes) < len(stream):
             place = len(causes)
-            causes += self.ask(source, place, min(PAGE, max(rest - place, 0) + 1, len(stream) - place))
+            causes += self.ask(source, place, min(PAGE, max(rest - place, 0) + after, len(stream) - place))
+            after = 256
             same = next((at for at in range(max(place, rest), len(causes)) if causes[at] == old.causes[at + shift]), None)
             if same is not None:
                 return causes[:same] + old.causes[same + shift :]

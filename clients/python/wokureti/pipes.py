@@ -16,8 +16,8 @@ import weakref
 from . import programs
 from .frames import FrameReader
 
-AT_ONCE = 1 << 16
-# Linux gives a pipe this many bytes if it is asked to, so that a frame needs fewer reads. The constant is in fcntl since Python 3.10.
+AT_ONCE = 1 << 18
+# Linux gives a pipe this many bytes if it is asked to, so that a frame or a long list needs fewer reads. The constant is in fcntl since Python 3.10.
 F_SETPIPE_SZ, PIPE_BYTES = 1031, 1 << 20
 # How long a program may take to end after it closed its standard output, or was killed.
 GRACE = 1.0
@@ -92,7 +92,7 @@ class Pipes:
         self.finalizer = weakref.finalize(self, end, self.process, self.descriptors, self.owner)
         for descriptor in self.descriptors:
             os.set_blocking(descriptor, False)
-        for descriptor in (lines, frames):
+        for descriptor in (lines, replies, frames):
             try:
                 fcntl.fcntl(descriptor, F_SETPIPE_SZ, PIPE_BYTES)
             except OSError:
