@@ -1,17 +1,15 @@
 """What the client asks the session for: packets that undo brings back, the facts of packets, and the frames of scripts, against a plain model and against vp8list."""
 
 import json
-import os
 import random
-import signal
 import subprocess
 import threading
 import unittest
 from unittest import mock
 
 from exporting import origins as model_origins
-from support import DATA, ODD, SLOW, SMALL, Case, packets_of, process_of, serve
-from wokureti import Ended, Refused, Session, ivf, programs
+from support import DATA, ODD, SLOW, SMALL, Case, crash, packets_of, serve
+from wokureti import Ended, Refused, ivf, programs
 from wokureti.listing import common
 from wokureti.opened import Opened, frame_at, group_of
 from wokureti.origins import first_change, joined, runs_of
@@ -245,7 +243,7 @@ class Facts(AskedCase):
 
     def test_little_is_asked_again(self):
         """An edit asks for a few packets around it, also if a refused packet loses all that follow."""
-        packets = [*packets_of(SCENES)[:4]] * 1
+        packets = packets_of(SCENES)
         stream = self.session("-")
         stream.edits.run_step([f"insert {index} {index} {(packets[0] if index == 0 else packets[1]).hex()}" for index in range(2000)])
         contents = stream.edits.contents()
@@ -380,7 +378,7 @@ class Failures(AskedCase):
     def test_an_exception_in_the_middle(self):
         """The session is over, and goes on from its list as it was before the call."""
         for act in (lambda stream: stream.delete(3), lambda stream: stream.delete(range(2, 9)), lambda stream: stream.undo(), lambda stream: stream.redo()):
-            stream = self.session(SMALL, sources=[ODD])
+            stream = self.session(SMALL, sources=[ODD], engine="program")
             stream.replace(2, b"\1")
             stream.delete(range(4, 7))
             stream.undo()
@@ -409,7 +407,7 @@ class Failures(AskedCase):
 
             def progress(done):
                 counts.append(done)
-                os.kill(process_of(stream), signal.SIGKILL)
+                crash(stream)
 
             with self.assertRaises(Ended):
                 act(stream, progress)
