@@ -4,7 +4,6 @@ import collections
 from typing import NamedTuple
 
 from .differences import Lasting, renewals
-from .lines import words_of
 
 # The edits of a proposal, at most.
 MOST_EDITS = 10000
@@ -26,6 +25,15 @@ class Proposal(NamedTuple):
 
     def members(self):
         return {"name": self.name, "title": self.title, "lines": self.lines, "packet": self.packet}
+
+
+class Filling(NamedTuple):
+    """A packet at a hole or in it: which one of the stream it was, or which one of another source it is copied from; neither if it is new."""
+
+    stamp: int
+    data: bytes
+    mine: object
+    theirs: object
 
 
 class Proposals:
@@ -113,52 +121,46 @@ class Proposals:
         if late:
             names = f"packet {late[0]}" if len(late) == 1 else f"{len(late)} packets that come later"
             lines = [f"move {index} {packet + turn}" for turn, index in enumerate(late)]
-            yield Proposal("move", f"Move {names} to {packet}, where the time stamps belong", self.timed(packet, lines), packet)
+            numbers = [self.stream[index] for index in late]
+            filling = [Filling(self.stamp(index), data, index, None) for index, data in zip(late, self.contents.data(numbers))]
+            title = f"Move {names} to {packet}, where the time stamps belong"
+            yield Proposal("move", title, lines + self.renewed(packet, filling, set(late)), packet)
             return
         for source, shift, stamps in self.others(packet):
             group = [index for other in sorted(stamps) if before < other + shift < stamp for index in stamps[other]]
             if group:
                 lines = [f"copy {source} {index} {packet + turn}" for turn, index in enumerate(group)]
                 title = f"Insert the {len(group)} missing packets of {self.names[source]}"
-                yield Proposal("second", title, self.timed(packet, lines, source, shift, stamps), packet)
+                numbers = [self.view.streams[source][index] for index in group]
+                filling = [Filling(self.contents.stamp(number) + shift, data, None, index) for number, index, data in zip(numbers, group, self.contents.data(numbers))]
+                yield Proposal("second", title, lines + self.renewed(packet, filling, (), source, shift, stamps), packet)
         step = self.step()
         missing = range(before + step, stamp, step) if step else ()
         if missing:
-            lines = [f"insert {packet + turn} {value} -" for turn, value in enumerate(missing[: MOST_EDITS + 1])]
+            filling = [Filling(value, b"", None, None) for value in missing[: MOST_EDITS + 1]]
+            lines = [f"insert {packet + turn} {one.stamp} -" for turn, one in enumerate(filling)]
             title = f"Insert {len(missing)} dropped frames: the picture before is shown"
-            yield Proposal("drop", title, self.timed(packet, lines), packet)
+            yield Proposal("drop", title, lines + self.renewed(packet, filling), packet)
 
-    def timed(self, packet, lines, source=0, shift=0, stamps=None):
-        """Lines that fill the hole before a packet, and those that insert packets next to it again: the packet before a hole lasts as long as the hole.
-        They are copied from another source, if that has them: `stamps` has its packets, whose time stamps differ by `shift`."""
+    def renewed(self, packet, filling, moved=(), source=0, shift=0, stamps=None):
+        """The lines that insert packets next to a hole again, which is filled: the packet before a hole lasts as long as the hole. They are copied from another
+        source, if that has them: `stamps` has its packets, whose time stamps differ by `shift`. `moved` are those that were after the hole."""
         first = packet - 1
         while first > 0 and not self.contents.is_shown(self.stream[first]):
             first -= 1
-        numbers = list(self.stream[first : packet + NEAR_BY])
-        packets = list(zip(map(self.contents.stamp, numbers), self.contents.data(numbers)))
-        lasts = [(index, None) for index in range(len(packets))]
-        known = [(stamp, data, index) for stamp, data in packets for index in (stamps or {}).get(stamp - shift, ())]
-        theirs = {(stamp, data): index for stamp, data, index in known if self.contents.bytes(self.view.streams[source][index]) == data}
-        durations, other = list(self.contents.durations(0, numbers)), {}
-        for index in theirs.values():
-            other[index] = self.contents.duration(self.view.streams[source][index], 0)
-        for line in lines:
-            word, *rest = words_of(line)
-            at = int(rest[0 if word == "insert" else -1]) - first
-            if word == "move":
-                start = int(rest[0]) - first
-                packets.insert(at, packets.pop(start))
-                lasts.insert(at, lasts.pop(start))
-            elif word == "insert":
-                packets.insert(at, (int(rest[1]), b""))
-                lasts.insert(at, (None, None))
-            else:
-                number = self.view.streams[source][int(rest[1])]
-                packets.insert(at, (self.contents.stamp(number) + shift, self.contents.bytes(number)))
-                lasts.insert(at, (None, int(rest[1])))
-                other[int(rest[1])] = self.contents.duration(number, 0)
+        numbers = self.stream[first : packet + NEAR_BY]
+        near = [Filling(self.contents.stamp(number), data, index, None) for index, (number, data) in enumerate(zip(numbers, self.contents.data(numbers)), first)]
+        found = [*near[: packet - first], *filling, *(one for one in near[packet - first :] if one.mine not in moved)]
+        theirs, other = {}, {one.theirs: self.contents.duration(self.view.streams[source][one.theirs], 0) for one in filling if one.theirs is not None}
+        for one in near:
+            for index in (stamps or {}).get(one.stamp - shift, ()):
+                if self.contents.bytes(self.view.streams[source][index]) == one.data:
+                    theirs[(one.stamp, one.data)] = index
+                    other[index] = self.contents.duration(self.view.streams[source][index], 0)
+        durations = dict(enumerate(self.contents.durations(0, numbers), first))
         lasting = Lasting(durations, other, self.contents.inputs.all[0].step())
-        return lines + renewals(packets, theirs, lasts, lasting, first, source)
+        packets, lasts = [(one.stamp, one.data) for one in found], [(one.mine, one.theirs) for one in found]
+        return renewals(packets, theirs, lasts, lasting, first, source)
 
     def of_tail(self):
         """The packets of a second recording after the last one."""

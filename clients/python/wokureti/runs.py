@@ -1,4 +1,4 @@
-"""Runs of vp8serve that end by themselves."""
+"""Runs of vp8serve that end by themselves: for packets without a session, and for what `--pad` adds, which no question reports yet."""
 
 import os
 import subprocess

@@ -1,4 +1,4 @@
-"""When packets are shown, and for how long: `vp8serve --restamp` has the same notion."""
+"""When packets are shown, and for how long: `vp8serve --restamp` has the same notion, and no question reports it yet."""
 
 import statistics
 from array import array
