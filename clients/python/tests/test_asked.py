@@ -168,6 +168,47 @@ class Packets(AskedCase):
             self.assertEqual(self.packets(stream, len(paths)), Model(paths).sources)
             stream.close()
 
+    def test_steps_that_are_refused_are_taken_back(self):
+        """Those after the refused edit are made on other packets than was thought; so are those of an undo of which one is refused."""
+        choose, refused = random.Random(319), 0
+        stream, wanted = self.session(SMALL, sources=[ODD], cache=1), Model([SMALL, ODD]).sources
+        for turn in range(250):
+            lines = [random_line(choose, [12, 12], 0) for _ in range(choose.randrange(2, 9))]
+            try:
+                stream.edits.run_step(lines)
+                stream.undo()
+            except Refused:
+                refused += 1
+            self.assertEqual((self.packets(stream, 2), list(stream.edits)), (wanted, []), lines)
+            # What is left in the list of what was undone can be made again.
+            if turn % 5 == 0 and stream.edits.undone:
+                made = stream.redo()
+                stream.undo()
+                self.assertEqual((stream.edits.undone, self.packets(stream, 2)), (made, wanted))
+        self.assertGreater(refused, 50)
+        self.assertLess(refused, 245)
+
+    def test_what_a_file_has_is_not_asked_for(self):
+        with self.session(SMALL, sources=[ODD]) as stream:
+            real, asked = stream._exchange, []
+            stream._exchange = lambda *lines, deadline: asked.extend(lines) or real(*lines, deadline=deadline)
+            # Nothing is known of the packets yet.
+            stream.delete(3)
+            stream.edits.contents()
+            stream.delete(range(2, 9))
+            stream.edits.run_step(["use 1", "delete 0", "use 0"])
+            stream.hide(1)
+            stream.delete(range(2, 4))
+            # The packet that was hidden is none of the file.
+            stream.delete(1)
+            stream.undo()
+            stream.delete(range(0, 2))
+            self.assertEqual([line for line in asked if line.startswith(b"packet")], [b"packet 3", b"packet 1", b"packet 1", b"packet 0"])
+            del stream._exchange
+            while stream.undo():
+                pass
+            self.assertEqual(self.packets(stream, 2), Model([SMALL, ODD]).sources)
+
     def test_a_list_that_is_read_can_be_undone(self):
         choose, path = random.Random(312), self.folder() / "list"
         with self.session(SMALL, sources=[ODD], edits=path) as stream:
@@ -436,7 +477,7 @@ class Failures(AskedCase):
                 return [("refused NoMemory", None) if line.startswith(b"packet") else answer for line, answer in zip(lines, real(lines, deadline))]
 
             with mock.patch.object(stream._pipes, "exchange", exchange):
-                stream.delete(3)
+                stream.delete(1)
             before = self.state(stream)
             for _ in range(2):
                 with self.assertRaises(Refused) as caught:

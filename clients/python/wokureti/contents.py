@@ -1,6 +1,7 @@
 """Which packet of which file each packet of a session is now. No question of the session says that, nor how long a packet is shown, so edits are followed
 here as far as these need it; all else of a packet is what the session answers."""
 
+import copy
 import itertools
 import math
 import secrets
@@ -9,7 +10,7 @@ from typing import NamedTuple
 
 from . import checks, excerpts, files, ivf, muxing, runs, times
 from .inputs import is_input
-from .lines import rest_of, spaced, words_of
+from .lines import first_word, rest_of, spaced, words_of
 from .listing import Listing
 from .progress import say
 
@@ -17,9 +18,13 @@ from .progress import say
 MOST_TOGETHER, MOST_ASKED = 1 << 16, 256
 
 
+# What a line inserts if that does not matter: a packet of no bytes.
+NOTHING = {"insert": "0 -", "replace": "-"}
+
+
 class Operation(NamedTuple):
     """A change of the packets of a source that was made, or that takes one back: a request line without what it inserts. `packet` is the number of the packet
-    that is inserted, and `text` what the line has of it: its time stamp and its bytes, or a script."""
+    that is inserted, and `text` what the line has of it: its time stamp and its bytes, or a script. Of a packet of a file it is empty until it is needed."""
 
     word: str
     numbers: tuple
@@ -163,7 +168,7 @@ class Contents:
     def make(self, timed, is_forged=False):
         """The number of a new packet."""
         self.made.append(Made(timed, self.current, is_forged))
-        return self.of_files + len(self.made) - 1
+        return self.next_number - 1
 
     def is_forged(self, number):
         return number >= self.of_files and self.made[number - self.of_files].is_forged
@@ -172,6 +177,48 @@ class Contents:
     def script(self):
         """The current script."""
         return spaced(rest_of(self.session.ask("script")))
+
+    @property
+    def next_number(self):
+        """The number of the next packet that an edit makes."""
+        return self.of_files + len(self.made)
+
+    def taken(self, lines):
+        """For each of some edits whether the packet that it takes away is one of a file, so that it need not be asked for. That is sure of one edit, and of
+        several, whichever of them are refused, where they reach no packet that an edit made; else it is not said of any."""
+        other = copy.copy(self)
+        other.streams, other.made, other.lost = [array("I", stream) for stream in self.streams], list(self.made), {}
+        try:
+            if len(lines) > 1 and self.made and any(number >= self.of_files for stream in self.reach(lines) for number in stream):
+                return [False] * len(lines)
+            inverses = other.apply_all(lines)
+        except (IndexError, ValueError):
+            # One is refused.
+            return [False] * len(lines)
+        return [inverse.packet is not None and inverse.packet < self.of_files for inverse in inverses]
+
+    def reach(self, lines):
+        """The packets that edits can take away: of deletions those around, of others all."""
+        if {first_word(line) for line in lines} != {"delete"}:
+            return self.streams
+        places = [int(words_of(line)[1]) for line in lines]
+        return [self.streams[self.current][min(places) : max(places) + len(places)]]
+
+    def has_whole(self, operation, new=None):
+        """Whether what an operation inserts is known. It does not matter of a packet whose number is `new` or a later one: a step that made it and took it away
+        is taken back, so that it goes again."""
+        packet = operation.packet
+        return not operation.is_lost or (packet is not None and (packet < self.of_files or (new is not None and packet >= new)))
+
+    def whole(self, operation):
+        """An operation with what it inserts."""
+        if not operation.is_lost:
+            return operation
+        if operation.packet >= self.of_files:
+            return operation._replace(text=NOTHING[operation.word])
+        item, index = self.where(operation.packet)
+        data = item.read(index).hex() or "-"
+        return operation._replace(text=data if operation.word == "replace" else f"{item.index.stamps[index]} {data}")
 
     # Times
 

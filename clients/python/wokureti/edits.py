@@ -161,6 +161,7 @@ class EditList:
         entries, numbers, after = self._parsed(text, self.path)
         self._replay(entries, self.path, numbers)
         self._entries, self._after = entries, after
+        self._know_all()
         self._step = entries[-1].step if entries else 0
         place = 0
         lines = text.split("\n")[:-1]
@@ -200,6 +201,7 @@ class EditList:
         self._entries, self._undone, self._after, self._step = other._entries, other._undone, other._after, other._step
         for entry in self._entries:
             entry.inverse = None
+        self._know_all()
         self.on_notice, self._ends, self._path, self._named = other.on_notice, other._ends, other._path, other._named
         if self._path is None:
             return
@@ -222,6 +224,11 @@ class EditList:
             self._contents = contents
         return self._contents
 
+    def _know_all(self):
+        """The list has the edits that the program made already."""
+        if self._contents is not None:
+            self._know(self._contents, self._entries)
+
     @staticmethod
     def _know(contents, entries):
         """Makes accepted edits in the contents, and finds what takes each of them back."""
@@ -236,21 +243,35 @@ class EditList:
             return self._contents.current
         return next((int(words_of(entry.line)[1]) for entry in reversed(self._entries) if entry.is_use), 0)
 
-    def _send(self, lines, timeout=None, progress=None):
+    def _send(self, lines, timeout=None, progress=None, texts=None):
         """Sends edits, each after the question what it loses. For each that was sent the reply, which may be a refusal, and what was lost.
-        `progress` is called with how many were made."""
-        asked = [(question_before(line), line) for line in lines]
-        sent = [text for pair in asked for text in pair if text is not None]
-        ends = list(accumulate(1 + (question is not None) for question, _ in asked))
+        `progress` is called with how many were made. `texts` are the lines if these are only how they begin."""
+        questions = self._questions(lines)
+        sent = (text for pair in zip(questions, lines if texts is None else texts) for text in pair if text is not None)
+        ends = list(accumulate(1 + (question is not None) for question in questions))
         told = None if progress is None else lambda done: progress(bisect.bisect_right(ends, done))
         replies, found = iter(self._session.request_all(sent, timeout, told)), []
-        for question, _ in asked:
+        for question in questions:
             answer = next(replies, None) if question is not None else None
             reply = next(replies, None)
             if reply is None:
                 break
             found.append((reply, rest_of(answer) if isinstance(answer, str) else ""))
         return found
+
+    def question(self, line):
+        """The question what an edit loses, or None if it loses nothing, or a packet that a file has."""
+        found = question_before(line)
+        return self._questions([line])[0] if found is not None and self._contents is not None else found
+
+    def _questions(self, lines):
+        """The same for edits that are sent together. Which packets they take away is only sure as long as none is refused, so that it must not matter."""
+        questions = list(map(question_before, lines))
+        count = sum(question is not None for question in questions)
+        if count > 1 or (count and self._contents is not None):
+            taken = self.contents().taken(list(map(plain, lines)))
+            questions = [None if is_of_file else question for question, is_of_file in zip(questions, taken)]
+        return questions
 
     @contextlib.contextmanager
     def step(self, title: str = "") -> Iterator[None]:
@@ -372,10 +393,11 @@ class EditList:
             return replies[-1][0] if replies else ""
         self._depth += 1
         try:
+            new = self.contents().next_number
             for line, (reply, lost) in zip(lines, replies):
                 if not isinstance(reply, Refused):
                     self.accept(plain(line), lost)
-            self._take_back(self._entries[count:], timeout)
+            self._take_back(self._entries[count:], timeout, new)
             del self._entries[count:]
             self._undone, self._after = undone, after
         finally:
@@ -406,24 +428,25 @@ class EditList:
         self._write()
         return [entry.line for entry in group]
 
-    def _take_back(self, group, timeout):
+    def _take_back(self, group, timeout, new=None):
         """Takes back the last entries, the last one first."""
         # What takes an entry back is found when the contents are.
         self.contents()
-        self._perform([entry.inverse for entry in reversed(group)], timeout)
+        self._perform([entry.inverse for entry in reversed(group)], timeout, new)
 
-    def _perform(self, operations, timeout):
+    def _perform(self, operations, timeout, new=None):
         """Makes changes that are not listed, and returns what takes each of them back. If one is refused for want of memory,
         those that were made are taken back."""
         contents = self.contents()
-        if any(operation.is_lost for operation in operations):
+        if not all(contents.has_whole(operation, new) for operation in operations):
             raise Refused("refused NoMemory", "there was no memory to ask for what the edit took away")
-        replies = self._send([operation.line for operation in operations], timeout)
+        texts = (contents.whole(operation).line for operation in operations)
+        replies = self._send([operation.line for operation in operations], timeout, texts=texts)
         refused, made = refusal_of(replies), [(operation, lost) for operation, (reply, lost) in zip(operations, replies) if not isinstance(reply, Refused)]
         done = contents.perform_all([operation for operation, _ in made], [lost for _, lost in made])
         if refused is not None:
             for operation in reversed(done):
-                self._session.request(operation.line, timeout, listed=False)
+                self._session.request(contents.whole(operation).line, timeout, listed=False)
                 contents.perform(operation)
             raise refused
         return done
@@ -433,6 +456,7 @@ class EditList:
         if not self._undone:
             return []
         group, contents = self._undone[-1], self.contents()
+        new = contents.next_number
         replies = self._send([entry.line for entry in group], timeout)
         refused, made = refusal_of(replies), []
         for entry, (reply, lost) in zip(group, replies):
@@ -441,7 +465,7 @@ class EditList:
                 made.append(entry)
         self._know(contents, made)
         if refused is not None:
-            self._perform([entry.inverse for entry in reversed(made)], timeout)
+            self._perform([entry.inverse for entry in reversed(made)], timeout, new)
             raise refused
         self._undone.pop()
         self._entries += group

@@ -21,8 +21,9 @@ def plain(line):
 
 def first_word(line):
     """The first word of a line, or an empty text."""
-    word, space, _ = line.lstrip(" ").partition(" ")
-    return word if space else word.removesuffix("\r")
+    line = line.lstrip(" ")
+    end = line.find(" ")
+    return line.removesuffix("\r") if end < 0 else line[:end]
 
 
 def asks_for_script(word, line):

@@ -15,7 +15,7 @@ from .errors import Ended, Refused, Unexported
 from .frames import Frame, frame_of
 from .inputs import Inputs
 from .library import MOST_FILE, Library, NotExported, engine_of, states_in
-from .lines import EDITS, begins_reply, first_word, is_edit, is_refusal, plain, question_before, rest_of, words_of
+from .lines import EDITS, begins_reply, first_word, is_edit, is_refusal, plain, rest_of, words_of
 from .pipes import Gone, Late, Pipes, Strange
 from .scripts import Script
 
@@ -256,8 +256,8 @@ class Session:
         text = checks.line(line)
         is_known = is_edit(line) and first_word(line) in EDITS
         # What the edit loses is asked for, so that it can be taken back.
-        question = question_before(line) if is_known and listed else None
         with self._locked(timeout) as deadline:
+            question = self._edits.question(line) if is_known and listed and not self._ended else None
             *answers, (reply, picture) = self._exchange(*([] if question is None else [question.encode()]), text, deadline=deadline)
             if is_refusal(reply):
                 raise self._refused(reply, self._lines, deadline)
