@@ -65,7 +65,7 @@ class Listing:
             return self.seen[source]
 
     def go_on(self, source):
-        """Lists the next packets of a source that is not wholly listed. Edits may come before the next call."""
+        """Lists the next packets of a source that is not wholly listed. Edits may come before the next call, and others have the session while the answer is read."""
         with self.contents.session.turn():
             if source in self.seen:
                 return
@@ -76,11 +76,15 @@ class Listing:
                 del known.causes[len(known.stream) :]
             place = len(known.stream)
             # The program reads the headers up to the first packet that is asked for, so pages grow.
-            count = min(max(PAGE, place), MOST_PAGE, len(stream) - place)
-            known.causes.extend(self.ask(source, place, count))
-            known.stream.extend(stream[place : place + count])
-            if len(known.stream) == len(stream):
-                self.seen[source] = self.begun.pop(source)
+            numbers = stream[place : place + min(max(PAGE, place), MOST_PAGE)]
+            reply = self.reply(source, place, len(numbers))
+        causes = self.read(reply, numbers)
+        with self.contents.session.turn():
+            if self.begun.get(source) is known and len(known.stream) == place:
+                known.causes.extend(causes)
+                known.stream.extend(numbers)
+                if known.stream == self.contents.streams[source]:
+                    self.seen[source] = self.begun.pop(source)
 
     def causes_now(self, source, old, stream):
         """The causes of packets of which others were listed. A packet that was there, and has the cause that it had, leaves those after it as they were: what
@@ -100,17 +104,23 @@ class Listing:
 
     def ask(self, source, first, count):
         """Asks for packets of a source, and returns the number of the cause of each."""
+        return self.read(self.reply(source, first, count), self.contents.streams[source][first : first + count])
+
+    def reply(self, source, first, count):
+        """What `list` answers of packets of a source."""
         self.grow()
-        reply = self.contents.session.ask(f"list {first} {count}", source)
-        stream, causes, place = self.contents.streams[source], bytearray(), 0
+        return self.contents.session.ask(f"list {first} {count}", source)
+
+    def read(self, reply, numbers):
+        """Stores what is answered of these packets, and returns the number of the cause of each."""
+        causes, place = bytearray(), 0
         while place >= 0:
             end = reply.find("\n", place + PIECE)
             found = FACTS.findall(reply, place, len(reply) if end < 0 else end)
             if found:
-                start = first + len(causes)
-                causes += self.take(stream[start : start + len(found)], found)
+                causes += self.take(numbers[len(causes) : len(causes) + len(found)], found)
             place = end
-        if len(causes) != count:
+        if len(causes) != len(numbers):
             raise OSError("vp8serve and the client do not find the same packets")
         return causes
 
