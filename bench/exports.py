@@ -20,7 +20,7 @@ import time
 TOP = pathlib.Path(__file__).resolve().parent.parent
 sys.path.insert(0, str(TOP / "clients/python"))
 
-from wokureti import exports, ivf, programs  # noqa: E402
+from wokureti.tools import exports, ivf, programs  # noqa: E402
 
 PARTS, MOST = 30, 8
 VP8SERVE = programs.find("vp8serve")

@@ -28,7 +28,8 @@ TOP = pathlib.Path(__file__).resolve().parent.parent
 sys.path.insert(0, str(TOP / "clients/python"))
 
 from library import firefox  # noqa: E402
-from wokureti import Session, containers, exports, ivf, programs  # noqa: E402
+from wokureti import Session  # noqa: E402
+from wokureti.tools import containers, exports, ivf, programs  # noqa: E402
 
 WIDTH, HEIGHT = 160, 120
 # How often a browser plays a file, at most.

@@ -24,8 +24,8 @@ from library.programs import TOP, VP8LIST, VP8SERVE, real_streams
 
 sys.path.insert(0, str(TOP / "clients/python"))
 
-from wokureti import ivf as files  # noqa: E402
-from wokureti import times  # noqa: E402
+from wokureti.tools import ivf as files  # noqa: E402
+from wokureti.tools import times  # noqa: E402
 
 
 def run(words, text=None):

@@ -21,7 +21,8 @@ import time
 TOP = pathlib.Path(__file__).resolve().parent.parent
 sys.path.insert(0, str(TOP / "clients/python"))
 
-from wokureti import Session, ivf, programs  # noqa: E402
+from wokureti import Session  # noqa: E402
+from wokureti.tools import ivf, programs  # noqa: E402
 
 NAMES = ("one", "two")
 

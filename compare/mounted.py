@@ -26,7 +26,9 @@ TOP = pathlib.Path(__file__).resolve().parent.parent
 sys.path.insert(0, str(TOP / "clients/python"))
 
 from library import screens  # noqa: E402
-from wokureti import Session, ivf, mount, programs  # noqa: E402
+from wokureti import Session  # noqa: E402
+from wokureti.server import mount  # noqa: E402
+from wokureti.tools import ivf, programs  # noqa: E402
 
 LIBRARY = TOP / "compare/library"
 RATE, COUNT, WIDTH, HEIGHT = 25, 120, 320, 180

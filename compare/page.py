@@ -27,8 +27,9 @@ from browser import Browser
 TOP = pathlib.Path(__file__).resolve().parent.parent
 sys.path.insert(0, str(TOP / "clients/python"))
 
-from wokureti import Session, ivf, programs  # noqa: E402
-from wokureti.frames import frame_of, sides  # noqa: E402
+from wokureti import Session  # noqa: E402
+from wokureti.tools import ivf, programs  # noqa: E402
+from wokureti.session.frames import frame_of, sides  # noqa: E402
 
 # Milliseconds that a step of the wheel may take.
 MOST_STEP = 50

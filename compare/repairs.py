@@ -17,7 +17,7 @@ import tempfile
 TOP = pathlib.Path(__file__).resolve().parent.parent
 sys.path.insert(0, str(TOP / "clients/python"))
 
-from wokureti import ivf, programs, repair  # noqa: E402
+from wokureti.tools import ivf, programs, repair  # noqa: E402
 
 FRAMES = 200
 SOURCES = ["mandelbrot=size=176x144:rate=25", "testsrc2=size=176x144:rate=25", "life=size=96x96:rate=25:mold=10:ratio=0.4,scale=160:96"]

@@ -21,8 +21,9 @@ import zlib
 TOP = pathlib.Path(__file__).resolve().parent.parent
 sys.path.insert(0, str(TOP / "clients/python"))
 
-from wokureti import Session, programs  # noqa: E402
-from wokureti.frames import sides  # noqa: E402
+from wokureti import Session  # noqa: E402
+from wokureti.tools import programs  # noqa: E402
+from wokureti.session.frames import sides  # noqa: E402
 
 RATE = 25
 QUIET = {"stdin": subprocess.DEVNULL, "timeout": 120, "check": True}

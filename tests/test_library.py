@@ -20,7 +20,7 @@ import tempfile
 TOP = pathlib.Path(__file__).resolve().parent.parent
 sys.dont_write_bytecode = True
 sys.path.insert(0, str(TOP / "clients/python"))
-from wokureti import library  # noqa: E402
+from wokureti.session import library  # noqa: E402
 
 CLIPS = TOP / "crates/gate_clips/data"
 LISTS, LIVE_LISTS, LIMIT = 60, 1000, 120

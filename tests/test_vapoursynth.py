@@ -18,7 +18,7 @@ from fractions import Fraction
 
 TOP = pathlib.Path(__file__).resolve().parent.parent
 sys.path.insert(0, str(TOP / "clients/python"))
-from wokureti import ivf  # noqa: E402
+from wokureti.tools import ivf  # noqa: E402
 
 DATA = TOP / "crates/gate_clips/data"
 LIBRARY = pathlib.Path(os.environ.get("LIBWOKURETI") or TOP / "bin/libwokureti.so.0")

@@ -21,7 +21,8 @@ import tempfile
 TOP = pathlib.Path(__file__).resolve().parent.parent
 sys.path[1:1] = [str(TOP / "clients/python"), str(TOP / "compare")]
 import test_library  # noqa: E402
-from wokureti import Session, ivf  # noqa: E402
+from wokureti import Session  # noqa: E402
+from wokureti.tools import ivf  # noqa: E402
 
 PAGE = pathlib.Path(os.environ.get("WOKURETI_WEB") or TOP / "bin/web")
 SERVE = os.environ.get("VP8SERVE") or str(TOP / "bin/vp8serve")

@@ -15,7 +15,9 @@ import unittest
 TOP = pathlib.Path(__file__).resolve().parents[3]
 sys.path.insert(0, str(TOP / "clients/python"))
 
-from wokureti import Session, ivf, library, programs  # noqa: E402
+from wokureti import Session  # noqa: E402
+from wokureti.session import library  # noqa: E402
+from wokureti.tools import ivf, programs  # noqa: E402
 
 # The programs of this tree are tested, not others that may be on the PATH.
 for name in ("vp8serve", "vp8list"):
@@ -151,7 +153,7 @@ def frames_of(stream, numbers, *lines_before):
         with open(out, "rb") as file:
             header = file.readline()
             rest = file.read()
-    from wokureti.frames import parse_header, size_of
+    from wokureti.session.frames import parse_header, size_of
 
     size = 6 + size_of(*parse_header(header))
     return [rest[start + 6 : start + size] for start in range(0, len(rest), size)]

@@ -9,10 +9,11 @@ from unittest import mock
 
 from exporting import origins as model_origins
 from support import DATA, ODD, SLOW, SMALL, Case, crash, packets_of, serve
-from wokureti import Ended, Refused, ivf, programs
-from wokureti.listing import common
-from wokureti.opened import Opened, frame_at, group_of
-from wokureti.origins import first_change, joined, runs_of
+from wokureti import Ended, Refused
+from wokureti.tools import ivf, programs
+from wokureti.session.listing import common
+from wokureti.page.opened import Opened, frame_at, group_of
+from wokureti.session.origins import first_change, joined, runs_of
 
 HIDDEN, SCENES = DATA / "hidden-altref.ivf", DATA / "scene-cuts.ivf"
 # Packets that drop a frame, that decoding refuses, and that are sound.
@@ -303,7 +304,7 @@ class Facts(AskedCase):
 
     def test_edits_while_a_stream_is_listed(self):
         choose = random.Random(314)
-        with mock.patch("wokureti.listing.PAGE", 3), mock.patch("wokureti.listing.MOST_PAGE", 5):
+        with mock.patch("wokureti.session.listing.PAGE", 3), mock.patch("wokureti.session.listing.MOST_PAGE", 5):
             for _ in range(30):
                 stream = self.session(SCENES)
                 listing = stream.edits.contents().listing
@@ -354,7 +355,7 @@ class Frames(AskedCase):
             for line in stream.edits:
                 model.make(line)
             frames = stream.count().frames
-            with mock.patch("wokureti.origins.PAGE", choose.choice([1, 4, 4096])):
+            with mock.patch("wokureti.session.origins.PAGE", choose.choice([1, 4, 4096])):
                 runs = runs_of(stream)
                 part = runs_of(stream, frames // 3, 5)
             asked = stream.origins(0, frames)
@@ -402,7 +403,7 @@ class Frames(AskedCase):
                 self.assertEqual(frame_at(stream, 0, packet), facts[after]["frame"])
             stream.hide(len(facts) - 1)
             self.assertEqual(frame_at(stream, 0, len(facts) - 1), stream.count().frames - 1)
-        with self.session(SCENES) as stream, mock.patch("wokureti.opened.PAGE", 5):
+        with self.session(SCENES) as stream, mock.patch("wokureti.page.opened.PAGE", 5):
             keys = [fact["packet"] for fact in stream.packets() if fact["kind"] == "key"]
             count = stream.count().packets
             for packet in range(count + 2):

@@ -11,7 +11,8 @@ import unittest
 from unittest import mock
 
 from support import DATA, ODD, SLOW, SMALL, Case, command, packets_of, start, start_unwaking, whole_text, write_packets
-from wokureti import Session, cat, commands, machines, parts, programs
+from wokureti import Session, commands
+from wokureti.tools import cat, machines, parts, programs
 
 SCENES = DATA / "scene-cuts.ivf"
 HIDDEN = DATA / "hidden-altref.ivf"

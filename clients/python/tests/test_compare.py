@@ -14,7 +14,9 @@ from unittest import mock
 
 from support import DATA, ODD, SLOW, SMALL, TOP, Case, command, packets_of, start, whole_text, write_packets
 from test_serve import unpacked
-from wokureti import Session, compare, frames, ivf, programs
+from wokureti import Session
+from wokureti.session import frames
+from wokureti.tools import compare, ivf, programs
 
 BROKEN = b"\x10\x00"
 # 8 frames of 5x3: 15 luma samples, and 6 of each chroma plane.
@@ -285,7 +287,7 @@ class Decoders(Case):
         self.assertEqual((status, lines, failures), (0, [*(f"{name}: same" for name in names), "4 of 4 streams are the same"], {}))
         # I420, as a decoder writes it that knows no Y4M; one stream by itself, and one process.
         raw = 'tail -n +2 "$2.y4m" | sed "s/^FRAME$//" > /dev/null; "$0.py" "$2.y4m" > "$2"'
-        (self.room.parent / "a decoder.py").write_text(f"#!{sys.executable}\nimport sys\nsys.path.insert(0, {str(TOP / 'clients/python')!r})\nfrom wokureti import y4m\nfor frame in y4m.read_frames(open(sys.argv[1], 'rb')):\n    sys.stdout.buffer.write(frame[2])\n")
+        (self.room.parent / "a decoder.py").write_text(f"#!{sys.executable}\nimport sys\nsys.path.insert(0, {str(TOP / 'clients/python')!r})\nfrom wokureti.tools import y4m\nfor frame in y4m.read_frames(open(sys.argv[1], 'rb')):\n    sys.stdout.buffer.write(frame[2])\n")
         (self.room.parent / "a decoder.py").chmod(0o755)
         self.assertEqual(self.run_it(raw, "--jobs", "1")[0], 0)
 

@@ -13,7 +13,7 @@ from array import array
 from unittest import mock
 
 from support import SLOW, SMALL, Case, command, packets_of, write_packets
-from wokureti import blocks, containers, excerpts, ivf, matroska, muxing, opus, paces, sounds, times
+from wokureti.tools import blocks, containers, excerpts, ivf, matroska, muxing, opus, paces, sounds, times
 
 MS = 10**6
 HAS_FFMPEG = bool(shutil.which("ffmpeg") and shutil.which("ffprobe"))
@@ -458,7 +458,7 @@ class Writing(Case):
         lines = ["delete 0"] * 20 + ["move 20 0"] * 20
         with self.assertRaisesRegex(ValueError, "sound track 0 cannot be copied: a packet of vorbis needs the one before it"):
             self.edited("vorbis.webm", "out.webm", *lines, sound="copy")
-        with mock.patch("wokureti.progress.print") as said:
+        with mock.patch("wokureti.tools.progress.print") as said:
             found, path, _ = self.edited("vorbis.webm", "out.webm", *lines)
         self.assertIn("sound track 0 is coded again as Opus: a packet of vorbis needs", said.call_args[0][0])
         self.assertEqual((found.sounds[0].codec, len(found.sounds)), ("opus", 1))

@@ -13,8 +13,10 @@ import unittest
 from unittest import mock
 
 from support import DATA, ODD, SLOW, SMALL, TOP, Case, list_of, packets_of, process_of, serve, write_packets
-from wokureti import Ended, Refused, Script, Session, edit_files, programs
-from wokureti.errors import OtherStream
+from wokureti import Ended, Refused, Script, Session
+from wokureti.session import edit_files
+from wokureti.tools import programs
+from wokureti.session.errors import OtherStream
 
 HIDDEN = DATA / "hidden-altref.ivf"
 

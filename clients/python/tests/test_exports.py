@@ -10,7 +10,8 @@ import test_containers
 import test_page
 from support import DATA, SMALL, Case, command, packets_of, serve, write_packets
 from test_containers import clip, frames, media, needs_ffmpeg, setUpModule, sound_packets  # noqa: F401
-from wokureti import convert, exports, ivf, opened, opus, programs
+from wokureti.page import opened
+from wokureti.tools import convert, exports, ivf, opus, programs
 
 MS = 10**6
 SCENES = DATA / "scene-cuts.ivf"

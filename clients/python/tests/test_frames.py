@@ -8,8 +8,8 @@ import unittest
 from unittest import mock
 
 from support import SMALL, Case, packets_of
-from wokureti import colours, files, ivf
-from wokureti.frames import frame_of, size_of
+from wokureti.tools import colours, files, ivf
+from wokureti.session.frames import frame_of, size_of
 
 # Y, Cb and Cr of colour bars of 100 %, for 16 to 235: ITU-R BT.601 and BT.709. Red, green and blue are 0 or 255.
 BARS = {

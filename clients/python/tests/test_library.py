@@ -12,7 +12,9 @@ import unittest.mock
 
 import test_session
 from support import CLIP, DATA, ODD, SMALL, TOP, Case, packets_of, write_packets
-from wokureti import Ended, Refused, Session, library, programs
+from wokureti import Ended, Refused, Session
+from wokureti.session import library
+from wokureti.tools import programs
 
 
 @unittest.skipIf(library.find() is None, "libwokureti.so.0 is not built: ./build.py --library makes it")

@@ -14,9 +14,10 @@ import unittest
 import zlib
 
 from support import DATA, SLOW, SMALL, Case, children_of, command, crash, packets_of, serve, start, whole_text, write_packets
-from wokureti import folders, ivf, mount, png
-from wokureti.live import Changed
-from wokureti.opened import Opened
+from wokureti.server import folders, mount
+from wokureti.tools import ivf, png
+from wokureti.server.live import Changed
+from wokureti.page.opened import Opened
 
 SCENES = DATA / "scene-cuts.ivf"
 
@@ -172,7 +173,7 @@ class Files(Case):
         room = self.folder()
         (room / "fusepy.py").write_text("raise ImportError")
         (room / "fuse.py").write_text("# python3-fuse, which is another module\n")
-        env = {**os.environ, "PYTHONPATH": f"{room}:{mount.__file__.rsplit('/', 2)[0]}"}
+        env = {**os.environ, "PYTHONPATH": f"{room}:{mount.__file__.rsplit('/', 3)[0]}"}
         done = subprocess.run([sys.executable, "-m", "wokureti", "mount", SMALL, room], env=env, capture_output=True, text=True, timeout=20 * SLOW, check=False)
         self.assertEqual((done.returncode, done.stdout), (2, ""))
         self.assertIn("install python3-fusepy and fuse3", done.stderr)

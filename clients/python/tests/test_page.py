@@ -19,10 +19,12 @@ from unittest import mock
 
 from support import DATA, ODD, SLOW, SMALL, Case, command, crash, frames_of, list_of, packets_of, serve, start, write_packets
 from test_serve import TOKEN, ServerCase
-from wokureti import Refused, Script, Session, ivf, programs, views
-from wokureti.opened import Opened
-from wokureti.pages import KINDS, PageRoutes, files_of_page
-from wokureti.web import Server
+from wokureti import Refused, Script, Session
+from wokureti.page import views
+from wokureti.tools import ivf, programs
+from wokureti.page.opened import Opened
+from wokureti.page.pages import KINDS, PageRoutes, files_of_page
+from wokureti.server.web import Server
 
 BROKEN = b"\x10\x00"
 # Three clips of one size, with key packets at 0, 4, 16 and 32.
@@ -126,8 +128,8 @@ class Files(PageCase):
                 self.assertIn(other, names, name)
 
     def test_serve_has_no_page(self):
-        from wokureti.live import Live
-        from wokureti.routes import Routes
+        from wokureti.server.live import Live
+        from wokureti.server.routes import Routes
 
         self.serve()
         live = Live({"stream": SMALL})
@@ -594,7 +596,7 @@ class Saving(PageCase):
         room = self.folder()
         self.opened(room)
         self.step("delete 3")
-        with mock.patch("wokureti.files.whole", side_effect=OSError(28, "No space left on device")):
+        with mock.patch("wokureti.tools.files.whole", side_effect=OSError(28, "No space left on device")):
             status, _, body = self.post_to("/edits", line="save")
         self.assertEqual((status, "clip-edited.ivf: No space left on device: not saved, and nothing was written" in json.loads(body)["error"]), (500, True))
         self.assertEqual(sorted(path.name for path in room.iterdir()), ["clip.edits"])
@@ -627,7 +629,7 @@ class Saving(PageCase):
         room = self.folder()
         self.opened(room)
         self.step("delete 3")
-        with mock.patch("wokureti.edit_files.EditFile.write", side_effect=OSError(28, "full")):
+        with mock.patch("wokureti.session.edit_files.EditFile.write", side_effect=OSError(28, "full")):
             self.assertEqual(self.post_to("/edits", lines=["delete 0", "delete 0"])[0], 500)
         found = self.members("/session")
         self.assertEqual((found["edits"], found["unwritten"], found["revision"]), (["delete 3", "delete 0", "delete 0"], 2, 3))
@@ -1241,8 +1243,8 @@ class TheCommand(Case):
         one.close()
 
     def test_names_beside(self):
-        from wokureti.opening import stem_of
-        from wokureti.saves import claimed, free_name
+        from wokureti.page.opening import stem_of
+        from wokureti.server.saves import claimed, free_name
 
         room = self.folder()
         self.assertEqual([stem_of(path) for path in (f"{room}/clip.webm", "-", "/dev/fd/5")], [f"{room}/clip", "stream", "5"])
@@ -1251,7 +1253,7 @@ class TheCommand(Case):
         self.assertEqual((free_name(f"{room}/a"), claimed(f"{room}/a"), claimed(f"{room}/a")), (f"{room}/a-edited-3.ivf", f"{room}/a-edited-3.ivf", f"{room}/a-edited-4.ivf"))
 
     def test_a_folder_that_cannot_be_written(self):
-        from wokureti import opening
+        from wokureti.page import opening
 
         room = self.folder()
         with mock.patch.object(opening, "is_writable", return_value=False), mock.patch.dict(os.environ, {"XDG_STATE_HOME": str(room / "state")}):

@@ -11,8 +11,9 @@ import unittest
 from unittest import mock
 
 from support import DATA, ODD, SMALL, TOP, Case, command, packets_of, serve, start_python
-from wokureti import commands, ivf, programs, repair, salvage
-from wokureti.differences import edits_between
+from wokureti import commands
+from wokureti.tools import ivf, programs, repair, salvage
+from wokureti.tools.differences import edits_between
 
 CHECKS = TOP / "crates/gate_checks/data"
 CLEAN = CHECKS / "clean.ivf"
@@ -160,7 +161,7 @@ class Order(RepairCase):
 
 
 def serve_hold(width, height):
-    from wokureti import runs
+    from wokureti.tools import runs
 
     return runs.saved_packets(programs.find("vp8serve"), [f"blank 0 {width} {height}", "hold 1"])[-1][1]
 

@@ -19,11 +19,14 @@ from unittest import mock
 
 from support import DATA, ENGINE, ODD, SLOW, SMALL, Case, children_of, crash, is_alive, list_of, packets_of, start, start_unwaking, whole_text, write_packets
 from test_edits import edit
-from wokureti import Refused, Script, Session, edit_files, ivf, virtual, web
-from wokureti.live import Live
-from wokureti.outcomes import Outcomes
-from wokureti.routes import Routes
-from wokureti.web import Server
+from wokureti import Refused, Script, Session
+from wokureti.server import virtual, web
+from wokureti.session import edit_files
+from wokureti.tools import ivf
+from wokureti.server.live import Live
+from wokureti.session.outcomes import Outcomes
+from wokureti.server.routes import Routes
+from wokureti.server.web import Server
 
 CLIP = DATA / "sharpness-1.ivf"
 SCENES = DATA / "scene-cuts.ivf"

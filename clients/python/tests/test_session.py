@@ -14,8 +14,9 @@ import unittest
 from unittest import mock
 
 from support import CLIP, DATA, ODD, SLOW, SMALL, SPEAKER, TOP, Case, digest, frames_of, is_alive, packets_of, process_of
-from wokureti import Count, Ended, Refused, Session, Unexported, ivf, programs
-from wokureti.frames import FrameReader
+from wokureti import Count, Ended, Refused, Session, Unexported
+from wokureti.tools import ivf, programs
+from wokureti.session.frames import FrameReader
 
 # The size of the example, and the MD5 of some of its frames, from `vpxdec --i420`.
 WIDTH, HEIGHT = 320, 180

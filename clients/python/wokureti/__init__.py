@@ -14,12 +14,12 @@
 Each call writes one request line to `vp8serve --live` and waits for its reply. docs/requests.md has the requests and refusals.
 """
 
-from .edits import EditList
-from .errors import Ended, Refused, Unexported
-from .frames import Frame
-from .scripts import Script
-from .session import Count, Session
-from .versions import version
+from .session.edits import EditList
+from .session.errors import Ended, Refused, Unexported
+from .session.frames import Frame
+from .session.scripts import Script
+from .session.session import Count, Session
+from .tools.versions import version
 
 __version__ = version()
 

@@ -10,9 +10,11 @@ import tempfile
 import threading
 import traceback
 
-from . import __version__, cat, checks, containers, convert, excerpts, files, ivf, muxing, programs, rooms, sounds
-from .errors import Ended, Lost, Refused, sentence
-from .progress import say
+from . import __version__
+from .session import checks
+from .tools import cat, containers, convert, excerpts, files, ivf, muxing, programs, rooms, sounds
+from .session.errors import Ended, Lost, Refused, sentence
+from .tools.progress import say
 
 ABOUT = """\
 Shows, edits, repairs and compares VP8 streams with the programs vp8serve and vp8list. They are those of the variables VP8SERVE and
@@ -76,7 +78,7 @@ def opened(given, folder):
 
 
 def run_cat(given):
-    from . import paces
+    from .tools import paces
 
     program = programs.find("vp8serve")
     jobs = given.jobs or len(os.sched_getaffinity(0))
@@ -89,7 +91,7 @@ def run_cat(given):
         if given.constant:
             return cat.write_constant(session, given.out)
         if given.sshlogin:
-            from . import machines
+            from .tools import machines
 
             logins = [login for words in given.sshlogin for login in words.split(",") if login]
             workers = machines.workers_of(session, logins, given.remote, given.tables)
@@ -151,7 +153,7 @@ def add_open(commands):
 
 
 def run_open(given):
-    from . import opening
+    from .page import opening
 
     with rooms.Room() as folder:
         options = served(given, folder)
@@ -175,7 +177,7 @@ def add_serve(commands):
 
 
 def run_serve(given):
-    from . import serve
+    from .server import serve
 
     with rooms.Room() as folder:
         options = {**served(given, folder), "anyway": given.anyway}
@@ -201,7 +203,9 @@ def add_mount(commands):
 
 
 def run_mount(given):
-    from . import mount, opened, opening, paces
+    from .page import opened, opening
+    from .server import mount
+    from .tools import paces
 
     mount.fuse_module()
     with rooms.Room() as folder:
@@ -244,7 +248,7 @@ def add_cut(commands):
 
 
 def run_cut(given):
-    from . import exports
+    from .tools import exports
 
     counts = {len(given.starts), len(given.ends)}
     if not any(counts) or (len(counts) > 1 and max(counts) > 1):
@@ -266,7 +270,7 @@ def add_join(commands):
 
 
 def run_join(given):
-    from . import exports
+    from .tools import exports
 
     return run_script(given, given.streams, lambda frames: exports.join_script(len(given.streams)))
 
@@ -290,7 +294,7 @@ def run_export(given):
 
 def run_script(given, streams, script_of):
     """Writes OUT of the frames of a script, which is made of the frames of the streams, or that of the arguments."""
-    from . import exports, progress
+    from .tools import exports, progress
 
     edits, script = getattr(given, "edits", None), getattr(given, "script", None)
     cat.check_output(given.out, [*streams, edits, given.tables])
@@ -334,7 +338,7 @@ def add_repair(commands):
 
 
 def run_repair(given):
-    from . import ivf, progress, repair
+    from .tools import ivf, progress, repair
 
     inputs = [given.stream, given.second, given.tables]
     for out in (given.out, given.edits):
@@ -399,7 +403,7 @@ def read_all(path):
 
 def salvage_count(data):
     """The packets that vp8serve reads of a file."""
-    from . import salvage
+    from .tools import salvage
 
     found = salvage.plain(data)
     return found[1] if found else []
@@ -430,7 +434,7 @@ def add_compare(commands):
 
 
 def run_decoder(given):
-    from . import decoders
+    from .tools import decoders
 
     found = []
     for result in decoders.results(given.one, given.decoder, given.jobs or len(os.sched_getaffinity(0)), given.tables):
@@ -444,7 +448,7 @@ def run_decoder(given):
 
 
 def run_compare(given):
-    from . import compare
+    from .tools import compare
 
     if given.decoder is not None:
         if given.other is not None or given.png is not None or given.jobs < 0:
@@ -475,7 +479,7 @@ def add_png(commands):
 
 
 def run_png(given):
-    from . import png
+    from .tools import png
 
     with rooms.Room() as folder:
         with opened(given, folder) as session:

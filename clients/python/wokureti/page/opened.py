@@ -1,0 +1,285 @@
+"""The stream that a page shows: with its views, its check, the stream before the edits, and previews of edits."""
+
+import contextlib
+import json
+import threading
+import time
+
+from ..server import live
+from ..session import checks
+from ..tools import facts
+from .checking import Check
+from ..session.contents import packet_of
+from ..session.errors import Ended, Lost, Refused
+from ..session.lines import first_word, rest_of
+from ..session.origins import runs_of
+from .views import Pool, View
+
+
+# Seconds between two pages of a list in the background, and packets that a preview asks for at a time.
+PAUSE, PAGE = 0.001, 256
+# The packets of a group that a preview checks, at most.
+MOST_GROUP = 1000
+# Checks whose findings are stored.
+MOST_CHECKS = 8
+
+
+class Opened(live.Live):
+    """A stream with what a page needs. What is not the program's own work is answered while the program works."""
+
+    def __init__(self, options, edits=None, save=None, pad=False, stems=()):
+        self.pad = pad
+        self.current, self.pool, self.known_runs = None, None, (None, None)
+        self.check_lock, self.check, self.checks, self.count = threading.Lock(), None, [], 0
+        # Programs beside the one of the stream: of edits that are not made, and of packets that no frame shows.
+        self.originals, self.preview, self.aside = {}, Preview(options), Preview(options)
+        # What goes on: a word, how much of it is done, of how much, and since when.
+        self.doing = None
+        super().__init__(options, edits, save, stems)
+        threading.Thread(target=self.list_files, daemon=True).start()
+
+    # Views
+
+    def list_files(self):
+        """Lists the headers of all packets, some at a time; until that is done, no packet is known to be refused."""
+        with contextlib.suppress(OSError, Ended, Lost, Refused):
+            self.session.read_indexes()
+            with self.lock:
+                contents = self.contents()
+            for source in range(len(contents.streams)):
+                while source not in contents.listing.seen:
+                    contents.listing.go_on(source)
+                    # Whoever waits for the session comes first.
+                    time.sleep(PAUSE)
+            # What the first edit writes to the list.
+            contents.inputs.all[0].digest()
+            with self.lock:
+                if self.current is not None and self.current.contents is contents:
+                    self.current = self.make_view(self.current)
+                self.changed.notify_all()
+
+    def current_view(self):
+        """The view of the current revision."""
+        found = self.current
+        if found is not None and found.revision == self.revision:
+            return found
+        with contextlib.suppress(OSError, ValueError):
+            # Frames are answered meanwhile.
+            self.session.read_indexes()
+        with self.lock:
+            found = self.current
+            if found is None or found.revision != self.revision:
+                found = self.current = self.ask(lambda session: self.make_view(self.current))
+            return found
+
+    def make_view(self, before):
+        contents = self.contents()
+        if contents.listing.is_whole or contents.made:
+            contents.listing.learn()
+        if self.pool is None or self.pool.contents is not contents:
+            self.pool, before = Pool(contents), None
+        else:
+            self.pool.grow()
+        return View(self.revision, contents, self.pool, self.session, before, self.served)
+
+    def served(self, view):
+        """The frames that the script serves at a revision, as runs. They stay the same as long as the script and the numbers of frames of the sources do.
+        `Changed` if the stream is of another revision."""
+        with self.lock:
+            if view.revision != self.revision:
+                raise live.Changed
+            key = (view.contents, view.script, tuple(view.timeline(source).frames[-1] for source in range(len(view.streams))))
+            if self.known_runs[0] != key:
+                self.known_runs = (key, self.ask(runs_of))
+            return self.known_runs[1]
+
+    def origins(self, view, first, count):
+        """For frames of a revision the source and the packet that each shows."""
+        end = min(first + count, view.frames)
+        if view.has_runs:
+            return [view.origin(frame) for frame in range(first, end)]
+        with self.lock:
+            if view.revision != self.revision:
+                raise live.Changed
+            found = self.ask(lambda session: session.origins(first, end - first)) if first < end else []
+        return [(origin["source"], origin["packet"]) for origin in found]
+
+    def tell(self):
+        super().tell()
+        if self.current is not None:
+            # If the program ended, the view is made when it is asked for.
+            with contextlib.suppress(Ended):
+                self.current = self.make_view(self.current)
+
+    def again(self, ended):
+        super().again(ended)
+        # Its packets are read again, and listed again.
+        self.current, self.pool = None, None
+        threading.Thread(target=self.list_files, daemon=True).start()
+
+    def forget(self):
+        super().forget()
+        self.current, self.pool = None, None
+        for other in (self.preview, self.aside):
+            other.close()
+        self.preview, self.aside = Preview(self.options), Preview(self.options)
+        threading.Thread(target=self.list_files, daemon=True).start()
+
+    # Edits
+
+    def make(self, edit):
+        self.doing = ("edit", 0, 1, time.monotonic())
+        try:
+            return super().make(edit)
+        finally:
+            self.doing = None
+
+    def on_progress(self, done, total):
+        self.doing = ("edit", done, total, self.doing[3])
+
+    def close(self):
+        if self.saves.named is None or self.is_known_saved():
+            interrupt(self)
+        with self.check_lock:
+            if self.check is not None:
+                self.check.stop()
+        for original in self.originals.values():
+            interrupt(original)
+            original.close()
+        self.preview.close()
+        self.aside.close()
+        super().close()
+
+    def is_known_saved(self):
+        """Whether there is nothing to save at the end, without waiting for a request that goes on."""
+        view = self.current
+        if view is None or view.revision != self.revision:
+            return False
+        is_edited = self.revision > 1 or len(self.session.edits) > 0
+        return not is_edited or self.saves.file_of(0, view.contents, view.streams[0]) is not None
+
+    # What is beside the stream
+
+    def checked(self):
+        """The check of the current stream, begun now if it is another one than that of the check before."""
+        view = self.current_view()
+        with self.check_lock:
+            if self.check is None or self.check.error or not self.check.is_of(view):
+                self.check = self.known_check(view) or self.new_check(view)
+            return self.check
+
+    def known_check(self, view):
+        """A check of the same packets that is over: after undo, nothing is checked again."""
+        return next((check for check in self.checks if check.is_over and not check.error and check.is_of(view)), None)
+
+    def new_check(self, view):
+        if self.check is not None:
+            self.check.stop()
+        self.count += 1
+        check = Check(view, self.count)
+        self.checks = [check, *(old for old in self.checks if old.is_over and not old.stopped.is_set())][:MOST_CHECKS]
+        return check
+
+    def original(self, source):
+        """A source as it was opened, without edits and without a script."""
+        with self.check_lock:
+            if source not in self.originals:
+                path = [self.options["stream"], *self.options.get("sources", ())][source]
+                self.originals[source] = live.Live({**self.options, "stream": path, "sources": ()})
+            return self.originals[source]
+
+
+class Preview:
+    """A program that makes edits so that their pictures can be seen before they are made."""
+
+    def __init__(self, options):
+        self.options, self.live, self.lock = options, None, threading.Lock()
+
+    def follow(self, lines):
+        """Makes the list of the edits these lines."""
+        if self.live is None:
+            self.live = live.Live(self.options)
+        mine = list(self.live.session.edits)
+        common = next((place for place, pair in enumerate(zip(mine, lines)) if pair[0] != pair[1]), min(len(mine), len(lines)))
+        while len(mine) > common:
+            self.live.run("undo")
+            mine = list(self.live.session.edits)
+        for line in lines[len(mine) :]:
+            self.live.run(line)
+
+    def picture(self, lines, frame):
+        """The width, height and samples of a frame after these edits."""
+        with self.lock:
+            self.follow(lines)
+            return self.live.picture(frame)
+
+    def packet(self, lines, source, packet, frame=None):
+        """The picture of a packet of a source after these edits, without the script. `frame` is its frame in the source, if that is known."""
+        lines = [line for line in lines if first_word(line) != "script"]
+        with self.lock:
+            self.follow([*lines, *([f"script source {source}"] if source else [])])
+            if frame is None:
+                frame = self.live.ask(lambda session: frame_at(session, source, packet))
+            return self.live.picture(frame)
+
+    def findings(self, lines, packet):
+        """What vp8list --check says of the group of pictures that has a packet of source 0, after these edits."""
+        with self.lock:
+            self.follow(lines)
+            contents = self.live.contents()
+            first, end = self.live.ask(lambda session: group_of(session, packet))
+            answers = self.live.ask(lambda session: session.ask_all([f"packet {index}" for index in range(first, end)], 0))
+            packets = [packet_of(rest_of(answer)) for answer in answers]
+        tables = [] if contents.tables is None else ["--tables", checks.path(contents.tables)]
+        found = [json.loads(line) for line in facts.run_on(contents.lister, packets, "--check", "--json", *tables, statuses=(0, 1))]
+        found = [finding for finding in found if finding["packet"] is not None]
+        for finding in found:
+            finding["packet"] += first
+        return found
+
+    def close(self):
+        if self.live is not None:
+            interrupt(self.live)
+        with self.lock:
+            if self.live is not None:
+                self.live.close()
+                self.live = None
+
+
+def interrupt(stream):
+    """Ends the program of a stream that is closed, also in the middle of a frame."""
+    stream.closed = True
+    stream.session.kill()
+
+
+def frame_at(session, source, packet):
+    """The frame that shows a packet of a source, or the next shown one after it, or else the last one, of a script that serves this source."""
+    while True:
+        found = session.packets(range(packet, packet + PAGE), source)
+        frame = next((facts["frame"] for facts in found if facts["frame"] is not None), None)
+        if frame is not None:
+            return frame
+        if len(found) < PAGE:
+            return max(0, session.count().frames - 1)
+        packet += PAGE
+
+
+def group_of(session, packet):
+    """The packets of source 0 from the key packet at or before a packet to the next one, as a range of indexes."""
+    count = len(session.edits.contents().streams[0])
+    packet = max(0, min(packet, count - 1))
+    first, end = packet + 1, packet + 1
+    while first > 0:
+        begin = max(0, first - PAGE)
+        keys = [facts["packet"] for facts in session.packets(range(begin, first), 0) if facts["kind"] == "key"]
+        first = keys[-1] if keys else begin
+        if keys:
+            break
+    while end < min(count, first + MOST_GROUP):
+        found = session.packets(range(end, end + PAGE), 0)
+        key = next((facts["packet"] for facts in found if facts["kind"] == "key"), None)
+        if key is not None:
+            end = key
+            break
+        end += len(found)
+    return first, min(end, first + MOST_GROUP, count)

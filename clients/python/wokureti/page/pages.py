@@ -1,0 +1,679 @@
+"""The routes that `wokureti open` has more than `wokureti serve`: the files of its page, and what the page asks for."""
+
+import html
+import itertools
+import json
+import os
+import pathlib
+import re
+import tempfile
+import time
+
+from . import adding
+from ..session import records
+from ..tools import exports, ivf, muxing, repair
+from .clipboard import Clipboard, Gone, numbers_of, runs_of
+from ..tools.differences import Lasting
+from ..session.errors import Ended, Refused
+from ..session.frames import MARK
+from ..session.lines import EDITS, first_word, is_edit
+from ..server.live import Changed
+from .proposals import Proposals
+from ..server.routes import Routes, until_ended
+from .views import MOST_ENTRIES
+from ..server.virtual import header_of
+from ..server.web import Refuse, Response, as_json
+
+KINDS = {
+    ".html": "text/html; charset=utf-8",
+    ".js": "text/javascript; charset=utf-8",
+    ".css": "text/css; charset=utf-8",
+    ".svg": "image/svg+xml",
+}
+CONTAINERS = {".ivf": "video/x-ivf", ".webm": "video/webm", ".mkv": "video/x-matroska"}
+REFUSALS = (404, 409, 412)
+# The steps of `wokureti repair` that act on packets.
+STEPS = frozenset(("double", "sort", "hold"))
+# The edits of one request, at most.
+MOST_LINES = 20000
+# Frames whose origins are told at a time, at most; seconds that one search for a frame that differs takes.
+MOST_ORIGINS, SEARCH_TIME = 4096, 0.25
+# Frames that are served together, at most; packets whose key packets are asked for.
+MOST_TOGETHER, MOST_KEYS = 8, 200
+RANGE = re.compile("([0-9]{1,15})-([0-9]{1,15})\\.y4m")
+
+
+def files_of_page():
+    """The files of the page, by their names: nothing else is served as a file."""
+    folder = pathlib.Path(__file__).resolve().parent
+    return {path.name: (KINDS[path.suffix], path.read_bytes()) for path in sorted(folder.iterdir()) if path.suffix in KINDS}
+
+
+class PageRoutes(Routes):
+    """The routes of a stream that has a page."""
+
+    def __init__(self, live, server, token, titles, paths=()):
+        super().__init__(live, server, token)
+        self.titles, self.files = titles, files_of_page()
+        # The streams that the command names, and those that were added.
+        self.paths, self.added = list(paths), []
+        self.posts[("sources",)] = self.add_source
+        self.posts[("preview",)] = self.preview
+        self.posts[("paste",)] = self.paste
+        self.reads.update(
+            {
+                ("session",): self.session,
+                ("progress",): self.progress,
+                ("timeline",): self.timeline,
+                ("origins",): self.origins,
+                ("place",): self.place,
+                ("numbers",): self.numbers,
+                ("check",): self.check_of,
+                ("key",): self.key,
+                ("keys",): self.keys,
+                ("range",): self.range,
+                ("cut",): self.cut,
+                ("report.json",): self.report,
+                ("report.html",): self.report,
+                ("repairs",): self.repairs,
+                ("repair_all",): self.repair_all,
+                ("differs",): self.differs,
+                ("macroblocks",): self.macroblocks,
+                ("header",): self.header,
+                ("stream.ivf",): self.stream,
+                ("download",): self.download,
+                ("exported",): self.exported,
+                ("files",): self.list_files,
+                ("times",): self.times,
+            }
+        )
+
+    def is_entry(self, request):
+        """The page, if a browser opens it as a page of its own: the file that leads there is of no site."""
+        is_page = request.headers.get("sec-fetch-mode") == "navigate" and request.headers.get("sec-fetch-dest") == "document"
+        return is_page and request.method == "GET" and request.parts[1:] == ["page", ""]
+
+    def answer(self, request):
+        """A browser reports each status of 400 and more as an error of the page: with `refusals=answers` a refusal is an answer."""
+        wants = request.query.pop("refusals", None) == "answers"
+        try:
+            try:
+                response = super().answer(request)
+            except Changed:
+                raise Refuse(412, "the stream was changed", revision=self.live.revision) from None
+        except Refuse as refuse:
+            if not wants or refuse.status not in REFUSALS:
+                raise
+            response = as_json(refuse.members, refuse.status)
+        if wants and response.status in REFUSALS:
+            response.headers.append(("X-Refused", str(response.status)))
+            response.status = 200
+        return response
+
+    def read(self, request, parts):
+        if len(parts) == 2 and parts[0] == "page":
+            kind, text = self.files.get(parts[1] or "index.html", (None, None))
+            if kind is not None:
+                self.only(request)
+                return Response(200, kind, text)
+        if len(parts) == 3 and parts[:2] == ("before", "frames"):
+            return self.before(request, parts[2])
+        if len(parts) == 2 and parts[0] == "packets":
+            return self.packet(request, parts[1])
+        if len(parts) == 2 and parts[0] == "frames" and "-" in parts[1]:
+            return self.frames(request, parts[1])
+        return super().read(request, parts)
+
+    def session(self, request):
+        """What the page shows of the session."""
+        self.only(request)
+        view = self.live.current_view()
+        first, edits, saves = view.timeline(0), self.live.session.edits, self.saves_of(view)
+        members = {
+            "revision": view.revision,
+            "instance": self.live.instance,
+            "names": self.titles,
+            "packets": len(view.streams[0]),
+            "frames": view.frames,
+            "rate": list(view.rate),
+            "varies": view.times() is not None,
+            "sources": [len(stream) for stream in view.streams],
+            "source": view.source,
+            "script": view.script,
+            "edits_before": view.edits_before,
+            "edits": [line for line, _, _ in view.edits],
+            "steps": [step for _, step, _ in view.edits],
+            "titles": {place: title for place, (_, _, title) in enumerate(view.edits) if title},
+            "undone": view.undone,
+            "saved": all(source["saved"] for source in saves),
+            "saves": saves,
+            "exports": exports.has_option(view.contents.program, "--export"),
+            "changing": view.changing(),
+            "list": edits.path,
+            "unwritten": max(0, len(edits) - edits.written),
+            "notices": self.live.notices,
+            "listed": view.is_listed,
+            "restarts": len(self.live.events),
+            "shown": first.frames[-1],
+            "source_frames": [view.timeline(source).frames[-1] for source in range(len(view.streams))],
+        }
+        return as_json(members)
+
+    def saves_of(self, view):
+        """For each source whether it is edited, whether its packets are as they were opened or saved, in which file they are, and the file that
+        Save writes."""
+        saves, found = self.live.saves, []
+        for source, stream in enumerate(view.streams):
+            is_edited, path = view.contents.is_edited(source, stream), saves.file_of(source, view.contents, stream)
+            found.append({"edited": is_edited, "saved": path is not None or not is_edited, "file": path, "next": saves.path(source)})
+        return found
+
+    def progress(self, request):
+        """What goes on. Nothing waits here."""
+        self.only(request)
+        doing, found = self.live.doing, None
+        if doing is not None:
+            what, done, total, since = doing
+            found = {"what": what, "done": done, "total": total, "seconds": round(time.monotonic() - since, 1)}
+        return as_json({"revision": self.live.revision, "doing": found, "restarts": len(self.live.events)})
+
+    def source_of(self, request, view):
+        source = self.number(request, "source", 0)
+        if source >= len(view.streams):
+            raise Refuse(404, "there is no such source")
+        return source
+
+    def timeline(self, request):
+        """Packets as they are drawn."""
+        self.only(request, "source", "first", "per", "count")
+        view = self.live.current_view()
+        source = self.source_of(request, view)
+        first, per, count = self.number(request, "first", 0), self.number(request, "per", 1), self.number(request, "count", 1024)
+        if not 1 <= per <= 1 << 20 or not 1 <= count <= MOST_ENTRIES:
+            raise Refuse(400, f"per is 1 to {1 << 20}, count 1 to {MOST_ENTRIES}")
+        timeline = view.timeline(source)
+        check = self.live.check
+        if check is not None and source == 0 and check.is_of(view):
+            timeline.damage(check)
+        found = timeline.tile(min(first, len(timeline.stream)), per, count)
+        return as_json({"revision": view.revision, "source": source, "first": first, "per": per, "packets": len(timeline.stream), **found})
+
+    def origins(self, request):
+        """For each frame of a range the source and the packet that it shows, and the frame of the opened file there."""
+        self.only(request, "from", "count")
+        view = self.live.current_view()
+        first, count = self.number(request, "from", 0), min(self.number(request, "count", 256), MOST_ORIGINS)
+        found = self.live.origins(view, first, count)
+        before = [self.original_frame(view, *origin) for origin in found]
+        members = {"sources": [source for source, _ in found], "packets": [packet for _, packet in found], "before": before}
+        return as_json({"revision": view.revision, "from": first, **members})
+
+    def original_frame(self, view, source, packet):
+        """The frame that the file of a source shows at a packet, or None."""
+        index = view.original(source, packet)
+        return None if index is None else view.shown_before(source, index)
+
+    def place(self, request):
+        """The first frame that shows a packet."""
+        self.only(request, "packet", "source")
+        view = self.live.current_view()
+        source = self.source_of(request, view)
+        packet = self.number(request, "packet", 0)
+        members = {"revision": view.revision, "source": source, "packet": packet, "frame": view.frame_of(source, packet)}
+        if packet < len(view.streams[source]):
+            members.update(own=self.own_frame(view, source, packet), before=self.original_frame(view, source, packet))
+        return as_json(members)
+
+    def own_frame(self, view, source, packet):
+        """The frame of a source, without the script, that shows a packet: that of the next shown packet if it is hidden."""
+        frames = view.timeline(source).frames
+        return max(0, min(frames[packet], frames[-1] - 1))
+
+    def packet(self, request, name):
+        """The picture of a packet, without the script."""
+        self.only(request, "source")
+        view = self.live.current_view()
+        source, number = self.source_of(request, view), self.y4m_number(name)
+        if number >= len(view.streams[source]):
+            raise Refuse(404, "there is no such packet")
+        with self.live.lock:
+            if self.live.revision != view.revision:
+                raise Refuse(412, "the stream was changed", revision=self.live.revision)
+            made = list(self.live.alive().edits)
+        return self.y4m(self.live.aside.packet(made, source, number, self.own_frame(view, source, number)))
+
+    def y4m_number(self, name):
+        """The number in the name of a frame."""
+        number, _, kind = name.partition(".")
+        if not number.isdecimal() or len(number) > 18 or kind != "y4m":
+            raise Refuse(404, "there is nothing here")
+        return int(number)
+
+    def frames(self, request, name):
+        """A few frames that follow each other, of one size."""
+        self.only(request)
+        found = RANGE.fullmatch(name)
+        if found is None:
+            raise Refuse(404, "there is nothing here")
+        first, last = int(found.group(1)), int(found.group(2))
+        if not 0 <= last - first < MOST_TOGETHER:
+            raise Refuse(400, f"1 to {MOST_TOGETHER} frames are served together")
+        with self.live.lock:
+            etag, rate = f'"{self.live.instance}-{self.live.revision}"', self.live.rate()
+            pictures = self.live.pictures(range(first, last + 1))
+        size = pictures[0][:2]
+        length = len(header_of(size, rate)) + sum(len(MARK) + len(samples) for _, _, samples in pictures)
+        pieces = itertools.chain([header_of(size, rate)], *((MARK, samples) for _, _, samples in pictures))
+        return Response(200, "video/x-yuv4mpeg", length=length, headers=[("ETag", etag)], pieces=pieces)
+
+    def step_of(self, request):
+        return -1 if request.query.get("step") == "-1" else 1
+
+    def key(self, request):
+        """The next key packet of a source, or the one before."""
+        self.only(request, "source", "packet", "step")
+        view = self.live.current_view()
+        source, packet = self.source_of(request, view), self.number(request, "packet", 0)
+        keys = view.timeline(source).keys
+        found = keys.find(1, packet + 1) if self.step_of(request) > 0 else keys.rfind(1, 0, min(packet, len(keys)))
+        return as_json({"revision": view.revision, "source": source, "packet": None if found < 0 else found})
+
+    def keys(self, request):
+        """For each of some packets the key packet at or before it, its number in the pool, and its frame in the source; null if there is none."""
+        self.only(request, "source", "packets")
+        view = self.live.current_view()
+        source = self.source_of(request, view)
+        words = [word for word in request.query.get("packets", "").split(",") if word]
+        if len(words) > MOST_KEYS or not all(word.isdecimal() and len(word) <= 15 for word in words):
+            raise Refuse(400, f"packets are at most {MOST_KEYS} numbers with commas between them")
+        keys, stream = view.timeline(source).keys, view.streams[source]
+        found = [keys.rfind(1, 0, int(word) + 1) for word in words]
+        packets = [None if packet < 0 else packet for packet in found]
+        numbers = [None if packet is None else stream[packet] for packet in packets]
+        frames = [None if packet is None else self.own_frame(view, source, packet) for packet in packets]
+        return as_json({"revision": view.revision, "contents": view.contents.name, "packets": packets, "numbers": numbers, "frames": frames})
+
+    def range(self, request):
+        """The frames from the first one that shows one of the packets `first` to `end` - 1 to the last: the first and the one after them, or null."""
+        self.only(request, "source", "first", "end")
+        view = self.live.current_view()
+        source = self.source_of(request, view)
+        first, end = self.number(request, "first", 0), self.number(request, "end", 0)
+        if not first <= end <= len(view.streams[source]):
+            raise Refuse(404, "there are no such packets")
+        found = view.range_of(source, first, end) or (None, None)
+        return as_json({"revision": view.revision, "first": found[0], "end": found[1]})
+
+    def cut(self, request):
+        """The next frame that does not follow the one before it in its source, or the one before: where a script joins, and its end."""
+        self.only(request, "frame", "step")
+        view = self.live.current_view()
+        frame, ends = self.number(request, "frame", 0), [0, *view.runs()[2][:-1]]
+        if self.step_of(request) > 0:
+            found = next((end for end in ends if end > frame), None)
+        else:
+            found = next((end for end in reversed(ends) if end < frame), None)
+        return as_json({"revision": view.revision, "frame": found})
+
+    def report(self, request):
+        """The findings of the current packets as a file: as objects, or as a page of their own."""
+        self.only(request)
+        revision, lines = self.live.findings()
+        name = self.safe_name()
+        if request.parts[-1] == "report.json":
+            text = json.dumps({"stream": self.titles[0], "revision": revision, "findings": lines[:-1], "summary": lines[-1] if lines else ""}, indent=1).encode() + b"\n"
+            return Response(200, "application/json", text, headers=[("Content-Disposition", f'attachment; filename="{name}-findings.json"')])
+        rows = "".join("<tr><td>{}</td><td>{}</td></tr>\n".format(*map(html.escape, line.partition(": ")[::2])) for line in lines[:-1])
+        title = html.escape(f"Findings of {self.titles[0]}")
+        text = f'<!doctype html>\n<meta charset="utf-8">\n<title>{title}</title>\n<h1>{title}</h1>\n<p>{html.escape(lines[-1] if lines else "")}</p>\n<table>\n{rows}</table>\n'
+        return Response(200, "text/html; charset=utf-8", text.encode(), headers=[("Content-Disposition", f'attachment; filename="{name}-findings.html"')])
+
+    def safe_name(self):
+        """The name of the stream in the name of a file."""
+        name = os.path.splitext(os.path.basename(self.titles[0]))[0]
+        return "".join(letter if letter.isalnum() and letter.isascii() else "-" for letter in name) or "stream"
+
+    def numbers(self, request):
+        """The numbers of packets, which stay theirs while edits move them."""
+        self.only(request, "source", "first", "count")
+        view = self.live.current_view()
+        source = self.source_of(request, view)
+        first, count = self.number(request, "first", 0), self.number(request, "count", 1)
+        found = view.streams[source][first : first + count]
+        if not count or len(found) != count:
+            raise Refuse(404, "there are no such packets")
+        return as_json({"revision": view.revision, "contents": view.contents.name, "numbers": runs_of(found)})
+
+    def paste(self, request):
+        """Inserts packets that were remembered by their numbers, as one step."""
+        self.only(request)
+        kinds = {"contents": str, "numbers": list, "source": int, "at": int, "move": bool, "revision": int}
+        members = parse_body(request.body, kinds)
+        if set(members) != set(kinds):
+            raise Refuse(400, f"the body has {', '.join(kinds)}")
+        with self.live.lock:
+            view = self.live.current_view()
+            if members["revision"] != self.live.revision:
+                raise Refuse(412, "the stream was changed", revision=self.live.revision)
+            source, at = members["source"], members["at"]
+            if source >= len(view.streams) or at > len(view.streams[source]):
+                raise Refuse(404, "there is no such packet")
+            try:
+                numbers = numbers_of(members["numbers"], MOST_LINES)
+                if view.contents.name != members["contents"] and any(number >= view.contents.of_files for number in numbers):
+                    raise Gone("the packets that were copied are gone, since vp8serve was started again")
+                board = Clipboard(view.contents, view.streams, numbers, source, at)
+            except Gone as gone:
+                raise Refuse(409, str(gone)) from None
+            except ValueError as error:
+                raise Refuse(400, str(error)) from None
+            found = board.moves() if members["move"] else board.copies()
+            lines = found.lines if source == view.source or not found.lines else [f"use {source}", *found.lines]
+            if lines:
+                self.live.run_step(lines, f"{'Move' if members['move'] else 'Copy'} {found.count} packets to {found.first}")
+            return as_json({"revision": self.live.revision, "first": found.first, "count": found.count, "deleted": found.deleted, "made": len(lines)})
+
+    def lines_of(self, request, word):
+        """What `header` or `macroblocks` reports of a packet: lines, and members that say why there are none."""
+        self.only(request, "packet", "source")
+        with self.live.lock:
+            view = self.live.current_view()
+            source = self.source_of(request, view)
+            packet = self.number(request, "packet", 0)
+            if packet >= len(view.streams[source]):
+                raise Refuse(404, "there is no such packet")
+            lines = self.live.details(word, source, packet)
+        members = {"revision": view.revision, "source": source, "packet": packet, "refused": None, "repeats": False}
+        try:
+            return records.checked(lines), members
+        except records.Refused as refused:
+            return [], {**members, "refused": {"packet": refused.packet, "cause": refused.cause}}
+        except records.NoBytes:
+            return [], {**members, "repeats": True}
+
+    def macroblocks(self, request):
+        """The macroblocks of a packet, in raster order, as objects of the question `macroblocks`."""
+        lines, members = self.lines_of(request, "macroblocks")
+        # Thousands of lines that are JSON are not read here to be written again.
+        text = json.dumps(members).encode()[:-1] + b', "macroblocks": [' + b",".join(lines) + b"]}\n"
+        return Response(200, "application/json", text)
+
+    def header(self, request):
+        """The header of a packet: its fields, and the probabilities that it changes."""
+        lines, members = self.lines_of(request, "header")
+        return as_json({**members, **(records.header(lines) if lines else {"fields": None, "changes": []})})
+
+    def check_of(self, request):
+        """The findings of the current stream so far, starting at one of them."""
+        self.only(request, "from")
+        check = self.live.checked()
+        first = self.number(request, "from", 0)
+        is_over = check.is_over
+        findings = check.findings[first:]
+        members = {
+            "revision": self.live.revision,
+            "check": check.number,
+            "from": first,
+            "findings": findings,
+            "groups": groups_of(check, findings),
+            "damage": check.damage,
+            "notes": check.notes,
+            "done": check.done,
+            "packets": len(check.stream),
+            "over": is_over,
+            "failed": check.error,
+        }
+        return as_json(members)
+
+    def repairs(self, request):
+        """The repairs that can work for a finding of the current stream."""
+        self.only(request, "kind", "packet", "before", "stamp")
+        view = self.live.current_view()
+        finding = {name: self.number(request, name, None) for name in ("packet", "before", "stamp")}
+        finding["kind"] = request.query.get("kind")
+        if finding["packet"] is not None and finding["packet"] >= len(view.streams[0]):
+            raise Refuse(404, "there is no such packet")
+        if finding["kind"] in ("stamp_skips", "breaks_step") and None in finding.values():
+            raise Refuse(400, "time stamps that skip have packet, before and stamp")
+        found = Proposals(view, self.titles).of(finding)
+        return as_json({"revision": view.revision, "repairs": [proposal.members() for proposal in found]})
+
+    def repair_all(self, request):
+        """The edits that `wokureti repair` would make, with source 1 as the second recording if there is one, and what they do."""
+        self.only(request)
+        view = self.live.current_view()
+        contents = view.contents
+        data, *others = (b"".join(self.text(view, source)) for source in range(min(2, len(view.streams))))
+        given = (contents.program, contents.lister)
+        try:
+            try:
+                found = repair.repair(data, *given, *others, tables=contents.tables, steps=STEPS)
+            except (ivf.NotIvf, repair.NoKeyFrame):
+                raise
+            except ValueError:
+                # Source 1 is another stream.
+                found = repair.repair(data, *given, tables=contents.tables, steps=STEPS)
+        except (ivf.NotIvf, repair.NoKeyFrame) as error:
+            raise Refuse(409, str(error)) from None
+        durations = [contents.durations(0, stream) for stream in view.streams[:2]]
+        lasting = Lasting(durations[0], durations[-1] if others else (), contents.inputs.all[0].step())
+        lines = repair.edits_of(data, found, *others, lasting=lasting)
+        return as_json({"revision": view.revision, "lines": lines, "said": found.lines, "left": found.left})
+
+    def text(self, view, source):
+        """The packets of a source as an IVF file, in pieces."""
+        stream = view.streams[source]
+        yield view.contents.inputs.all[source].head.text(len(stream))
+        yield from view.contents.records(stream)
+
+    def y4m(self, picture, headers=()):
+        width, height, samples = picture
+        text = header_of((width, height), self.live.current_view().rate) + MARK + samples
+        return Response(200, "video/x-yuv4mpeg", text, headers=headers)
+
+    def before(self, request, name):
+        """A frame of a file as it was opened."""
+        self.only(request, "source")
+        view = self.live.current_view()
+        source = self.source_of(request, view)
+        return self.y4m(self.live.original(source).picture(self.y4m_number(name)))
+
+    def differs(self, request):
+        """The next frame that is another one than that of the opened file, as far as a quarter of a second goes. `next` is where to go on."""
+        self.only(request, "from", "step")
+        view = self.live.current_view()
+        step = -1 if request.query.get("step") == "-1" else 1
+        frame, limit, found = self.number(request, "from", 0), time.monotonic() + SEARCH_TIME, None
+        frames = view.frames
+        while 0 <= frame < frames and found is None and time.monotonic() < limit:
+            if self.live.revision != view.revision:
+                raise Refuse(412, "the stream was changed", revision=self.live.revision)
+            if self.is_other(view, frame):
+                found = frame
+            frame += step
+        is_over = found is not None or not 0 <= frame < frames
+        return as_json({"revision": view.revision, "frame": found, "next": None if is_over else frame, "frames": frames})
+
+    def is_other(self, view, frame):
+        """Whether a frame differs from the one of the opened file."""
+        source, packet = view.origin(frame)
+        other = self.original_frame(view, source, packet)
+        pictures = []
+        for one, number in ((self.live, frame), (self.live.original(source), other)):
+            try:
+                pictures.append(None if number is None else one.picture(number))
+            except Refused as refused:
+                pictures.append(refused.word)
+        return pictures[0] != pictures[1]
+
+    def preview(self, request):
+        """A frame, or the findings of a group of pictures, after edits that are not made."""
+        self.only(request)
+        members = parse_body(request.body, {"lines": list, "frame": int, "findings": int, "packet": int, "source": int, "revision": int})
+        lines, view = checked_lines(members), self.live.current_view()
+        if members.get("revision", view.revision) != view.revision:
+            raise Refuse(412, "the stream was changed", revision=view.revision)
+        with self.live.lock:
+            made = list(self.live.alive().edits)
+        if "findings" in members:
+            found = self.live.preview.findings(made + lines, members["findings"])
+            return as_json({"revision": view.revision, "findings": found})
+        if "packet" in members:
+            source, packet = members.get("source", 0), members["packet"]
+            if source >= len(view.streams):
+                raise Refuse(404, "there is no such source")
+            return self.y4m(self.live.preview.packet(made + lines, source, packet))
+        if "frame" not in members:
+            raise Refuse(400, "a preview is of a frame, of a packet, or of findings")
+        return self.y4m(self.live.preview.picture(made + lines, members["frame"]))
+
+    def stream(self, request):
+        """The current packets of source 0 as an IVF file."""
+        self.only(request)
+        view = self.live.current_view()
+        timeline, stream = view.timeline(0), view.streams[0]
+        length = ivf.HEAD.size + ivf.RECORD.size * len(stream) + sum(timeline.sizes)
+        keeps = self.live.keeps_stamps or not view.contents.is_edited(0, stream)
+        pieces = self.text(view, 0) if keeps else view.contents.restamped(0, stream)
+        return Response(200, "video/x-ivf", length=length, headers=self.attached(".ivf"), pieces=until_ended(pieces))
+
+    def times(self, request):
+        """When each frame begins, in milliseconds, if the rate varies."""
+        self.only(request)
+        view = self.live.current_view()
+        return as_json({"revision": view.revision, "times": view.times()})
+
+    def list_files(self, request):
+        """The streams that can be added."""
+        self.only(request)
+        return as_json({"revision": self.live.revision, "files": adding.files_of(self.paths)})
+
+    def add_source(self, request):
+        """Opens one of these as the last source."""
+        self.only(request)
+        members = parse_body(request.body, {"file": str})
+        path = members.get("file")
+        if path not in adding.files_of(self.paths):
+            raise Refuse(404, "there is no such stream in the folders of those that are open")
+        try:
+            adding.add(self.live, path, os.path.splitext(path)[0])
+        except adding.Cannot as error:
+            raise Refuse(409, str(error)) from None
+        self.titles.append(os.path.basename(path))
+        self.added.append(path)
+        return as_json({"source": len(self.titles) - 1, "revision": self.live.revision})
+
+    def attached(self, ending, what="edited"):
+        """The headers of an answer that a browser saves as a file."""
+        return [("Content-Disposition", f'attachment; filename="{self.safe_name()}-{what}{ending}"')]
+
+    def download(self, request):
+        """The current packets of source 0 as a file of the kind that was opened: an IVF file, or WebM or Matroska with its sound."""
+        ending = muxing.ending_for(self.live.contents().inputs.all[0].media)
+        if ending == ".ivf":
+            return self.stream(request)
+        self.only(request)
+        with tempfile.TemporaryDirectory(dir=self.live.room.name) as folder, self.live.lock:
+            path = os.path.join(folder, f"download{ending}")
+            try:
+                self.live.contents().save(path, self.live.pad, 0, True, self.live.sound, self.live.notice)
+            except ValueError as error:
+                raise Refuse(409, str(error)) from None
+            file = open(path, "rb")
+        return Response(200, CONTAINERS[ending], length=os.fstat(file.fileno()).st_size, headers=self.attached(ending), pieces=pieces_of(file))
+
+    def exported(self, request):
+        """The frames that the script serves as packets, without coding again. Other requests go on meanwhile."""
+        self.only(request)
+        with self.live.lock:
+            revision, contents, lines = self.live.revision, self.live.contents(), list(self.live.session.edits)
+        ending = muxing.ending_for(contents.inputs.all[0].media)
+        with tempfile.TemporaryDirectory(dir=self.live.room.name) as folder:
+            path = os.path.join(folder, f"exported{ending}")
+            out = exports.Output(path, self.live.pad, self.live.sound, self.live.notice)
+            try:
+                told = exports.export(contents, lines, out, folder)
+            except (ValueError, Ended) as error:
+                raise Refuse(409 if self.live.revision == revision else 412, str(error)) from None
+            if self.live.revision != revision:
+                raise Refuse(412, "the stream was changed", revision=self.live.revision)
+            file = open(path, "rb")
+        return Response(200, CONTAINERS[ending], length=os.fstat(file.fileno()).st_size, headers=[*self.attached(ending, "export"), ("X-Exported", told.text())], pieces=pieces_of(file))
+
+    def change(self, request):
+        """An edit, several as one step, which may have a title, `undo`, `redo` or `save`, which may be of a source."""
+        self.only(request)
+        members = parse_body(request.body, {"line": str, "lines": list, "title": str, "source": int, "revision": int})
+        if "source" in members and "lines" not in members:
+            return self.save(members)
+        if "lines" not in members:
+            return super().change(request)
+        lines = checked_lines(members)
+        if not lines or {"line", "source"} & set(members):
+            raise Refuse(400, "a change is of a line, or of lines")
+        with self.live.lock:
+            revision = members.get("revision")
+            if revision is not None and revision != self.live.revision:
+                raise Refuse(412, "the stream was changed", revision=self.live.revision)
+            try:
+                reply = self.live.run_step(lines, members.get("title", ""))
+            except ValueError as error:
+                raise Refuse(400, str(error)) from None
+            return as_json({"reply": reply, "revision": self.live.revision})
+
+
+    def save(self, members):
+        """Saves the packets of a source."""
+        source = members["source"]
+        if members.get("line") != "save":
+            raise Refuse(400, "a source is saved")
+        with self.live.lock:
+            if source >= len(self.live.contents().streams):
+                raise Refuse(404, "there is no such source")
+            try:
+                path = self.live.make(lambda: self.live.save(source))
+            except ValueError as error:
+                raise Refuse(409, str(error)) from None
+            return as_json({"reply": path, "revision": self.live.revision})
+
+
+def pieces_of(file):
+    """The bytes of a file, which is closed after them."""
+    with file:
+        while True:
+            piece = file.read(1 << 20)
+            if not piece:
+                return
+            yield piece
+
+
+def groups_of(check, findings):
+    """For each finding the key packet at or before its packet, or None: what is damaged after a packet is mostly damaged with it."""
+    keys = check.view.timeline(0).keys
+    return [None if finding["packet"] is None else max(0, keys.rfind(1, 0, finding["packet"] + 1)) for finding in findings]
+
+
+def parse_body(body, kinds):
+    """The members of a JSON object, each of its kind."""
+    try:
+        members = json.loads(body.decode())
+    except (UnicodeDecodeError, ValueError, RecursionError):
+        raise Refuse(400, "the body is not JSON") from None
+    if not isinstance(members, dict) or not set(members) <= set(kinds):
+        raise Refuse(400, f"the body is an object with {', '.join(kinds)}")
+    for name, value in members.items():
+        if not isinstance(value, kinds[name]) or (isinstance(value, bool) and kinds[name] is not bool) or (kinds[name] is int and not 0 <= value < 1 << 60):
+            raise Refuse(400, f"{name} is not of its kind")
+    return members
+
+
+def checked_lines(members):
+    """The edits of a body."""
+    lines = members.get("lines", [])
+    if len(lines) > MOST_LINES:
+        raise Refuse(400, f"a step has at most {MOST_LINES} edits")
+    for line in lines:
+        if not isinstance(line, str) or "\n" in line or "\r" in line or first_word(line) not in EDITS or not is_edit(line):
+            raise Refuse(400, "lines are edits")
+    return lines
+

@@ -1,0 +1,1 @@
+"""An edited stream that is served: `wokureti serve` and `wokureti mount`."""

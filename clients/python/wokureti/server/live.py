@@ -1,0 +1,305 @@
+"""An edited stream that several clients look at while it is edited: a session, its revision, and what starts it again when it ends."""
+
+import contextlib
+import os
+import secrets
+import threading
+
+from ..tools import containers, facts, muxing, rooms
+from ..session.edit_files import NotWritten
+from ..session.errors import Ended, Lost, Refused
+from ..session.outcomes import Outcomes
+from ..tools.progress import say
+from .saves import Saves
+from ..session.session import Session
+
+# Frames of another size than the first one that a program served are refused: so each size has a program of its own, at most so many.
+MOST_VIEWERS = 3
+# Seconds that one request may take.
+MOST_TIME = 120
+# Notices that are stored.
+MOST_NOTICES = 100
+
+
+class Changed(Exception):
+    """The stream is no more that of the revision."""
+
+
+class Viewer:
+    """A session that makes the edits of another one after it, and serves frames of one size."""
+
+    def __init__(self, live):
+        self.session = Session(**live.options)
+        try:
+            for line in live.session.edits:
+                self.session.request(line, listed=False)
+        except BaseException:
+            self.session.kill()
+            raise
+        self.seen = len(live.log)
+
+    def follow(self, log):
+        """Makes the edits that were made since."""
+        for line in log[self.seen :]:
+            self.session.request(line, listed=False)
+        self.seen = len(log)
+
+
+class Live:
+    """The stream. A call waits until the one before it is done."""
+
+    # Whether packets are saved as with --pad, whether they keep their time stamps, and what is done with sound (`sounds.outputs`).
+    pad, keeps_stamps, sound = False, False, None
+    # Whether frames are repeated or left out, so that all last as long.
+    is_constant = False
+
+    def __init__(self, options, edits=None, save=None, stems=()):
+        self.options = dict(options, timeout=MOST_TIME)
+        self.lock = threading.RLock()
+        self.changed = threading.Condition(self.lock)
+        self.instance, self.revision = secrets.token_hex(4), 1
+        paths = [self.options.get("stream", "-"), *self.options.get("sources", ())]
+        self.saves = Saves(save, stems, [muxing.ending_for(containers.media_of(path)) for path in paths])
+        self.room = rooms.Room()
+        self.viewers, self.log = [], []
+        self.known, self.found = (None, None), (None, None)
+        self.checking = threading.Lock()
+        self.closed = False
+        # How often the program was started again, and what else is to be said: sentences, numbered from 1.
+        self.events, self.notices, self.noticed = [], [], 0
+        try:
+            self.session = self.open(edits=edits)
+        except BaseException:
+            self.room.cleanup()
+            raise
+
+    def open(self, **how):
+        session = Session(**{**self.options, **how}, explain=True)
+        session.on_edit, session.edits.on_notice = self.heard, self.notice
+        return session
+
+    def notice(self, text):
+        """Says something that nobody asked for."""
+        say(text)
+        self.noticed += 1
+        self.notices = [*self.notices, (self.noticed, text)][-MOST_NOTICES:]
+
+    def heard(self, line):
+        """An edit was accepted."""
+        if self.viewers:
+            self.log.append(line)
+
+    def close(self):
+        """Ends the programs. The edits are in the list; the stream is saved if it was changed since the last time."""
+        with self.lock:
+            try:
+                if not self.closed and self.saves.named is not None and self.is_to_be_saved():
+                    self.save()
+            finally:
+                self.closed = True
+                self.drop_viewers()
+                self.session.kill()
+                self.room.cleanup()
+                self.changed.notify_all()
+
+    def drop_viewers(self):
+        for viewer in self.viewers:
+            viewer.session.kill()
+        self.viewers.clear()
+        self.log.clear()
+
+    def again(self, ended):
+        """Starts the program again, from the list of edits."""
+        if self.closed:
+            raise Lost("the server ends")
+        say(f"vp8serve ended ({ended}); it is started again from the list of edits")
+        self.drop_viewers()
+        before = self.session
+        before.kill()
+        try:
+            self.session = self.open(resume=before.edits)
+        except (Ended, OSError, ValueError) as error:
+            raise Lost(str(error)) from None
+        self.events.append("restarted")
+        self.changed.notify_all()
+
+    def add_source(self, path, stem, ending):
+        """Opens another stream as the last source: the program is started again, from the list of edits. If it does not read the stream, all is as
+        before."""
+        with self.lock:
+            before, edits = self.options, self.alive().edits
+            # A list without edits is removed when its session ends.
+            how = {"resume": edits} if edits.path is None or len(edits) or edits.undone else {"edits": edits.path}
+            self.options = {**before, "sources": [*before.get("sources", ()), path]}
+            self.drop_viewers()
+            self.session.kill()
+            try:
+                self.session = self.open(**how)
+            except (Ended, OSError, ValueError):
+                self.options = before
+                self.session = self.open(**how)
+                raise
+            finally:
+                self.forget()
+            self.saves.stems.append((stem, ending))
+            self.tell()
+
+    def forget(self):
+        """Nothing is known of the packets any more: the program reads the streams again."""
+        self.known = self.found = (None, None)
+
+    def tell(self):
+        """The stream was changed."""
+        self.revision += 1
+        self.changed.notify_all()
+
+    def run(self, line):
+        """Makes an edit, `undo`, `redo` or `save`, and returns the reply, or the lines that were undone or made again."""
+        return self.make(lambda: self.run_one(line))
+
+    def run_step(self, lines, title=""):
+        """Makes edits as one step for `undo`, and returns the reply to the last one. If one is refused, none is made."""
+        def step():
+            reply = self.session.edits.run_step(lines, progress=lambda done: self.on_progress(done, len(lines)), title=title)
+            self.tell()
+            return reply
+
+        return self.make(step)
+
+    def on_progress(self, done, total):
+        """So many edits of a step were made."""
+
+    def run_one(self, line):
+        if line == "save":
+            return self.save()
+        if line in ("undo", "redo"):
+            lines = self.session.undo() if line == "undo" else self.session.redo()
+            if lines:
+                self.tell()
+            return lines
+        reply = self.session.request(line)
+        self.tell()
+        return reply
+
+    def make(self, edit):
+        """What a function returns that edits the session. If the program ends, it is started again, and the edit is not made."""
+        with self.lock:
+            if self.session.is_over:
+                self.again("before this edit")
+            try:
+                return edit()
+            except Ended as ended:
+                self.again(ended)
+                raise Lost("vp8serve ended; the edit was not made") from None
+            except NotWritten:
+                # The edit was made.
+                self.tell()
+                raise
+
+    def save(self, source=0):
+        """Writes the packets of a source, and returns the name of the file."""
+        contents = self.contents()
+        restamps = not self.keeps_stamps and contents.is_edited(source, contents.streams[source])
+        path = self.saves.save(source, contents, lambda path: contents.save(path, self.pad, source, restamps, self.sound, self.notice))
+        self.changed.notify_all()
+        return path
+
+    def is_saved(self):
+        """Whether the packets of all sources are as they were opened or saved."""
+        with self.lock:
+            contents = self.contents()
+            return all(self.saves.is_saved(source, contents, stream) for source, stream in enumerate(contents.streams))
+
+    def is_to_be_saved(self):
+        """Whether something was edited, and the file that was named does not have it."""
+        contents = self.contents()
+        is_edited = self.revision > 1 or len(self.session.edits) > 0
+        return is_edited and self.saves.file_of(0, contents, contents.streams[0]) is None
+
+    def picture(self, number, revision=None):
+        """The width, height and samples of a frame. `Changed` if the stream is of another revision."""
+        return self.pictures([number], revision)[0]
+
+    def pictures(self, numbers, revision=None):
+        """The same of several frames of one size."""
+        def view(session):
+            if revision is not None and revision != self.revision:
+                raise Changed
+            return self.view(session, numbers)
+
+        return self.ask(view)
+
+    def details(self, word, source, packet):
+        """What `header` or `macroblocks` reports of a packet of a source now, line by line."""
+        return self.ask(lambda session: session.ask(f"{word} {packet}", source)).encode().split(b"\n")[1:]
+
+    def ask(self, function):
+        """What a function returns of the session. If the program ended, it is started again, and asked again once."""
+        with self.lock:
+            for last in (False, True):
+                try:
+                    return function(self.alive())
+                except Ended as ended:
+                    self.again(ended)
+                    if last:
+                        raise Lost("vp8serve ended twice at this request") from None
+            raise AssertionError
+
+    def view(self, session, numbers):
+        """Frames of the program that serves their size."""
+        try:
+            return session.pictures(numbers)
+        except Refused as refused:
+            if refused.word != "SizeDiffers":
+                raise
+        for place, viewer in enumerate(self.viewers):
+            try:
+                viewer.follow(self.log)
+                found = viewer.session.pictures(numbers)
+                self.viewers.insert(0, self.viewers.pop(place))
+                return found
+            except Refused as refused:
+                if refused.word != "SizeDiffers":
+                    raise
+        while len(self.viewers) >= MOST_VIEWERS - 1:
+            self.viewers.pop().session.kill()
+        if not self.viewers:
+            self.log.clear()
+        self.viewers.insert(0, Viewer(self))
+        return self.viewers[0].session.pictures(numbers)
+
+    def alive(self):
+        """The session, started again if it ended."""
+        if self.session.is_over:
+            self.again("before this request")
+        return self.session
+
+    def contents(self):
+        return self.alive().edits.contents()
+
+    def outcomes(self):
+        """The revision, and the outcomes of its frames."""
+        with self.lock:
+            if self.known[0] != self.revision:
+                self.known = (self.revision, self.ask(Outcomes))
+            return self.known
+
+    def rate(self):
+        with self.lock:
+            return self.contents().rate
+
+    def findings(self):
+        """The revision, and what `vp8list --check` says of its packets of source 0, line by line."""
+        with self.checking:
+            with self.lock:
+                revision, contents = self.revision, self.contents()
+                if self.found[0] == revision:
+                    return self.found
+                path = os.path.join(self.room.name, "checked.ivf")
+                with open(path, "wb") as file:
+                    file.writelines(contents.pieces(0))
+            lines = [line.decode(errors="replace").rstrip("\n") for line in facts.run(contents.lister, path, "--check", statuses=(0, 1))]
+            with contextlib.suppress(OSError):
+                os.unlink(path)
+            self.found = (revision, lines)
+            return self.found

@@ -1,0 +1,191 @@
+"""wokureti mount: a folder in which the edited stream is a file of each kind, for programs that open files by a path."""
+
+import contextlib
+import errno
+import os
+import signal
+import stat
+import subprocess
+import sys
+import threading
+
+from ..session.errors import Ended, Lost
+from .folders import EDITS, FRAMES, Folder, Unreadable
+from .live import Changed
+from ..tools.progress import say
+
+WRITES = os.O_WRONLY | os.O_RDWR
+# The operations that are answered, and those that would change the folder.
+DONE = ("init", "destroy", "getattr", "readdir", "open", "read", "write", "truncate", "flush", "fsync", "release", "statfs", "access", "utimens")
+REFUSED = ("chmod", "chown", "create", "mkdir", "unlink", "rmdir", "rename", "symlink", "link", "mknod")
+
+
+class Missing(ValueError):
+    """What mounts a folder is not installed."""
+
+
+def fuse_module():
+    """The module fusepy, which Debian calls so and PyPI calls fuse."""
+    for name in ("fusepy", "fuse"):
+        try:
+            found = __import__(name)
+        except (ImportError, OSError):
+            continue
+        # python3-fuse, another module, has the second name too.
+        if hasattr(found, "FuseOSError"):
+            return found
+    raise Missing("to mount a folder, install python3-fusepy and fuse3 (or pip install fusepy), or use `wokureti serve`")
+
+
+class Open:
+    """An open file: its revision and what it reads, or the text that is written to it."""
+
+    def __init__(self, revision, file, text=None):
+        self.revision, self.file, self.text, self.is_changed = revision, file, text, False
+
+
+class Operations:
+    """What the system asks of the folder. Paths begin with `/`."""
+
+    def __init__(self, folder, fail):
+        self.folder, self.fail = folder, fail
+        self.opened, self.count, self.counting = {}, 0, threading.Lock()
+        # Whether the list of edits was cut to nothing before it is opened: the system does so in two steps.
+        self.is_cut = False
+
+    def __call__(self, operation, *given):
+        """Does an operation. Errors are those of the system."""
+        if operation in REFUSED:
+            raise self.fail(errno.EROFS)
+        if operation not in DONE:
+            raise self.fail(errno.ENOSYS)
+        try:
+            return getattr(self, operation)(*given)
+        except KeyError:
+            raise self.fail(errno.ENOENT) from None
+        except Changed:
+            raise self.fail(errno.ESTALE) from None
+        except ValueError:
+            raise self.fail(errno.EINVAL) from None
+        except (Unreadable, Lost, Ended, MemoryError):
+            raise self.fail(errno.EIO) from None
+
+    def init(self, path):
+        """The folder is there."""
+
+    def destroy(self, path):
+        """The folder goes."""
+
+    def getattr(self, path, handle=None):
+        name = path[1:]
+        if name in ("", FRAMES):
+            when = self.folder.now().time
+            return {"st_mode": stat.S_IFDIR | 0o755, "st_nlink": 2, "st_mtime": when, "st_ctime": when, "st_atime": when, "st_uid": os.getuid(), "st_gid": os.getgid()}
+        revision, file = self.folder.open(name)
+        when = self.folder.failed if revision is None else revision.time
+        mode = 0o644 if name == EDITS else 0o444
+        return {"st_mode": stat.S_IFREG | mode, "st_nlink": 1, "st_size": file.size, "st_mtime": when, "st_ctime": when, "st_atime": when, "st_uid": os.getuid(), "st_gid": os.getgid()}
+
+    def readdir(self, path, handle):
+        return [".", "..", *(self.folder.names() if path == "/" else self.folder.pictures())]
+
+    def open(self, path, flags):
+        writes = bool(flags & WRITES)
+        if writes and path[1:] != EDITS:
+            raise self.fail(errno.EACCES)
+        revision, file = self.folder.open(path[1:])
+        found = Open(revision, file, bytearray(file.read(0, file.size)) if writes else None)
+        if writes and (self.is_cut or flags & os.O_TRUNC):
+            found.text, found.is_changed, self.is_cut = bytearray(), True, False
+        with self.counting:
+            self.count += 1
+            self.opened[self.count] = found
+            return self.count
+
+    def read(self, path, size, start, handle):
+        found = self.opened[handle]
+        if found.text is not None:
+            return bytes(found.text[start : start + size])
+        return self.folder.read(found.revision, found.file, start, size)
+
+    def write(self, path, data, start, handle):
+        text = self.opened[handle].text
+        if text is None:
+            raise self.fail(errno.EBADF)
+        text.extend(bytes(max(0, start - len(text))))
+        text[start : start + len(data)] = data
+        self.opened[handle].is_changed = True
+        return len(data)
+
+    def truncate(self, path, length, handle=None):
+        if path[1:] != EDITS:
+            raise self.fail(errno.EACCES)
+        with self.counting:
+            # A file that is opened to be written anew is cut right after or before that, by its name.
+            writers = [found for found in self.opened.values() if found.text is not None] if handle is None else [self.opened[handle]]
+        self.is_cut = not writers and length == 0
+        for found in writers:
+            found.text = found.text[:length] + bytes(max(0, length - len(found.text)))
+            found.is_changed = True
+
+    def flush(self, path, handle):
+        found = self.opened[handle]
+        if found.is_changed:
+            found.is_changed = False
+            self.folder.edit(found.text.decode(errors="replace"))
+
+    def fsync(self, path, is_data, handle):
+        return self.flush(path, handle)
+
+    def release(self, path, handle):
+        with self.counting:
+            del self.opened[handle]
+
+    def statfs(self, path):
+        return {"f_bsize": 4096, "f_frsize": 4096, "f_namemax": 255}
+
+    def access(self, path, mode):
+        """What may be done is said when it is tried."""
+
+    def utimens(self, path, times=None):
+        """Times are those of edits."""
+
+
+def clear(folder):
+    """Unmounts a folder whose program is gone."""
+    try:
+        os.stat(folder)
+    except OSError as error:
+        if error.errno != errno.ENOTCONN:
+            raise
+        for words in (["fusermount3", "-u", folder], ["fusermount", "-u", folder], ["umount", folder]):
+            with contextlib.suppress(OSError):
+                if subprocess.run(words, capture_output=True, check=False).returncode == 0:
+                    return
+
+
+def run(live, folder, others=False, server=None):
+    """Mounts the folder until it is unmounted or the process is interrupted. `server` serves the same session meanwhile."""
+    module = fuse_module()
+    clear(folder)
+    if not os.path.isdir(folder):
+        raise ValueError(f"{folder} is no folder: make it first")
+    if os.listdir(folder):
+        raise ValueError(f"{folder} is not empty: mount in an empty folder")
+    # libfuse ends by these signals, and unmounts, if Python does not have them.
+    for number in (signal.SIGTERM, signal.SIGHUP):
+        signal.signal(number, signal.SIG_DFL)
+    if server is not None:
+        threading.Thread(target=server.serve, daemon=True).start()
+    print(os.path.join(folder, ""), file=sys.stdout, flush=True)
+    say("Ctrl-C or umount ends it")
+    options = {"allow_other": True} if others else {}
+    try:
+        module.FUSE(Operations(Folder(live), module.FuseOSError), folder, foreground=True, direct_io=True, attr_timeout=0, entry_timeout=0, auto_unmount=True, fsname="wokureti", **options)
+    except RuntimeError as error:
+        raise ValueError(f"{folder} could not be mounted: libfuse gave status {error}") from None
+    finally:
+        if server is not None:
+            server.end()
+        live.close()
+    return 0

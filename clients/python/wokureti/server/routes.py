@@ -1,0 +1,269 @@
+"""The routes of `wokureti serve`: clients/README.md says what each of them answers."""
+
+import hmac
+import json
+import re
+import time
+
+from . import ranges
+from ..tools import png
+from ..session.errors import Ended, Lost, Refused, sentence
+from ..session.frames import frame_of
+from ..session.lines import EDITS, first_word, is_edit
+from ..session.outcomes import TooMany
+from ..session.session import Session
+from .virtual import ENDINGS, MODES, Cannot, Clip, header_of
+from .web import Dropped, Refuse, Response, as_json
+
+MOST_PACKETS = 10000
+NUMBER = re.compile("[0-9]{1,18}")
+# Seconds between two signs of life of the events.
+BEAT = 15
+WORDS = ("undo", "redo", "save")
+
+
+class Routes:
+    """What is served of a stream, below a path that has the token; or another one, `reading`, with which nothing can be changed."""
+
+    reading = None
+
+    def __init__(self, live, server, token):
+        self.live, self.server, self.token = live, server, token
+        self.reads = {
+            ("",): self.summary,
+            ("clip.y4m",): self.clip,
+            ("packets",): self.packets,
+            ("findings",): self.findings,
+            ("edits",): self.edits,
+            ("events",): self.events,
+        }
+        self.posts = {("edits",): self.change}
+
+    def check(self, request):
+        """Refuses a request before its body is read."""
+        given = request.parts[0].encode()
+        changes, reads = (token is not None and hmac.compare_digest(given, token.encode()) for token in (self.token, self.reading))
+        if not (changes or reads) or len(request.parts) < 2:
+            raise Refuse(404, "there is nothing here")
+        if request.method == "POST":
+            if not changes:
+                raise Refuse(403, "this address only reads")
+            if tuple(request.parts[1:]) not in self.posts:
+                raise Refuse(405, f"only {' and '.join(path for path, in self.posts)} take a POST")
+            if request.headers.get("origin") != self.server.origin:
+                raise Refuse(403, f"a change needs the header Origin: {self.server.origin}")
+            kind = request.headers.get("content-type", "").split(";")[0].strip().lower()
+            if kind != "application/json":
+                raise Refuse(415, "a change is application/json")
+            if "content-length" not in request.headers:
+                raise Refuse(411, "a change has a Content-Length")
+        elif request.method not in ("GET", "HEAD"):
+            raise Refuse(405, "GET, HEAD and POST are answered")
+        elif request.headers.get("content-length", "0") != "0":
+            raise Refuse(400, f"a {request.method} has no body")
+
+    def is_entry(self, request):
+        """Whether a request is for what a person opens in a browser, from wherever."""
+        return False
+
+    def answer(self, request):
+        parts = tuple(request.parts[1:])
+        try:
+            if request.method == "POST":
+                return self.posts[parts](request)
+            return self.read(request, parts)
+        except Refused as refused:
+            status = 404 if refused.word == "NoSuchFrame" else 409
+            return as_json({"error": str(refused), "reply": refused.reply, "reason": refused.reason}, status)
+        except (Lost, Ended) as lost:
+            raise Refuse(503, str(lost)) from None
+        except OSError as error:
+            raise Refuse(500, sentence(error)) from None
+
+    def read(self, request, parts):
+        if parts in self.reads:
+            return self.reads[parts](request)
+        if len(parts) == 2 and parts[0] == "frames":
+            return self.frame(request, parts[1])
+        raise Refuse(404, "there is nothing here")
+
+    def number(self, request, name, default):
+        text = request.query.get(name)
+        if text is None:
+            return default
+        if not NUMBER.fullmatch(text):
+            raise Refuse(400, f"{name} is not a number")
+        return int(text)
+
+    def only(self, request, *names):
+        for name in request.query:
+            if name not in names:
+                raise Refuse(400, f"{name[:40]!r} is not asked for here")
+
+    def summary(self, request):
+        """What there is."""
+        self.only(request)
+        with self.live.lock:
+            count, script = self.live.ask(lambda session: (session.count(), session.edits.contents().script))
+            contents = self.live.contents()
+            rate = contents.rate
+            members = {
+                "revision": self.live.revision,
+                "packets": len(contents.streams[0]),
+                "frames": count.frames,
+                "rate": list(rate),
+                "sources": [len(stream) for stream in contents.streams],
+                "source": contents.current,
+                "script": script,
+            }
+        return as_json(members)
+
+    def clip(self, request):
+        """All frames as one file."""
+        self.only(request, "refused")
+        mode = request.query.get("refused")
+        if mode not in (None, *MODES):
+            raise Refuse(400, "refused is repeat or black")
+        try:
+            clip = Clip(self.live, mode)
+        except Cannot as cannot:
+            raise Refuse(409, f"frame {cannot.frame}: {cannot.reply}", frame=cannot.frame, reply=cannot.reply) from None
+        except TooMany:
+            raise Refuse(409, "the script changes between frames of different kinds too often") from None
+        headers = [("Accept-Ranges", "bytes"), ("ETag", clip.etag)]
+        condition = request.headers.get("if-match")
+        if condition is not None and not ranges.is_etag_of(condition, clip.etag):
+            raise Refuse(412, "the stream was changed")
+        condition = request.headers.get("if-none-match")
+        if condition is not None and ranges.is_etag_of(condition, clip.etag):
+            return Response(304, None, length=0, headers=headers)
+        try:
+            found = ranges.wanted(request.headers, clip.length, clip.etag) if request.method == "GET" else None
+        except Refuse as refuse:
+            return as_json(refuse.members, 416, [*headers, ("Content-Range", f"bytes */{clip.length}")])
+        start, end = found or (0, clip.length)
+        if found:
+            headers.append(("Content-Range", f"bytes {start}-{end - 1}/{clip.length}"))
+        status = 206 if found else 200
+        return Response(status, "video/x-yuv4mpeg", length=end - start, headers=headers, pieces=until_ended(clip.pieces(start, end)))
+
+    def frame(self, request, name):
+        """A frame."""
+        self.only(request, *(("matrix", "full") if name.endswith(".png") else ()))
+        number, _, kind = name.partition(".")
+        if not NUMBER.fullmatch(number) or kind not in ("y4m", "png", "i420"):
+            raise Refuse(404, "there is nothing here")
+        number = int(number)
+        with self.live.lock:
+            etag = f'"{self.live.instance}-{self.live.revision}"'
+            condition = request.headers.get("if-none-match")
+            if condition is not None and ranges.is_etag_of(condition, etag):
+                return Response(304, None, length=0, headers=[("ETag", etag)])
+            width, height, samples = self.live.picture(number)
+        headers = [("ETag", etag)]
+        if kind == "i420":
+            return Response(200, "application/octet-stream", bytes(samples), headers=headers)
+        if kind == "y4m":
+            return Response(200, "video/x-yuv4mpeg", header_of((width, height), self.live.rate()) + b"FRAME\n" + samples, headers=headers)
+        matrix, full = request.query.get("matrix", "601"), request.query.get("full", "0")
+        if matrix not in ("601", "709") or full not in ("0", "1"):
+            raise Refuse(400, "matrix is 601 or 709, full is 0 or 1")
+        text = png.of_frame(frame_of(number, width, height, samples), matrix, full == "1")
+        return Response(200, "image/png", text, headers=headers)
+
+    def packets(self, request):
+        """The facts of packets."""
+        self.only(request, "from", "count", "source")
+        first, count = self.number(request, "from", 0), min(self.number(request, "count", 100), MOST_PACKETS)
+        with self.live.lock:
+            contents = self.live.contents()
+            source = self.number(request, "source", 0)
+            if source >= len(contents.streams):
+                raise Refuse(404, "there is no such source")
+            total = len(contents.streams[source])
+            found = self.live.ask(lambda session: session.packets(range(first, first + count), source))
+            return as_json({"revision": self.live.revision, "source": source, "count": total, "packets": found})
+
+    def findings(self, request):
+        """What is wrong with the stream."""
+        self.only(request)
+        revision, lines = self.live.findings()
+        return as_json({"revision": revision, "findings": lines[:-1], "summary": lines[-1] if lines else ""})
+
+    def edits(self, request):
+        """The list of edits."""
+        self.only(request)
+        with self.live.lock:
+            session = self.live.alive()
+            members = {
+                "revision": self.live.revision,
+                "edits": list(session.edits),
+                "undone": session.edits.undone,
+                "source": session.edits.current,
+                "saved": self.live.is_saved(),
+            }
+        return as_json(members)
+
+    def change(self, request):
+        """An edit, `undo`, `redo` or `save`."""
+        self.only(request)
+        line, revision = parse_change(request.body)
+        with self.live.lock:
+            if revision is not None and revision != self.live.revision:
+                raise Refuse(412, "the stream was changed", revision=self.live.revision)
+            try:
+                reply = self.live.run(line)
+            except ValueError as error:
+                raise Refuse(409 if line == "save" else 400, str(error)) from None
+            return as_json({"reply": reply, "revision": self.live.revision})
+
+    def events(self, request):
+        """A line for each change, as it comes."""
+        self.only(request)
+        return Response(200, "text/event-stream", length=None, pieces=self.beats() if request.method == "GET" else iter(()))
+
+    def beats(self):
+        """The revisions, the current one first."""
+        told, restarts, saved = None, len(self.live.events), self.live.saves.count
+        while not self.server.ended:
+            with self.live.lock:
+                if (told, restarts, saved) == (self.live.revision, len(self.live.events), self.live.saves.count):
+                    self.live.changed.wait(BEAT)
+                revision, count, was_saved = self.live.revision, len(self.live.events), self.live.saves.count
+            if revision != told:
+                yield b'event: edit\ndata: {"revision": %d}\n\n' % revision
+            elif count != restarts:
+                yield b'event: restarted\ndata: {"revision": %d}\n\n' % revision
+            elif was_saved != saved:
+                yield b'event: saved\ndata: {"revision": %d}\n\n' % revision
+            else:
+                yield b": %d\n\n" % int(time.time())
+            told, restarts, saved = revision, count, was_saved
+
+
+def parse_change(body):
+    """The line of a change, and the revision that it is for, or None."""
+    try:
+        members = json.loads(body.decode())
+    except (UnicodeDecodeError, ValueError, RecursionError):
+        raise Refuse(400, "the body is not JSON") from None
+    if not isinstance(members, dict) or set(members) - {"line", "revision"} or not isinstance(members.get("line"), str):
+        raise Refuse(400, 'the body is {"line": "..."}, and may have "revision"')
+    revision = members.get("revision")
+    if revision is not None and (not isinstance(revision, int) or isinstance(revision, bool)):
+        raise Refuse(400, "revision is a number")
+    line = members["line"]
+    word = first_word(line)
+    if word not in (*EDITS, *WORDS) or (word in WORDS and line != word) or (word in EDITS and not is_edit(line)):
+        raise Refuse(400, f"the line is an edit, or {', '.join(WORDS)}")
+    return line, revision
+
+
+def until_ended(pieces):
+    """The pieces; where they stop in the middle, the connection ends."""
+    try:
+        yield from pieces
+    except (*ENDINGS, Ended, OSError, MemoryError):
+        raise Dropped from None
+    finally:
+        pieces.close()

@@ -1,0 +1,47 @@
+"""wokureti serve: the edited stream on a port of this machine, for players and editors."""
+
+import secrets
+import sys
+import threading
+
+from ..tools import paces, waits
+from .live import Live
+from .routes import Routes
+from .web import Server
+
+
+def serve(live, port=0, out=None):
+    """Serves a stream until the process is interrupted."""
+    def announce(address, reading):
+        # A player's command line, which other users of the machine see, has an address that only reads.
+        print(f"{reading}clip.y4m\n{address}edits", file=out or sys.stdout, flush=True)
+
+    serve_with(live, port, Routes, announce)
+
+
+def serve_with(live, port, routes, announce):
+    """Serves a stream with these routes until the process is interrupted. `announce` is called with the address, and the one that only reads."""
+    server = Server(port)
+    token, reading = secrets.token_urlsafe(18), secrets.token_urlsafe(18)
+    server.routes = routes(live, server, token)
+    server.routes.reading = reading
+    thread = threading.Thread(target=server.serve, daemon=True)
+    try:
+        thread.start()
+        announce(f"{server.origin}/{token}/", f"{server.origin}/{reading}/")
+        while thread.is_alive():
+            thread.join(waits.LONGEST)
+    except KeyboardInterrupt:
+        pass
+    finally:
+        server.end()
+        live.close()
+
+
+def run(options, edits, save, port, how):
+    """Opens the stream and serves it. `how` has the options of a server."""
+    live = Live(options, edits, save)
+    live.keeps_stamps, live.sound, live.is_constant = how.keep_stamps, how.sound, how.constant
+    paces.warn(live.contents(), how.constant, live.notice)
+    serve(live, port)
+    return 0

@@ -1,0 +1,412 @@
+"""Which packet of which file each packet of a session is now. No question of the session says that, nor how long a packet is shown, so edits are followed
+here as far as these need it; all else of a packet is what the session answers."""
+
+import copy
+import itertools
+import math
+import secrets
+from array import array
+from typing import NamedTuple
+
+from . import checks
+from ..tools import excerpts, files, ivf, muxing, runs, times
+from .inputs import is_input
+from .lines import first_word, rest_of, spaced, words_of
+from .listing import Listing
+from ..tools.progress import say
+
+# Packets that are read together, and those that are asked for together, at most.
+MOST_TOGETHER, MOST_ASKED = 1 << 16, 256
+
+
+# What a line inserts if that does not matter: a packet of no bytes.
+NOTHING = {"insert": "0 -", "replace": "-"}
+
+
+class Operation(NamedTuple):
+    """A change of the packets of a source that was made, or that takes one back: a request line without what it inserts. `packet` is the number of the packet
+    that is inserted, and `text` what the line has of it: its time stamp and its bytes, or a script. Of a packet of a file it is empty until it is needed."""
+
+    word: str
+    numbers: tuple
+    packet: object = None
+    text: str = ""
+
+    @property
+    def line(self):
+        return " ".join([self.word, *map(str, self.numbers), *([self.text] if self.text else [])])
+
+    @property
+    def is_lost(self):
+        """Whether it is not known what the line inserts."""
+        return self.word in ("insert", "replace", "script") and not self.text
+
+
+class Made(NamedTuple):
+    """A packet that an edit made: the number of the packet whose time it has, or None; the source that it was made in; and whether it was forged."""
+
+    timed: object
+    source: int
+    is_forged: bool
+
+
+class Packet(NamedTuple):
+    """A packet as the session has it."""
+
+    stamp: int
+    data: bytes
+
+    def bytes(self):
+        return self.data
+
+
+def packet_of(text):
+    """A packet of the answer to `packet`, without its first word."""
+    stamp, data = words_of(text)
+    return Packet(int(stamp), b"" if data == "-" else bytes.fromhex(data))
+
+
+class Contents:
+    """The packets of all sources.
+
+    Each packet has a number: those of the files first, then each one that an edit made, a copy too. A stream is a list of such numbers, so an edit moves
+    numbers, and a number is in one stream at most, once: it says which packet is meant, wherever that is now. The bytes of a number stay the same.
+    """
+
+    def __init__(self, session, edits_path):
+        self.session, self.inputs, self.edits_path = session, session._inputs, edits_path
+        self.program, self.lister, self.tables = session._settings
+        # Numbers of packets that edits made are those of these contents alone.
+        self.name = secrets.token_hex(4)
+        self.current = 0
+        self.bases, self.streams, count = [], [], 0
+        for item in self.inputs.all:
+            records = len(item.records())
+            self.bases.append(count)
+            self.streams.append(array("I", range(count, count + records)))
+            count += records
+        self.of_files = count
+        # The packets that edits made, and of those that edits took away since what `packet` answered.
+        self.made, self.lost = [], {}
+        self.listing = Listing(self)
+
+    # Edits
+
+    def apply(self, line, lost=""):
+        """Makes an accepted edit, which lost this, and returns what takes it back."""
+        word, *rest = words_of(line)
+        if word == "script":
+            return Operation(word, (), None, lost)
+        if word in ("insert", "blank", "hold"):
+            return self.perform(Operation("insert", (int(rest[0]),), self.make(None, word != "insert")))
+        if word == "copy":
+            source, index, at = map(int, rest)
+            copied = self.streams[source][index]
+            return self.perform(Operation("insert", (at,), self.make(copied, self.is_forged(copied))))
+        if word in ("replace", "hide", "show"):
+            at = int(rest[0])
+            return self.perform(Operation("replace", (at,), self.make(self.streams[self.current][at])), lost)
+        return self.perform(Operation(word, tuple(map(int, rest))), lost)
+
+    def apply_all(self, lines, losses=None):
+        """Makes accepted edits, and returns what takes each of them back. Packets that are deleted one after the other go together."""
+        found, losses = [], itertools.repeat("") if losses is None else iter(losses)
+        for line, group in itertools.groupby(lines):
+            texts = [next(losses) for _ in group]
+            word, *rest = words_of(line)
+            if len(texts) == 1 or word != "delete":
+                found += [self.apply(line, text) for text in texts]
+                continue
+            at, stream = int(rest[0]), self.streams[self.current]
+            numbers = stream[at : at + len(texts)]
+            del stream[at : at + len(texts)]
+            found += [self.take(Operation("insert", (at,), number, text)) for number, text in zip(numbers, texts)]
+        return found
+
+    def perform_all(self, operations, losses=None):
+        """Makes changes, and returns what takes each of them back. Packets that are inserted at one index go in together: the last one comes first."""
+        found, losses = [], itertools.repeat("") if losses is None else iter(losses)
+        for (word, numbers), group in itertools.groupby(operations, lambda operation: operation[:2]):
+            group = [(operation, next(losses)) for operation in group]
+            if word != "insert" or len(group) == 1:
+                found += [self.perform(operation, text) for operation, text in group]
+                continue
+            [at] = numbers
+            self.streams[self.current][at:at] = array("I", [operation.packet for operation, _ in reversed(group)])
+            found += [Operation("delete", (at,))] * len(group)
+        return found
+
+    def perform(self, operation, lost=""):
+        """Makes a change, which lost this, and returns what takes it back."""
+        word, numbers, packet, _ = operation
+        stream = self.streams[self.current]
+        if word == "script":
+            return Operation(word, (), None, lost)
+        if word == "use":
+            before, self.current = self.current, numbers[0]
+            return Operation(word, (before,))
+        if word == "move":
+            start, to = numbers
+            stream.insert(to, stream.pop(start))
+            return Operation(word, (to, start))
+        at = numbers[0]
+        if word == "insert":
+            stream.insert(at, packet)
+            return Operation("delete", (at,))
+        if word == "delete":
+            return self.take(Operation("insert", (at,), stream.pop(at), lost))
+        before, stream[at] = stream[at], packet
+        self.take(Operation("insert", (at,), before, lost))
+        # A packet that is replaced keeps its time stamp.
+        return Operation("replace", (at,), before, rest_of(lost))
+
+    def take(self, operation):
+        """The operation, which inserts a packet again that is taken away: an edit made it, so it is in no file."""
+        if operation.packet >= self.of_files and operation.text:
+            self.lost[operation.packet] = operation.text
+        return operation
+
+    def make(self, timed, is_forged=False):
+        """The number of a new packet."""
+        self.made.append(Made(timed, self.current, is_forged))
+        return self.next_number - 1
+
+    def is_forged(self, number):
+        return number >= self.of_files and self.made[number - self.of_files].is_forged
+
+    @property
+    def script(self):
+        """The current script."""
+        return spaced(rest_of(self.session.ask("script")))
+
+    @property
+    def next_number(self):
+        """The number of the next packet that an edit makes."""
+        return self.of_files + len(self.made)
+
+    def taken(self, lines):
+        """For each of some edits whether the packet that it takes away is one of a file, so that it need not be asked for. That is sure of one edit, and of
+        several, whichever of them are refused, where they reach no packet that an edit made; else it is not said of any."""
+        other = copy.copy(self)
+        other.streams, other.made, other.lost = [array("I", stream) for stream in self.streams], list(self.made), {}
+        try:
+            if len(lines) > 1 and self.made and any(number >= self.of_files for stream in self.reach(lines) for number in stream):
+                return [False] * len(lines)
+            inverses = other.apply_all(lines)
+        except (IndexError, ValueError):
+            # One is refused.
+            return [False] * len(lines)
+        return [inverse.packet is not None and inverse.packet < self.of_files for inverse in inverses]
+
+    def reach(self, lines):
+        """The packets that edits can take away: of deletions those around, of others all."""
+        if {first_word(line) for line in lines} != {"delete"}:
+            return self.streams
+        places = [int(words_of(line)[1]) for line in lines]
+        return [self.streams[self.current][min(places) : max(places) + len(places)]]
+
+    def has_whole(self, operation, new=None):
+        """Whether what an operation inserts is known. It does not matter of a packet whose number is `new` or a later one: a step that made it and took it away
+        is taken back, so that it goes again."""
+        packet = operation.packet
+        return not operation.is_lost or (packet is not None and (packet < self.of_files or (new is not None and packet >= new)))
+
+    def whole(self, operation):
+        """An operation with what it inserts."""
+        if not operation.is_lost:
+            return operation
+        if operation.packet >= self.of_files:
+            return operation._replace(text=NOTHING[operation.word])
+        item, index = self.where(operation.packet)
+        data = item.read(index).hex() or "-"
+        return operation._replace(text=data if operation.word == "replace" else f"{item.index.stamps[index]} {data}")
+
+    # Times
+
+    def where(self, number):
+        """The file and the index of a packet of a file."""
+        source = max(place for place, base in enumerate(self.bases) if base <= number and len(self.inputs.all[place].index))
+        return self.inputs.all[source], number - self.bases[source]
+
+    def timed(self, number):
+        """The packet of a file that a packet has its time from: itself, or the one that it was copied from or is in the place of; else None."""
+        while number is not None and number >= self.of_files:
+            number = self.made[number - self.of_files].timed
+        return number
+
+    def duration(self, number, source):
+        """The duration of a packet in the time base of a source: that of its file; for one that has no time the median step of the source that it was made in."""
+        made_in = None
+        while number is not None and number >= self.of_files:
+            number, made_in, _ = self.made[number - self.of_files]
+        item, index = (self.inputs.all[made_in], None) if number is None else self.where(number)
+        return times.scaled(item.step() if index is None else item.durations()[index], item.head, self.inputs.all[source].head)
+
+    def durations(self, source, stream):
+        """The durations of packets in the time base of a source."""
+        return array("Q", (self.duration(number, source) for number in stream))
+
+    def stamps(self, source, stream):
+        """New time stamps for packets in the order of a source, and the end of the last one."""
+        self.listing.learn()
+        return times.stamps_of(zip(map(self.is_shown, stream), self.durations(source, stream)))
+
+    # Facts
+
+    def stamp(self, number):
+        """The time stamp of a packet."""
+        return self.listing.stamps[self.known(number)]
+
+    def is_shown(self, number):
+        """Whether a packet is shown as a frame."""
+        return bool(self.listing.tags[self.known(number)] & ivf.SHOWN)
+
+    def has_key_tag(self, number):
+        return bool(self.listing.tags[self.known(number)] & ivf.KEY)
+
+    def size(self, number):
+        """The number of bytes of a packet."""
+        return self.listing.sizes[self.known(number)]
+
+    def known(self, number):
+        """The number, whose facts are asked for if they are not known yet."""
+        if number not in self.listing:
+            self.listing.learn()
+        if number not in self.listing:
+            # An edit took it away before it was listed.
+            stamp, data = self.asked([number])[0]
+            self.listing.put([number], [ivf.tag_of(len(data), data[0] if data else 0)], [len(data)], [stamp])
+        return number
+
+    # Bytes
+
+    def bytes(self, number):
+        """The bytes of a packet."""
+        return next(self.data([number]))
+
+    def data(self, numbers):
+        """The bytes of packets, one after the other. Those of a file are read from it, the others are asked for together."""
+        place = 0
+        while place < len(numbers):
+            if numbers[place] < self.of_files:
+                item, index = self.where(numbers[place])
+                yield item.read(index)
+                place += 1
+                continue
+            end = self.end_of_made(numbers, place)
+            yield from (packet.data for packet in self.asked(numbers[place:end]))
+            place = end
+
+    def end_of_made(self, numbers, place):
+        """Up to where packets follow that edits made and that are asked for together."""
+        end, limit = place + 1, min(len(numbers), place + MOST_ASKED)
+        while end < limit and numbers[end] >= self.of_files:
+            end += 1
+        return end
+
+    def asked(self, numbers):
+        """Packets that edits made, as the session has them, or had them before an edit took them away."""
+        with self.session.turn():
+            places = self.places({number for number in numbers if number not in self.lost})
+            found = dict.fromkeys(numbers)
+            for source in sorted({source for source, _ in places.values()}):
+                mine = [number for number, place in places.items() if place[0] == source]
+                answers = self.session.ask_all([f"packet {places[number][1]}" for number in mine], source)
+                found.update(zip(mine, map(rest_of, answers)))
+            return [packet_of(found[number] or self.lost[number]) for number in numbers]
+
+    def places(self, numbers):
+        """Where packets are: for each of the numbers the source and the index. Those that edits took away are left out."""
+        if len(numbers) == 1:
+            [number] = numbers
+            return {number: (source, stream.index(number)) for source, stream in enumerate(self.streams) if number in stream}
+        return {number: (source, index) for source, stream in enumerate(self.streams) for index, number in enumerate(stream) if number in numbers} if numbers else {}
+
+    def is_edited(self, source, stream):
+        """Whether the packets of a source are others than those of its file."""
+        base, count = self.bases[source], len(self.inputs.all[source].records())
+        return len(stream) != count or stream != array("I", range(base, base + count))
+
+    def source(self, source):
+        """The number of a source that is there; the current one if none is given."""
+        source = self.current if source is None else checks.number(source)
+        if source >= len(self.streams):
+            raise IndexError(f"there is no source {source}: the last one is {len(self.streams) - 1}")
+        return source
+
+    def packet(self, index, source=None):
+        """A packet of a source now."""
+        source, index = self.source(source), checks.number(index)
+        if index >= len(self.streams[source]):
+            raise IndexError(f"there is no packet {index}: there are {len(self.streams[source])}")
+        return packet_of(rest_of(self.session.ask(f"packet {index}", source)))
+
+    @property
+    def rate(self):
+        """Rate and scale of the frames that are served: those of the container that source 0 was in; else those of its header, whose time base may be
+        finer than a frame, over the median step of its time stamps."""
+        media = self.inputs.all[0].media
+        if media is not None and media.rate is not None:
+            return media.rate
+        head, step = self.inputs.all[0].head, self.inputs.all[0].step()
+        rate, scale = times.base_of(head)
+        if step == 1:
+            return rate, scale
+        common = math.gcd(rate, scale * step)
+        return rate // common, scale * step // common
+
+    def shown_kinds(self, source):
+        """For each shown packet of a source its kind, `key` or `inter`."""
+        self.listing.learn()
+        return ["key" if self.has_key_tag(number) else "inter" for number in self.streams[source] if self.is_shown(number)]
+
+    def pieces(self, source=0):
+        """The text of an IVF file of the packets of a source, piece by piece."""
+        stream = self.streams[source]
+        yield self.inputs.all[source].head.text(len(stream))
+        yield from self.records(stream)
+
+    def records(self, stream):
+        """The records of packets as an IVF file has them. Those that follow each other in a file are read together."""
+        place = 0
+        while place < len(stream):
+            number = stream[place]
+            if number >= self.of_files:
+                end = self.end_of_made(stream, place)
+                for packet in self.asked(stream[place:end]):
+                    yield ivf.RECORD.pack(len(packet.data), packet.stamp)
+                    yield packet.data
+                place = end
+                continue
+            item, first = self.where(number)
+            end, index = place + 1, first + 1
+            limit = min(len(stream), place + MOST_TOGETHER, place + len(item.index) - first)
+            while end < limit and stream[end] == number + end - place:
+                end, index = end + 1, index + 1
+            yield from item.read_records(first, index)
+            place = end
+
+    def restamped(self, source=0, stream=None):
+        """The text of an IVF file of packets in the order of a source, with new time stamps, piece by piece."""
+        stream = self.streams[source] if stream is None else stream
+        stamps, _ = self.stamps(source, stream)
+        return ivf.pieces(self.inputs.all[source].head, len(stream), zip(stamps, self.data(stream)))
+
+    def check_output(self, path):
+        """`ValueError` if a file is one that the session reads or writes."""
+        if is_input(path, self.inputs.paths):
+            raise ValueError(f"{path!r} is a file of the session: name another one")
+        if self.edits_path is not None and checks.is_same_file(path, self.edits_path):
+            raise ValueError(f"{path!r} is the list of the edits: name another file")
+
+    def save(self, path, pad=False, source=0, restamp=False, sound=None, say=say):
+        """Writes the packets of a source as an IVF file; with `restamp` with new time stamps. A file .webm or .mkv always has these, and the sound."""
+        self.check_output(path)
+        source = self.source(source)
+        is_container = muxing.ending_of(path) is not None
+        pieces = self.restamped(source) if restamp or is_container else self.pieces(source)
+        pieces = runs.padded(self.program, pieces) if pad else pieces
+        if is_container:
+            excerpts.save(path, pieces, self.inputs.all[source], excerpts.of_numbers(self, self.streams[source], source), sound, say)
+        else:
+            files.write_whole(path, pieces)

@@ -1,0 +1,163 @@
+"""The file of a list of edits: locked, so that one session has it at a time, and compared with what is at its path before each write."""
+
+import errno
+import fcntl
+import os
+import stat
+import time
+
+from ..tools.files import sync_folder
+
+# Seconds.
+LOCK_TIME = 1
+# Names that are tried for another file.
+MOST_NAMES = 10000
+
+
+class NotWritten(OSError):
+    """Edits that were made, and are not in the file of the list. They are kept, and written with the next one."""
+
+    def __init__(self, error, path, count, written, why=None):
+        edits = "the last edit is" if count == 1 else f"the last {count} edits are"
+        safe = "no edit is in it" if written == 0 else "the edit before it is safe" if written == 1 else f"the {written} edits before are safe in it"
+        text = f"{why or path}: {os.strerror(error.errno) if error.errno else error}: {edits} made but not on the disk; {safe}. Make room: the next edit writes all"
+        super().__init__(error.errno, text)
+        self.text = text
+
+    def __str__(self):
+        return self.text
+
+
+class EditFile:
+    """The file of a list."""
+
+    def __init__(self, path, is_fresh=False):
+        self.path = os.fspath(path)
+        self.descriptor, self.is_new = open_locked(self.path, is_fresh)
+        if self.is_new:
+            sync_folder(os.path.dirname(os.path.realpath(self.path)))
+        self.size = os.fstat(self.descriptor).st_size
+        # What was known of the file after the last write.
+        self.known = signature(os.fstat(self.descriptor))
+
+    @classmethod
+    def beside(cls, path):
+        """A new file of this name if there is none any more, else with a number after it."""
+        for number in range(MOST_NAMES):
+            try:
+                return cls(f"{path}.{number}" if number else path, is_fresh=True)
+            except FileExistsError:
+                continue
+            except ValueError:
+                # Another session took it in that moment.
+                continue
+        raise FileExistsError(errno.EEXIST, "there are too many lists of this name")
+
+    def change(self):
+        """What somebody else did to the file, or None."""
+        try:
+            there = os.stat(self.path)
+        except FileNotFoundError:
+            return "was removed"
+        except OSError as error:
+            return f"cannot be found ({error.strerror})"
+        if signature(there)[:2] != self.known[:2]:
+            return "was replaced by another file"
+        return None if signature(there) == self.known else "was changed by another program"
+
+    def text(self):
+        """What is in the file."""
+        data = b""
+        while len(data) < self.size:
+            piece = os.pread(self.descriptor, self.size - len(data), len(data))
+            if not piece:
+                break
+            data += piece
+        return data.decode()
+
+    def write(self, data, at):
+        """Writes bytes at a place, where the file then ends. If that fails, the file ends at the place."""
+        os.ftruncate(self.descriptor, at)
+        self.size = at
+        left = data
+        try:
+            while left:
+                count = os.pwrite(self.descriptor, left, at)
+                left, at = left[count:], at + count
+            os.fsync(self.descriptor)
+        except BaseException:
+            os.ftruncate(self.descriptor, self.size)
+            raise
+        finally:
+            self.known = signature(os.fstat(self.descriptor))
+        self.size = at
+
+    def reopen(self):
+        """Opens the file again after `close`, to try again later. Whether it could be."""
+        try:
+            self.descriptor, _ = open_locked(self.path, False)
+        except (OSError, ValueError):
+            return False
+        return True
+
+    def close(self):
+        """A file that was made here goes if it has nothing, as long as it is locked: nobody else has it then."""
+        try:
+            if self.is_new and not self.size and self.change() is None:
+                os.unlink(self.path)
+        except OSError:
+            pass
+        os.close(self.descriptor)
+
+
+def signature(found):
+    return found.st_dev, found.st_ino, found.st_size, found.st_mtime_ns
+
+
+def open_locked(path, is_fresh):
+    """The descriptor of a file, locked, and whether the file was made here. `ValueError` if another session has it."""
+    while True:
+        descriptor, is_new = open_or_make(path, is_fresh)
+        try:
+            if not stat.S_ISREG(os.fstat(descriptor).st_mode):
+                raise ValueError(f"{path!r} is not a file")
+            lock(descriptor)
+            # The session that had it before may have removed it.
+            if is_at(path, descriptor):
+                return descriptor, is_new
+        except BlockingIOError:
+            os.close(descriptor)
+            raise ValueError(f"{path!r} is the list of another session that is open") from None
+        except BaseException:
+            os.close(descriptor)
+            raise
+        os.close(descriptor)
+
+
+def open_or_make(path, is_fresh):
+    flags = os.O_RDWR | os.O_CREAT | os.O_CLOEXEC
+    try:
+        return os.open(path, flags | os.O_EXCL, 0o666), True
+    except FileExistsError:
+        if is_fresh:
+            raise
+    return os.open(path, flags, 0o666), False
+
+
+def is_at(path, descriptor):
+    try:
+        return os.path.samestat(os.stat(path), os.fstat(descriptor))
+    except FileNotFoundError:
+        return False
+
+
+def lock(descriptor):
+    """A process that another thread starts has the files of this one for a moment, so the lock is tried for a while."""
+    limit = time.monotonic() + LOCK_TIME
+    while True:
+        try:
+            return fcntl.flock(descriptor, fcntl.LOCK_EX | fcntl.LOCK_NB)
+        except BlockingIOError:
+            if time.monotonic() > limit:
+                raise
+            time.sleep(0.01)

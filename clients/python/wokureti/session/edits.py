@@ -1,0 +1,478 @@
+"""The list of the accepted edits of a session: `vp8serve IN LIST` runs it, and it is all that there is to save of an edit.
+
+A line of the list is a request line, as in docs/requests.md: `delete 3`, `use 1`, `script trim 0 0 50`. If the list has a file, each edit
+is in it before the call that made it returns. Comments and empty lines of the file are left where they are. Two comments are read: the first
+line says which stream the list is of, and `# step 3 Repair all` that the next three edits are one step for `undo`.
+"""
+
+from __future__ import annotations
+
+import bisect
+import contextlib
+import os
+import re
+import warnings
+from itertools import accumulate
+from typing import Callable, Iterable, Iterator, Optional, Union
+
+from .contents import Contents
+from .edit_files import EditFile, NotWritten
+from .errors import OtherStream, Refused, sentence
+from ..tools.files import write_whole
+from .lines import first_word, is_edit, plain, question_before, rest_of, words_of
+
+STEP = re.compile(r"# step (\d{1,9})(?: (.*))?")
+STREAM = re.compile(r"# wokureti: edits of (\d+) packets, (\d+) bytes, sha256 ([0-9a-f]{64})")
+# Characters of the title of a step.
+MOST_TITLE = 100
+
+
+class Entry:
+    """An edit: its line, the lines of the file before it, the step that it belongs to, what it lost, and what takes it back, once that is known.
+    The first edit of a step has its title."""
+
+    def __init__(self, line, step, before="", title="", lost=""):
+        self.line = line
+        self.step = step
+        self.before = before
+        self.title = title
+        self.lost = lost
+        self.inverse = None
+
+    @property
+    def text(self):
+        return f"{self.before}{self.line}\n"
+
+    @property
+    def is_use(self):
+        return first_word(self.line) == "use"
+
+
+def parsed(text, step=0):
+    """The edits of the text of a list as entries, the number of the line of each, and the lines after the last one. Steps are numbered from
+    `step` + 1 on."""
+    entries, numbers, before, left, title = [], [], "", 0, ""
+    lines = text.split("\n")
+    for number, line in enumerate(lines if lines[-1] else lines[:-1], 1):
+        if not is_edit(line):
+            before += f"{line}\n"
+            found = STEP.fullmatch(line.removesuffix("\r"))
+            if found:
+                left, title = int(found.group(1)), found.group(2) or ""
+                step += 1
+            continue
+        if not left:
+            step += 1
+        entries.append(Entry(plain(line), step, before, title))
+        numbers.append(number)
+        left, before, title = max(0, left - 1), "", ""
+    return entries, numbers, before
+
+
+class EditList:
+    """The accepted edits of a session, in their order."""
+
+    def __init__(self, session, path=None, anyway=False):
+        self._session = session
+        self._anyway = anyway
+        self._entries = []
+        self._undone = []
+        self._after = ""
+        self._contents = None
+        self._step = 0
+        self._depth = 0
+        # How many entries the file has, and where each of them ends in it.
+        self._ends = []
+        # The file that was named, the one that has the edits, and what is known of it once it is closed.
+        self._named, self._path, self._known = None, None, None
+        self._file = None
+        # Called with a sentence if the file is another one than was thought; without it that is a warning.
+        self.on_notice: Optional[Callable[[str], None]] = None
+        if path is not None:
+            self._use(EditFile(path))
+            self._named = self._path
+
+    def _use(self, file):
+        self._file, self._path = file, file.path
+        if self._contents is not None:
+            self._contents.edits_path = file.path
+
+    def __iter__(self) -> Iterator[str]:
+        return iter([entry.line for entry in self._entries])
+
+    def __len__(self) -> int:
+        return len(self._entries)
+
+    @property
+    def entries(self):
+        """The edits, with their steps: those of one step are taken back together."""
+        return self._entries
+
+    def text(self) -> str:
+        """The list as text."""
+        return "".join(entry.text for entry in self._entries)
+
+    def save(self, path: Union[str, bytes, os.PathLike[str], os.PathLike[bytes]]) -> None:
+        """Writes the list to another file."""
+        write_whole(path, [self.text().encode()])
+
+    @property
+    def path(self) -> Optional[str]:
+        """The file of the list, or None."""
+        return self._path
+
+    @property
+    def written(self) -> int:
+        """How many of the edits are in the file, on the disk."""
+        return len(self._ends)
+
+    @property
+    def undone(self) -> list[str]:
+        """The lines that `redo` makes again, the next one first."""
+        return [entry.line for group in reversed(self._undone) for entry in group]
+
+    def close(self):
+        """The file stays as it is, unless somebody replaced it, or edits are not in it yet."""
+        if self._file is None:
+            return
+        try:
+            if self._entries:
+                self._write()
+        except OSError as error:
+            self._say(sentence(error))
+        file, self._file = self._file, None
+        self._known = file.known
+        file.close()
+
+    def _say(self, text):
+        if self.on_notice is not None:
+            self.on_notice(text)
+        else:
+            warnings.warn(text, RuntimeWarning, stacklevel=3)
+
+    def load(self):
+        """Makes the edits of the file."""
+        if self._file is None:
+            return
+        text = self._file.text()
+        if text and not text.endswith("\n"):
+            last = text.splitlines()[-1]
+            raise ValueError(f"{self.path}: the last line has no newline, so it may be cut off: {last[:80]!r}. End the line, or delete it")
+        entries, numbers, after = self._parsed(text, self.path)
+        self._replay(entries, self.path, numbers)
+        self._entries, self._after = entries, after
+        self._know_all()
+        self._step = entries[-1].step if entries else 0
+        place = 0
+        lines = text.split("\n")[:-1]
+        for before, number in zip([0, *numbers], numbers):
+            place += sum(len(line.encode()) + 1 for line in lines[before:number])
+            self._ends.append(place)
+
+    def run(self, path: Union[str, bytes, os.PathLike[str], os.PathLike[bytes]]) -> None:
+        """Makes the edits of a list, which is only read."""
+        with open(path, encoding="utf-8") as file:
+            text = file.read()
+        entries, numbers, _ = self._parsed(text, path)
+        with self._session.turn():
+            self._replay(entries, path, numbers)
+            for entry in entries:
+                self.accept(entry.line, entry.lost)
+
+    def _parsed(self, text, path):
+        """The entries of a list, which must be of this stream."""
+        found = STREAM.fullmatch(text.split("\n", 1)[0].removesuffix("\r"))
+        if found and not self._anyway:
+            packets, size, digest = int(found.group(1)), int(found.group(2)), found.group(3)
+            item = self._session._inputs.all[0]
+            if (packets, size) != item.extent() or digest != item.digest():
+                raise OtherStream(path, (packets, size), item.extent())
+        return parsed(text, self._step)
+
+    def _replay(self, entries, path, numbers):
+        for entry, number, (reply, lost) in zip(entries, numbers, self._send([entry.line for entry in entries])):
+            if isinstance(reply, Refused):
+                raise ValueError(f"{path}, line {number}: {entry.line[:80]}: {reply}. The list is not of this stream") from None
+            entry.lost = lost
+
+    def resume(self, other):
+        """Goes on with the list of a session that ended: with its edits, those too that its file does not have, and with what was undone."""
+        self._replay(other._entries, other.path or "the list of edits", range(1, len(other._entries) + 1))
+        self._entries, self._undone, self._after, self._step = other._entries, other._undone, other._after, other._step
+        for entry in self._entries:
+            entry.inverse = None
+        self._know_all()
+        self.on_notice, self._ends, self._path, self._named = other.on_notice, other._ends, other._path, other._named
+        if self._path is None:
+            return
+        with contextlib.suppress(OSError, ValueError):
+            file = EditFile(self._path)
+            if file.known == other._known:
+                self._use(file)
+            else:
+                file.close()
+        try:
+            self._write()
+        except OSError as error:
+            self._say(sentence(error))
+
+    def contents(self):
+        """Which packets there are after the edits, which is found when it is needed first."""
+        if self._contents is None:
+            contents = Contents(self._session, self.path)
+            self._know(contents, self._entries)
+            self._contents = contents
+        return self._contents
+
+    def _know_all(self):
+        """The list has the edits that the program made already."""
+        if self._contents is not None:
+            self._know(self._contents, self._entries)
+
+    @staticmethod
+    def _know(contents, entries):
+        """Makes accepted edits in the contents, and finds what takes each of them back."""
+        inverses = contents.apply_all([entry.line for entry in entries], [entry.lost for entry in entries])
+        for entry, inverse in zip(entries, inverses):
+            entry.inverse = inverse
+
+    @property
+    def current(self) -> int:
+        """The current source: that of the last accepted `use`."""
+        if self._contents is not None:
+            return self._contents.current
+        return next((int(words_of(entry.line)[1]) for entry in reversed(self._entries) if entry.is_use), 0)
+
+    def _send(self, lines, timeout=None, progress=None, texts=None):
+        """Sends edits, each after the question what it loses. For each that was sent the reply, which may be a refusal, and what was lost.
+        `progress` is called with how many were made. `texts` are the lines if these are only how they begin."""
+        questions = self._questions(lines)
+        sent = (text for pair in zip(questions, lines if texts is None else texts) for text in pair if text is not None)
+        ends = list(accumulate(1 + (question is not None) for question in questions))
+        told = None if progress is None else lambda done: progress(bisect.bisect_right(ends, done))
+        replies, found = iter(self._session.request_all(sent, timeout, told)), []
+        for question in questions:
+            answer = next(replies, None) if question is not None else None
+            reply = next(replies, None)
+            if reply is None:
+                break
+            found.append((reply, rest_of(answer) if isinstance(answer, str) else ""))
+        return found
+
+    def question(self, line):
+        """The question what an edit loses, or None if it loses nothing, or a packet that a file has."""
+        found = question_before(line)
+        return self._questions([line])[0] if found is not None and self._contents is not None else found
+
+    def _questions(self, lines):
+        """The same for edits that are sent together. Which packets they take away is only sure as long as none is refused, so that it must not matter."""
+        questions = list(map(question_before, lines))
+        count = sum(question is not None for question in questions)
+        if count > 1 or (count and self._contents is not None):
+            taken = self.contents().taken(list(map(plain, lines)))
+            questions = [None if is_of_file else question for question, is_of_file in zip(questions, taken)]
+        return questions
+
+    @contextlib.contextmanager
+    def step(self, title: str = "") -> Iterator[None]:
+        """Edits in the block are one step for `undo`, which may have a title. They are in the file when the block ends."""
+        if self._depth == 0:
+            self._step += 1
+            start = len(self._entries)
+        self._depth += 1
+        try:
+            yield
+        finally:
+            self._depth -= 1
+            if self._depth == 0:
+                self._name(self._entries[start:], title)
+                self._write()
+
+    def _name(self, group, title):
+        """Puts the comment before the edits of a step that says how many they are."""
+        title = " ".join(title.split())[:MOST_TITLE]
+        if len(group) > 1:
+            group[0].title = title
+            group[0].before += f"# step {len(group)} {title}".rstrip() + "\n"
+
+    def _new_step(self):
+        if self._depth == 0:
+            self._step += 1
+
+    def accept(self, line, lost=""):
+        """Adds an edit that the program accepted, and what it lost."""
+        self._new_step()
+        before = self._after or ("" if self._entries else self._first_line())
+        entry = Entry(line, self._step, before, lost=lost)
+        self._after = ""
+        if self._contents is not None:
+            self._know(self._contents, [entry])
+        self._entries.append(entry)
+        self._undone.clear()
+        self._write()
+
+    def _accept_all(self, lines, losses):
+        """Adds the edits of a step that the program accepted."""
+        contents, start = self._contents, len(self._entries)
+        self._contents = None
+        try:
+            for line, lost in zip(lines, losses):
+                self.accept(line, lost)
+        finally:
+            self._contents = contents
+        if contents is not None:
+            self._know(contents, self._entries[start:])
+
+    def _first_line(self):
+        """The comment that says which stream a list is of."""
+        if self._file is None:
+            return ""
+        item = self._session._inputs.all[0]
+        return "# wokureti: edits of {} packets, {} bytes, sha256 {}\n".format(*item.extent(), item.digest())
+
+    def _write(self):
+        """Brings the file up to date. `NotWritten` if that fails: the next edit tries again."""
+        if self._path is None or self._depth:
+            return
+        change = "is not open any more" if self._file is None else self._file.change()
+        if change is not None:
+            self._move(f"{self._path} {change}")
+            return
+        del self._ends[len(self._entries) :]
+        new = [entry.text.encode() for entry in self._entries[len(self._ends) :]]
+        start = self._ends[-1] if self._ends else 0
+        if not new and start == self._file.size:
+            return
+        try:
+            self._file.write(b"".join(new), start)
+        except OSError as error:
+            raise NotWritten(error, self._path, len(new), self.written) from None
+        self._extend(new)
+
+    def _extend(self, new):
+        """The file has these entries more."""
+        place = self._ends[-1] if self._ends else 0
+        for text in new:
+            place += len(text)
+            self._ends.append(place)
+
+    def _move(self, why):
+        """Writes the whole list to another file, since the one that it had is no more its own: what somebody else wrote is left as it is."""
+        new = [entry.text.encode() for entry in self._entries]
+        self._ends = []
+        try:
+            file = EditFile.beside(self._named)
+            try:
+                file.write(b"".join(new), 0)
+            except BaseException:
+                file.close()
+                raise
+        except OSError as error:
+            raise NotWritten(error, self._path, len(new), 0, why) from None
+        if self._file is not None:
+            self._file.close()
+        self._use(file)
+        self._extend(new)
+        count = len(new)
+        self._say(f"{why} while it was open: {'the edit is' if count == 1 else f'all {count} edits are'} in {self._path} now")
+
+    def run_step(self, lines: Iterable[str], timeout: Optional[float] = None, progress: Optional[Callable[[int], None]] = None, title: str = "") -> str:
+        """Makes edits as one step, and returns the reply to the last one. If one is refused, none is made, and what was undone can be made
+        again as before. `progress` is called with the number of edits that were made."""
+        with self._session.turn(timeout):
+            return self._run_step(list(lines), timeout, progress, title)
+
+    def _run_step(self, lines, timeout, progress, title):
+        count, undone, after = len(self._entries), list(self._undone), self._after
+        # After a refusal the program may have made some of the edits that follow it: those are taken back too.
+        replies = self._send(lines, timeout, progress)
+        refused = refusal_of(replies)
+        if refused is None:
+            with self.step(title):
+                self._accept_all(list(map(plain, lines)), [lost for _, lost in replies])
+            return replies[-1][0] if replies else ""
+        self._depth += 1
+        try:
+            new = self.contents().next_number
+            for line, (reply, lost) in zip(lines, replies):
+                if not isinstance(reply, Refused):
+                    self.accept(plain(line), lost)
+            self._take_back(self._entries[count:], timeout, new)
+            del self._entries[count:]
+            self._undone, self._after = undone, after
+        finally:
+            self._depth -= 1
+            # If there is no memory to take them back, the edits before the refused one stay, in the program and in the list.
+            self._write()
+        raise refused
+
+    def _last_group(self):
+        """How many entries the last step has, with the `use` lines after it."""
+        count, step = 0, None
+        for entry in reversed(self._entries):
+            if step is None and not entry.is_use:
+                step = entry.step
+            elif step is not None and entry.step != step:
+                break
+            count += 1
+        return count
+
+    def undo(self, timeout=None):
+        """Takes back the last step, and returns its lines."""
+        if not self._entries:
+            return []
+        group = self._entries[len(self._entries) - self._last_group() :]
+        self._take_back(group, timeout)
+        del self._entries[len(self._entries) - len(group) :]
+        self._undone.append(group)
+        self._write()
+        return [entry.line for entry in group]
+
+    def _take_back(self, group, timeout, new=None):
+        """Takes back the last entries, the last one first."""
+        # What takes an entry back is found when the contents are.
+        self.contents()
+        self._perform([entry.inverse for entry in reversed(group)], timeout, new)
+
+    def _perform(self, operations, timeout, new=None):
+        """Makes changes that are not listed, and returns what takes each of them back. If one is refused for want of memory,
+        those that were made are taken back."""
+        contents = self.contents()
+        if not all(contents.has_whole(operation, new) for operation in operations):
+            raise Refused("refused NoMemory", "there was no memory to ask for what the edit took away")
+        texts = (contents.whole(operation).line for operation in operations)
+        replies = self._send([operation.line for operation in operations], timeout, texts=texts)
+        refused, made = refusal_of(replies), [(operation, lost) for operation, (reply, lost) in zip(operations, replies) if not isinstance(reply, Refused)]
+        done = contents.perform_all([operation for operation, _ in made], [lost for _, lost in made])
+        if refused is not None:
+            for operation in reversed(done):
+                self._session.request(contents.whole(operation).line, timeout, listed=False)
+                contents.perform(operation)
+            raise refused
+        return done
+
+    def redo(self, timeout=None):
+        """Makes the step again that was taken back last, and returns its lines."""
+        if not self._undone:
+            return []
+        group, contents = self._undone[-1], self.contents()
+        new = contents.next_number
+        replies = self._send([entry.line for entry in group], timeout)
+        refused, made = refusal_of(replies), []
+        for entry, (reply, lost) in zip(group, replies):
+            if not isinstance(reply, Refused):
+                entry.lost = lost
+                made.append(entry)
+        self._know(contents, made)
+        if refused is not None:
+            self._perform([entry.inverse for entry in reversed(made)], timeout, new)
+            raise refused
+        self._undone.pop()
+        self._entries += group
+        self._write()
+        return [entry.line for entry in group]
+
+
+def refusal_of(replies):
+    """The first refusal of pairs of a reply and what was lost, or None."""
+    return next((reply for reply, _ in replies if isinstance(reply, Refused)), None)

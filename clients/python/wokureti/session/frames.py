@@ -1,0 +1,128 @@
+"""Frames, and reading them from the pipe that vp8serve writes them to."""
+
+import os
+from typing import Any, NamedTuple
+
+from ..tools import colours
+
+try:
+    import numpy
+except ImportError:
+    numpy = None
+
+
+class Frame(NamedTuple):
+    """A frame: its number, its size in luma samples, and its planes.
+
+    A plane has a row of samples for each line: a numpy array if numpy is installed, else a memoryview, both of two dimensions. Rows
+    of `u` and `v` have (width + 1) // 2 samples, and there are (height + 1) // 2 of them.
+    """
+
+    number: int
+    width: int
+    height: int
+    y: Any
+    u: Any
+    v: Any
+
+    def i420(self) -> bytes:
+        """The samples of the three planes, one after the other."""
+        return b"".join(plane.tobytes() for plane in (self.y, self.u, self.v))
+
+    def rgb(self, matrix: str = "601", full: bool = False) -> Any:
+        """The picture as red, green and blue: a numpy array or a memoryview of height x width x 3 bytes.
+
+        `matrix` is "601" or "709" (ITU-R BT.601 or BT.709); with `full` luma has 0 to 255, else 16 to 235. Each chroma sample
+        is that of the four luma samples that it covers.
+        """
+        return colours.rgb(self, matrix, full)
+
+
+def sides(width, height):
+    """The width and height of each plane of a frame."""
+    half = ((width + 1) // 2, (height + 1) // 2)
+    return ((width, height), half, half)
+
+
+def size_of(width, height):
+    """The number of samples of a frame."""
+    return sum(across * down for across, down in sides(width, height))
+
+
+def frame_of(number, width, height, samples):
+    """The frame of these samples, which are not copied."""
+    planes, start, view = [], 0, memoryview(samples)
+    for across, down in sides(width, height):
+        plane = view[start : start + across * down]
+        if numpy is not None:
+            planes.append(numpy.frombuffer(plane, numpy.uint8).reshape(down, across))
+        else:
+            planes.append(plane.cast("B", (down, across)))
+        start += across * down
+    return Frame(number, width, height, *planes)
+
+
+def parse_header(line):
+    """The width and height in the first line of a YUV4MPEG2 text."""
+    words = line.split()
+    if not words or words[0] != b"YUV4MPEG2":
+        raise ValueError(f"not the first line of YUV4MPEG2: {line[:80]!r}")
+    found = {word[:1]: word[1:] for word in words[1:]}
+    try:
+        return int(found[b"W"]), int(found[b"H"])
+    except (KeyError, ValueError):
+        raise ValueError(f"no size in the first line of YUV4MPEG2: {line[:80]!r}") from None
+
+
+MARK = b"FRAME\n"
+
+
+class FrameReader:
+    """Takes the frames from the descriptor of a pipe, never more bytes than those of one frame."""
+
+    def __init__(self, descriptor):
+        self.descriptor = descriptor
+        self.header = bytearray()
+        self.size = None
+        self.samples = None
+        self.filled = 0
+
+    @property
+    def frame_size(self):
+        """The number of bytes of a frame and its mark."""
+        return len(MARK) + size_of(*self.size)
+
+    def start(self):
+        """Room for a frame, with its mark."""
+        self.samples = memoryview(bytearray(self.frame_size))
+        self.filled = 0
+
+    def read(self):
+        """Reads what is there. False at the end of the pipe."""
+        if self.size is None:
+            return self.read_header()
+        if self.samples is None:
+            self.start()
+        count = os.readv(self.descriptor, [self.samples[self.filled :]])
+        self.filled += count
+        return count > 0
+
+    def read_header(self):
+        """The header line is short and comes once, so it is read a byte at a time."""
+        piece = os.read(self.descriptor, 1)
+        self.header += piece
+        if piece == b"\n":
+            self.size = parse_header(bytes(self.header))
+        return bool(piece)
+
+    @property
+    def is_whole(self):
+        """Whether a whole frame was read."""
+        return self.samples is not None and self.filled == len(self.samples)
+
+    def take(self):
+        """The width, height and samples of the frame that was read."""
+        samples, self.samples = self.samples, None
+        if bytes(samples[: len(MARK)]) != MARK:
+            raise ValueError("a frame does not begin with FRAME")
+        return (*self.size, samples[len(MARK) :])

@@ -1,0 +1,215 @@
+"""The files that a session was opened with, kept open so that the bytes of their packets can be read later."""
+
+import hashlib
+import os
+import shutil
+import stat
+import tempfile
+import threading
+
+from . import checks
+from ..tools import containers, convert, ivf, rooms, times
+
+# Bytes that are read at a time.
+WINDOW = 1 << 20
+
+
+class Input:
+    """A stream of a session: the word that the program gets for it, and its packets. Both read the same file."""
+
+    def __init__(self, path):
+        self.path = self.word = path
+        self.descriptor = None
+        self.signature = None
+        self.head = ivf.EMPTY
+        self.index = None
+        self.lock = threading.Lock()
+        self.found_digest, self.digesting, self.found_step, self.found_durations = None, threading.Lock(), None, None
+        self.media = containers.media_of(path)
+        self.is_shared = False
+        if path == "-":
+            return
+        try:
+            self.descriptor = os.open(path, os.O_RDONLY | os.O_CLOEXEC)
+        except OSError:
+            # The program reports it.
+            return
+        kind = os.fstat(self.descriptor).st_mode
+        if stat.S_ISDIR(kind):
+            self.close()
+            return
+        if not stat.S_ISREG(kind):
+            self.spool()
+        if not stat.S_ISREG(kind) or os.path.abspath(path).startswith(("/dev/", "/proc/")):
+            # Another process cannot open a pipe again, and /dev/stdin is another file there.
+            self.word, self.is_shared = f"/dev/fd/{self.descriptor}", True
+        self.signature = self.sign(os.fstat(self.descriptor))
+
+    def spool(self):
+        """Copies a pipe to a file that has no name."""
+        with open(self.descriptor, "rb") as pipe, tempfile.TemporaryFile() as file:
+            shutil.copyfileobj(pipe, file, 1 << 20)
+            file.flush()
+            # Not dup: the program opens it again, and reads from the start.
+            self.descriptor = os.open(f"/dev/fd/{file.fileno()}", os.O_RDONLY | os.O_CLOEXEC)
+
+    @staticmethod
+    def sign(found):
+        return found.st_dev, found.st_ino, found.st_size, found.st_mtime_ns
+
+    def check(self):
+        """`OSError` if the file is no more the one that the program read."""
+        if self.descriptor is not None and self.sign(os.fstat(self.descriptor)) != self.signature:
+            raise OSError(f"{self.path} was changed since the session was opened")
+
+    def check_opened(self):
+        """The same right after the program read the file by its path."""
+        self.check()
+        if self.descriptor is not None and not self.is_shared and self.sign(os.stat(self.path)) != self.signature:
+            raise OSError(f"{self.path} was changed while the session was opened")
+
+    def records(self):
+        """The index of the packets, made when it is needed first. Other threads that need it wait."""
+        if self.index is None:
+            with self.lock:
+                if self.index is None:
+                    self.index = self.read_index()
+        return self.index
+
+    def read_index(self):
+        if self.descriptor is None:
+            return ivf.Index()
+        self.head, index = ivf.read_index(self.descriptor)
+        self.check()
+        return index
+
+    def step(self):
+        """The median of the steps between the time stamps of shown packets: the time of a frame. 1 if there is none."""
+        if self.found_step is None:
+            index = self.records()
+            self.found_step = times.median_step(index.stamps, index.tags)
+        return self.found_step
+
+    def durations(self):
+        """The duration of each packet, in the time base of the file."""
+        if self.found_durations is None:
+            index = self.records()
+            self.found_durations = times.durations(index.stamps, index.tags, self.step())
+        return self.found_durations
+
+    def extent(self):
+        """The number of packets, and of their bytes."""
+        index = self.records()
+        return len(index), sum(index.sizes)
+
+    def digest(self):
+        """The SHA-256 of the packets, each after its size: what they are called and what their time stamps are does not matter. Read once."""
+        with self.digesting:
+            if self.found_digest is None:
+                self.found_digest = self.read_digest()
+            return self.found_digest
+
+    def read_digest(self):
+        index, found = self.records(), hashlib.sha256()
+        window, base = b"", 0
+        for start, size in zip(index.starts, index.sizes):
+            if start < base or start + size > base + len(window):
+                window, base = os.pread(self.opened(), max(size, WINDOW), start), start
+            found.update(size.to_bytes(4, "little"))
+            found.update(memoryview(window)[start - base : start - base + size])
+        self.check()
+        return found.hexdigest()
+
+    def opened(self):
+        """The descriptor. `OSError` if the session is over."""
+        if self.descriptor is None:
+            raise OSError(f"{self.path} is not open any more")
+        return self.descriptor
+
+    def again(self):
+        """The file, opened again: it stays open when the session ends."""
+        found = os.open(f"/dev/fd/{self.opened()}", os.O_RDONLY | os.O_CLOEXEC)
+        if self.sign(os.fstat(found)) != self.signature:
+            os.close(found)
+            raise OSError(f"{self.path} was changed, or is not open any more")
+        return found
+
+    def read(self, number, size=None):
+        """The bytes of a packet, or the first ones of them."""
+        index = self.records()
+        count = index.sizes[number]
+        data = os.pread(self.opened(), count if size is None else min(size, count), index.starts[number])
+        self.check()
+        return data
+
+    def read_records(self, first, end):
+        """The bytes of the records of packets, piece by piece."""
+        index = self.records()
+        place = index.starts[first] - ivf.RECORD.size
+        stop = index.starts[end - 1] + index.sizes[end - 1]
+        while place < stop:
+            data = os.pread(self.opened(), min(stop - place, ivf.WINDOW), place)
+            self.check()
+            place += len(data)
+            yield data
+
+    def whole(self, most):
+        """The bytes of the whole file, at most so many; those of an empty stream if there is none."""
+        if self.path == "-":
+            return ivf.EMPTY.text(0)
+        return os.pread(self.opened(), min(most, os.fstat(self.opened()).st_size), 0)
+
+    def close(self):
+        if self.descriptor is not None:
+            os.close(self.descriptor)
+            self.descriptor = None
+
+
+class Inputs:
+    """The streams of a session, source 0 first."""
+
+    def __init__(self, paths):
+        self.all, self.room = [], None
+        try:
+            for path in paths:
+                self.all.append(Input(self.taken_out(path)))
+        except BaseException:
+            self.close()
+            raise
+        self.paths = paths
+
+    def taken_out(self, path):
+        """The path, or of a file in another container that of its packets."""
+        if path == "-" or not os.path.isfile(path):
+            return path
+        with open(path, "rb") as file:
+            if convert.kind_of(file.read(12)) is None:
+                return path
+        if self.room is None:
+            self.room = rooms.Room()
+        return convert.as_ivf(path, self.room.name, is_quiet=True)
+
+    @property
+    def words(self):
+        """What the program gets for each stream."""
+        return [item.word for item in self.all]
+
+    @property
+    def shared(self):
+        """The descriptors that the program opens by number."""
+        return tuple(item.descriptor for item in self.all if item.is_shared)
+
+    def check(self):
+        for item in self.all:
+            item.check_opened()
+
+    def close(self):
+        for item in self.all:
+            item.close()
+        if self.room is not None:
+            self.room.cleanup()
+
+
+def is_input(path, paths):
+    """Whether a file that is to be written is one of these."""
+    return any(other != "-" and checks.is_same_file(path, other) for other in paths)

@@ -1,0 +1,412 @@
+"""The engine in this process, by the library `libwokureti.so`: the same calls as `pipes.Pipes` has over a program.
+
+A session of the library stays on the thread that opened it, so each has a worker, and callers wait for it.
+"""
+
+import ctypes
+import os
+import queue
+import threading
+import time
+import weakref
+
+from ..tools import ivf, programs, versions
+from ..tools.files import write_whole
+from .frames import MARK, size_of
+from .pipes import Gone, Late, Strange
+
+NAME = "libwokureti.so.0"
+ENGINES = ("library", "program")
+# Bytes of stack that a worker has at least: the library needs 64 KB.
+LEAST_STACK = 1 << 20
+STARTING = threading.Lock()
+CACHE, MOST_STATES = 32, 4096
+V3 = {"avx2", "bmi1", "bmi2", "f16c", "fma", "abm", "movbe"}
+OK, FILE, MEMORY, ROOM, LOST, NO_MEMORY = 0, 2, 3, 5, 7, 31
+# Numbers of `wk_export`: a frame that the script changes, and too many packets.
+CHANGED, FULL = 33, 35
+REFUSALS = range(16, 33)
+FAULTS = {
+    1: "a number is outside its range: 1 to 8 files and 1 to 4096 states",
+    3: "out of memory",
+    6: "tables are not 3012 bytes",
+}
+# Bytes of a file, at most.
+MOST_FILE = 1 << 30
+CAUSES = ("", "Header", "Magic", "FourCc", "HeaderLength", "TooMany", "NoMemory")
+
+
+class Shown(ctypes.Structure):
+    """`wk_shown` of the header."""
+
+    _fields_ = [
+        ("luma_stride", ctypes.c_size_t),
+        ("chroma_stride", ctypes.c_size_t),
+        ("width", ctypes.c_uint32),
+        ("height", ctypes.c_uint32),
+        ("source", ctypes.c_uint64),
+        ("packet", ctypes.c_uint64),
+    ]
+
+
+class Fault(ctypes.Structure):
+    """`wk_fault` of the header."""
+
+    _fields_ = [("source", ctypes.c_uint64), ("cause", ctypes.c_uint32)]
+
+
+class Unwritten(ctypes.Structure):
+    """`wk_unexported` of the header."""
+
+    _fields_ = [("frame", ctypes.c_uint64), ("node", ctypes.c_uint64), ("source", ctypes.c_uint64), ("packet", ctypes.c_uint64)]
+
+
+class NotExported(Exception):
+    """What `wk_export` returned, and what it reported."""
+
+    def __init__(self, status, frame, node):
+        super().__init__(status)
+        self.frame = frame
+        self.is_refused = status in REFUSALS
+        if status == CHANGED:
+            self.text = f"frame {frame} is changed by node {node}"
+        else:
+            self.text = "too many packets" if status == FULL else "no packet repeats a frame of this size"
+
+
+def room_of(size):
+    """A bytearray of this size. The engine writes each of its bytes, so they are not set before."""
+    make = getattr(getattr(ctypes, "pythonapi", None), "PyByteArray_FromStringAndSize", None)
+    if make is None:
+        return bytearray(size)
+    make.argtypes, make.restype = [ctypes.c_char_p, ctypes.c_ssize_t], ctypes.py_object
+    return make(None, size)
+
+
+def processors():
+    """The processors whose programs run here, the best one first."""
+    try:
+        with open("/proc/cpuinfo", encoding="ascii", errors="replace") as file:
+            flags = set(file.read(1 << 14).split())
+    except OSError:
+        flags = set()
+    return (["x86-64-v3"] if V3 <= flags else []) + ["x86-64-v2"]
+
+
+def find():
+    """The path of the library: that of the variable LIBWOKURETI, or installed with this package, or built in this tree; None if it is nowhere."""
+    named = os.environ.get("LIBWOKURETI")
+    if named:
+        return named
+    places = [folder / "lib/wokureti" / cpu / NAME for folder in programs.HERE.parents for cpu in processors()] + [programs.TREE / "bin" / NAME]
+    return next((str(path) for path in places if path.is_file()), None)
+
+
+def plane_bytes(width, height):
+    """The bytes of a plane with its border."""
+    return (width + 64) * (height + 64)
+
+
+def picture_bytes(width, height):
+    """The bytes of a cached picture: its whole macroblocks."""
+    columns, rows = (width + 15) // 16, (height + 15) // 16
+    return plane_bytes(16 * columns, 16 * rows) + 2 * plane_bytes(8 * columns, 8 * rows)
+
+
+def first_key_size(file):
+    """The size of the first key packet of a file that has one, or None."""
+    _, place = ivf.parse_head(file[: ivf.HEAD.size])
+    while place + ivf.RECORD.size <= len(file):
+        size, _ = ivf.RECORD.unpack_from(file, place)
+        start = place + ivf.RECORD.size
+        place = start + size
+        found = ivf.key_size(file[start : start + min(size, 10)]) if size >= 10 and place <= len(file) else None
+        if found:
+            return found
+    return None
+
+
+def states_in(file, size):
+    """The number of states whose pictures take at most so many bytes, as vp8serve counts them: by the first key packet that has a size."""
+    try:
+        found = first_key_size(file)
+    except ivf.NotIvf:
+        found = None
+    return CACHE if found is None else max(1, min(MOST_STATES, size // picture_bytes(*found)))
+
+
+def number_of(version):
+    """The number of a version, as `wk_version` returns it."""
+    first, second, third = map(int, version.split("."))
+    return 10000 * first + 100 * second + third
+
+
+def is_ready():
+    """Whether the library is found, can be loaded here, and is of the version of this package."""
+    path = find()
+    if path is None:
+        return False
+    try:
+        return load(path).wk_version() == number_of(versions.version())
+    except (OSError, AttributeError, ValueError):
+        return False
+
+
+def engine_of(named, program):
+    """What answers: what is named, in the call or in the variable WOKURETI_ENGINE, or the program where one is named; else the library where it is ready."""
+    engine = named or ("program" if program else os.environ.get("WOKURETI_ENGINE"))
+    if not engine:
+        return "library" if not os.environ.get("VP8SERVE") and is_ready() else "program"
+    if engine not in ENGINES:
+        raise ValueError(f'the engine is {engine!r}, but must be "program" or "library"')
+    return engine
+
+
+def load(path=None):
+    """The library. `OSError` if it is nowhere, or is not one."""
+    path = path or find()
+    if path is None:
+        raise OSError(f"{NAME} is not there: ./build.py --library makes it, or name it in the variable LIBWOKURETI")
+    found, size, data, pointer = ctypes.CDLL(path), ctypes.c_size_t, ctypes.c_char_p, ctypes.c_void_p
+    calls = {
+        "wk_version": [],
+        "wk_open": [pointer, data, size, pointer, size, ctypes.c_uint16, data, size, pointer],
+        "wk_close": [pointer],
+        "wk_frame": [pointer, ctypes.c_uint64, pointer, size, pointer, size, pointer, size, pointer],
+        "wk_request": [pointer, data, size, pointer],
+        "wk_why": [pointer, pointer],
+        "wk_save": [pointer, ctypes.c_bool, pointer],
+        "wk_text": [pointer, pointer, size, pointer],
+    }
+    # Version 0.11.0 has not these.
+    later = {
+        "wk_save_source": [pointer, size, ctypes.c_bool, ctypes.c_bool, pointer],
+        "wk_export": [pointer, ctypes.c_bool, pointer, pointer],
+    }
+    for name, types in (calls | later if hasattr(found, "wk_export") else calls).items():
+        call = getattr(found, name)
+        call.argtypes, call.restype = types, None if name == "wk_close" else ctypes.c_uint32
+    return found
+
+
+class Engine:
+    """A session of the library. All its calls are made on one thread."""
+
+    def __init__(self, library, files, states, tables, explains):
+        self.library, self.explains, self.reasons = library, explains, []
+        self.handle = (ctypes.c_void_p * 1)()
+        self.shown, self.length = Shown(), ctypes.c_size_t()
+        self.size = (0, 0)
+        ends, total = (ctypes.c_size_t * len(files))(), 0
+        for place, file in enumerate(files):
+            total += len(file)
+            ends[place] = total
+        fault = Fault()
+        status = library.wk_open(self.handle, b"".join(files), total, ends, len(files), states, tables, len(tables), ctypes.byref(fault))
+        self.trouble = None if status == OK else (status, fault.source, fault.cause)
+
+    def text(self):
+        """The text that the last call left."""
+        room = ctypes.create_string_buffer(max(1, self.length.value))
+        self.library.wk_text(self.handle, room, self.length.value, ctypes.byref(self.length))
+        return room.raw[: self.length.value]
+
+    def answer(self, line):
+        """The reply to a line, and the picture if it is served."""
+        # A carriage return before the newline is no part of a line.
+        line = line.removesuffix(b"\n").removesuffix(b"\r")
+        status = self.library.wk_request(self.handle, line, len(line), ctypes.byref(self.length))
+        if status != OK:
+            raise Strange(f"out of memory for a reply ({status})")
+        reply = self.text().decode(errors="replace").rstrip("\n")
+        if self.explains and reply.startswith("refused "):
+            self.reasons.append(self.reason())
+        return reply, self.picture(int(reply.split()[1])) if reply.startswith("served ") else None
+
+    def picture(self, number):
+        """A frame that was just served, into new memory."""
+        while True:
+            width, height = self.size
+            across, down, samples = (width + 1) // 2, (height + 1) // 2, room_of(max(1, size_of(width, height)))
+            room = (ctypes.c_ubyte * len(samples)).from_buffer(samples)
+            at, luma, chroma = ctypes.addressof(room), width * height, across * down
+            self.shown.luma_stride, self.shown.chroma_stride = width, across
+            status = self.library.wk_frame(
+                self.handle, number, at, luma, at + luma, chroma, at + luma + chroma, chroma, ctypes.byref(self.shown)
+            )
+            del room
+            if status == OK:
+                return width, height, memoryview(samples)
+            if status != ROOM or self.size == (self.shown.width, self.shown.height):
+                raise Strange(f"frame {number} was served, and then not ({status})")
+            self.size = (self.shown.width, self.shown.height)
+
+    def reason(self):
+        """Why the last line was refused, as the program explains it."""
+        if self.library.wk_why(self.handle, ctypes.byref(self.length)) != OK:
+            return ""
+        return self.text().decode(errors="replace").rstrip("\n")
+
+    def saved(self, pads, source=0, restamps=False):
+        """The IVF file of the current packets of a source."""
+        if source or restamps:
+            status = self.library.wk_save_source(self.handle, source, bool(pads), bool(restamps), ctypes.byref(self.length))
+        else:
+            status = self.library.wk_save(self.handle, bool(pads), ctypes.byref(self.length))
+        if status != OK:
+            raise MemoryError("out of memory for the file of the packets")
+        return self.text()
+
+    def exported(self, pads):
+        """The IVF file of the frames of the current script."""
+        found = Unwritten()
+        status = self.library.wk_export(self.handle, bool(pads), ctypes.byref(self.length), ctypes.byref(found))
+        if status in (MEMORY, NO_MEMORY):
+            raise MemoryError("out of memory for the file of the frames")
+        if status != OK:
+            raise NotExported(status, found.frame, found.node)
+        return self.text()
+
+    def close(self):
+        self.library.wk_close(self.handle)
+
+
+class Header:
+    """The line before the frames, and the size of a frame, as a reader of them knows them."""
+
+    def __init__(self, rate, scale):
+        self.rate = f"{rate}:{scale}" if rate and scale else "30:1"
+        self.size = None
+
+    @property
+    def header(self):
+        return b"" if self.size is None else f"YUV4MPEG2 W{self.size[0]} H{self.size[1]} F{self.rate} Ip C420jpeg\n".encode()
+
+    @property
+    def frame_size(self):
+        return len(MARK) + size_of(*self.size)
+
+
+def work(asked):
+    """Makes the calls that are asked for, one after the other, until it is told to end."""
+    while True:
+        item = asked.get()
+        if item is None:
+            return
+        call, answers = item
+        try:
+            answers.put((call(), None))
+        except BaseException as error:
+            answers.put((None, error))
+        # What the caller holds ends with the caller.
+        del item, call, answers
+
+
+def start_worker(asked):
+    """Starts a thread for the calls of a session, also where `threading.stack_size` gives threads less than the library needs."""
+    with STARTING:
+        given = threading.stack_size()
+        if given:
+            threading.stack_size(max(given, LEAST_STACK))
+        try:
+            threading.Thread(target=work, args=(asked,), name="wokureti", daemon=True).start()
+        finally:
+            if given:
+                threading.stack_size(given)
+
+
+class Library:
+    """A running session. `files` are the bytes of its sources; `save` gets the packets of source 0 when it is finished."""
+
+    def __init__(self, files, states=CACHE, tables=b"", save=None, pad=False, explains=False):
+        library = load()
+        self.owner = os.getpid()
+        self.asked = queue.SimpleQueue()
+        start_worker(self.asked)
+        self.engine, self.is_over, self.save, self.pad = None, False, save, pad
+        self.finalizer = weakref.finalize(self, self.asked.put, None)
+        self.engine = self.call(lambda: Engine(library, files, states, tables, explains))
+        if self.engine.trouble:
+            status, source, cause = self.engine.trouble
+            self.finalizer()
+            raise Gone(f"{f'source {source}' if source else 'input'} {CAUSES[cause]}" if status == FILE else FAULTS[status])
+        # The worker closes the session, whatever ends first.
+        self.finalizer.detach()
+        self.finalizer = weakref.finalize(self, end, self.asked, self.engine)
+        head, _ = ivf.parse_head(files[0])
+        self.reader = Header(head.rate, head.scale)
+
+    def call(self, function, deadline=None):
+        """What a call returns that the worker makes. `Late` after the deadline: the worker is left to it, and the session is over."""
+        answers = queue.SimpleQueue()
+        self.asked.put((function, answers))
+        try:
+            result, error = answers.get(timeout=None if deadline is None else max(0.0, deadline - time.monotonic()))
+        except queue.Empty:
+            self.kill()
+            raise Late from None
+        except BaseException:
+            self.kill()
+            raise
+        if error is not None:
+            raise error
+        return result
+
+    def exchange(self, lines, deadline):
+        """The reply to each of these lines, and the picture if the reply is `served`. `Gone` if the session is over."""
+        if self.is_over:
+            raise Gone
+        found = self.call(lambda: [self.engine.answer(line) for line in lines], deadline)
+        for _, picture in found:
+            if picture is not None:
+                self.reader.size = picture[:2]
+        return found
+
+    @property
+    def has_files(self):
+        """Whether the library makes the files of all sources, and of the frames. Version 0.11.0 does not."""
+        return hasattr(self.engine.library, "wk_export")
+
+    def saved(self, pads, source, restamps, deadline):
+        """The IVF file of the current packets of a source."""
+        return self.call(lambda: self.engine.saved(pads, source, restamps), deadline)
+
+    def exported(self, pads, deadline):
+        """The IVF file of the frames of the current script."""
+        return self.call(lambda: self.engine.exported(pads), deadline)
+
+    def explanation(self, number):
+        """The text that explains the refusal of request line `number`; those of earlier lines are dropped."""
+        reasons, self.engine.reasons = self.engine.reasons, []
+        start = f"line {number}: "
+        return next((reason[len(start) :] for reason in reasons if reason.startswith(start)), None)
+
+    def owner_is_here(self):
+        """Whether this is the process that opened the session, and not a forked copy, in which the worker is not."""
+        return os.getpid() == self.owner
+
+    def kill(self):
+        """Ends the session, once the call that it is in the middle of has ended."""
+        self.is_over = True
+        self.finalizer()
+
+    def finish(self, deadline):
+        """Saves the packets, if that was asked for, and ends the session: its status, and what went wrong."""
+        try:
+            if self.save is not None:
+                write_whole(self.save, [self.call(lambda: self.engine.saved(self.pad), deadline)])
+        except (OSError, MemoryError) as error:
+            self.kill()
+            return 1, f"libwokureti: cannot write {os.fsdecode(self.save)}: {error}"
+        self.kill()
+        return 0, ""
+
+    def collect(self):
+        """The status of a session that is over, and what went wrong."""
+        return 0, ""
+
+
+def end(asked, engine):
+    """Tells the worker to close the session, and then to end."""
+    asked.put((engine.close, queue.SimpleQueue()))
+    asked.put(None)

@@ -1,0 +1,609 @@
+"""A session of vp8serve that stays open: look at a frame, decide, edit, look again."""
+
+from __future__ import annotations
+
+import json
+import os
+import pathlib
+import threading
+import time
+from typing import Any, Callable, ContextManager, Iterable, Iterator, NamedTuple, Optional, Union
+
+from . import checks
+from ..tools import exports, files, muxing, programs
+from .edits import EditList
+from .errors import Ended, Refused, Unexported
+from .frames import Frame, frame_of
+from .inputs import Inputs
+from .library import MOST_FILE, Library, NotExported, engine_of, states_in
+from .lines import EDITS, begins_reply, first_word, is_edit, is_refusal, plain, rest_of, words_of
+from .pipes import Gone, Late, Pipes, Strange
+from .scripts import Script
+
+AnyPath = Union[str, bytes, "os.PathLike[str]", "os.PathLike[bytes]"]
+AnyBytes = Union[bytes, bytearray, memoryview]
+# Lines and bytes that are sent at a time, at most.
+MOST_LINES, MOST_BYTES = 500, 1 << 18
+# Packets of a source, at most.
+MOST_PACKETS = 1 << 20
+# Bytes of pictures that the program caches where nothing else is said.
+MOST_CACHED = 512 << 20
+
+
+class Count(NamedTuple):
+    """The number of packets of the current source, and of the frames that the script serves."""
+
+    packets: int
+    frames: int
+
+
+class Session:
+    """A running vp8serve over an IVF file, or over an empty stream if `stream` is `-`. Of a file in another container, such as WebM, the packets
+    are taken out first, by ffmpeg or mkvextract.
+
+    `sources` are the paths of sources 1 to 7, `cache` the number of cached states, or `cache_bytes` the number of bytes that their pictures
+    may take, 512 MiB if neither is given, `tables` a file that replaces the RFC's long tables, and `save` the file that gets the packets of source 0 when the session
+    is closed; with `pad` players that use libvpx show the packets of `blank` and `hold` in it too. `program` is the path of vp8serve, `lister` that of vp8list, which `packets` needs.
+
+    `edits` is a file that the accepted edits are written to, each when it was accepted; if the file exists, its edits are made first. A list
+    of another stream is refused, unless `anyway` is true. `resume` is the list of a session that ended, with which this one goes on.
+    `timeout` is the number of seconds that a call may take, if it gives none of its own. With `explain` the program says why it refuses
+    a request, in `Refused.reason`.
+
+    `engine` is "library" or "program". With the library there is no program: the same proved code answers in this process, from
+    `libwokureti.so.0`, without a pipe; a call that takes too long is left to its thread, and the session is over. The program is a process of its
+    own, which can be ended. Where nothing is said, here or in the variable WOKURETI_ENGINE, it is the library where one of this version is found, and the
+    program where `program` or the variable VP8SERVE names one. `session.engine` is what was taken.
+
+    Threads may share a session: a call waits until the one before it has its reply and its picture. What leaves a call in the middle, as
+    an exception of a signal's handler, or a call that takes too long, ends the session, since the reply would be taken for the next
+    one's. From then on each call raises `Ended`. A session that is not closed ends when it is collected, and when Python ends; nothing
+    is saved then. In a forked child it is over, and lives on in the parent.
+    """
+
+    def __init__(
+        self,
+        stream: AnyPath = "-",
+        sources: Iterable[AnyPath] = (),
+        cache: Optional[int] = None,
+        tables: Optional[AnyPath] = None,
+        save: Optional[AnyPath] = None,
+        program: Optional[str] = None,
+        pad: bool = False,
+        timeout: Optional[float] = None,
+        explain: bool = False,
+        edits: Optional[AnyPath] = None,
+        lister: Optional[str] = None,
+        cache_bytes: Optional[int] = None,
+        anyway: bool = False,
+        resume: Optional[EditList] = None,
+        engine: Optional[str] = None,
+    ) -> None:
+        # Called with the line of each edit that was accepted, also with those of `undo` and `redo`.
+        self.on_edit: Optional[Callable[[str], None]] = None
+        self._lock = threading.RLock()
+        self._ended = None
+        self._pending = None
+        self._timeout = timeout
+        self._explain = explain
+        self._lines = 0
+        self._edits = None
+        # "library" or "program".
+        self.engine: str = engine_of(engine, program)
+        self._settings = (program or programs.find("vp8serve"), lister or programs.find("vp8list"), tables)
+        self._inputs = Inputs([checks.stream(stream), *checks.sources(sources)])
+        try:
+            words = self._words(cache, cache_bytes, tables, save, pad)
+            if edits is not None:
+                checks.outputs(edits, [*self._inputs.paths, *(path for path in (save, tables) if path is not None)], "edits")
+            self._edits = EditList(self, edits, anyway)
+            self._pipes = Pipes(words, self._inputs.shared) if self.engine == "program" else self._library(cache, cache_bytes, tables, save, pad)
+        except BaseException:
+            self._close_files()
+            raise
+        try:
+            # The reply comes once the files were read, so a file that is missing, or not IVF, is reported here.
+            self.request("stats")
+            self._inputs.check()
+            self._edits.load() if resume is None else self._edits.resume(resume)
+        except BaseException:
+            self.kill()
+            raise
+
+    def _words(self, cache, cache_bytes, tables, save, pad):
+        """The command line of the program."""
+        streams = self._inputs.words
+        words = [self._settings[0], streams[0], "-", "{frames}", "--live"]
+        if len(streams) > 1:
+            words += ["--sources", ":".join(streams[1:])]
+        if save is not None:
+            if muxing.ending_of(save) is not None:
+                raise ValueError(f"save= is an IVF file, which the program writes: {os.fsdecode(save)!r} is written by session.save()")
+            checks.outputs(save, [*self._inputs.paths, *([] if tables is None else [tables])], "save")
+            words += ["--save", checks.path(save)]
+        if tables is not None:
+            words += ["--tables", checks.path(tables)]
+        if cache is not None:
+            words += ["--cache", str(checks.states(cache))]
+        if cache_bytes is not None or cache is None:
+            words += ["--cache-bytes", str(checks.number(MOST_CACHED if cache_bytes is None else cache_bytes))]
+        return words + ["--pad"] * bool(pad) + ["--explain"] * bool(self._explain)
+
+    def _library(self, cache, cache_bytes, tables, save, pad):
+        """The session in this process, over the bytes of the files as they were opened."""
+        if cache is not None and cache_bytes is not None:
+            raise ValueError("either cache or cache_bytes is given, not both")
+        try:
+            files = [self._whole(item.path, lambda item=item: item.whole(MOST_FILE + 1)) for item in self._inputs.all]
+            long_tables = b"" if tables is None else self._whole(tables, pathlib.Path(os.fsdecode(tables)).read_bytes)
+            if save is not None and not os.path.exists(save) and not os.access(os.path.dirname(os.path.realpath(save)), os.W_OK | os.X_OK):
+                raise Gone(f"cannot write {os.fsdecode(save)}")
+            states = states_in(files[0], checks.number(MOST_CACHED if cache_bytes is None else cache_bytes)) if cache is None else checks.states(cache)
+            return Library(files, states, long_tables, None if save is None else checks.path(save), pad, self._explain)
+        except Gone as error:
+            raise Ended(1, f"libwokureti: {error}") from None
+
+    @staticmethod
+    def _whole(path, read):
+        """The bytes of a file, as a program reads it whole. `Gone` if it cannot be read, or has more bytes than a program takes."""
+        try:
+            found = read()
+        except OSError:
+            raise Gone(f"cannot read {os.fsdecode(path)}") from None
+        if len(found) > MOST_FILE:
+            raise Gone(f"{os.fsdecode(path)} is too long")
+        return found
+
+    def _close_files(self):
+        if self._edits is not None:
+            self._edits.close()
+        self._inputs.close()
+
+    def __enter__(self) -> Session:
+        return self
+
+    def __exit__(self, kind: object, value: object, trace: object) -> None:
+        if kind is None:
+            self.close()
+        else:
+            self.kill()
+
+    def close(self, timeout: Optional[float] = None) -> None:
+        """Ends the session; the program then saves the packets, if that was asked for. `Ended` if it failed."""
+        if not self._pipes.owner_is_here():
+            return
+        with self._locked(timeout) as deadline:
+            if self._ended:
+                return
+            self._pending = "close"
+            try:
+                status, text = self._pipes.finish(deadline)
+            except Late:
+                self._end("the program did not end in time, so it was ended: what it saved is not whole")
+                raise self._error() from None
+            except BaseException as error:
+                self._end(f"closing was left in the middle ({type(error).__name__})")
+                raise
+            self._over(status, "the session was closed" if status == 0 else text)
+            if status != 0:
+                raise self._error()
+
+    def kill(self) -> None:
+        """Ends the session now. Nothing is saved."""
+        if self._ended or not self._pipes.owner_is_here():
+            return
+        # A call that another thread makes then ends at once.
+        self._pipes.kill()
+        with self._lock:
+            if self._ended is None:
+                self._end("the session was ended")
+
+    def _end(self, text):
+        """Ends the program, which is in the middle of something, for this reason."""
+        self._pipes.kill()
+        status, said = self._pipes.collect()
+        self._over(status, text)
+
+    def _over(self, status, text):
+        self._ended = (status, text)
+        self._pending = None
+        self._close_files()
+
+    def _error(self):
+        return Ended(*self._ended)
+
+    def _locked(self, timeout):
+        if not self._pipes.owner_is_here():
+            # The lock may be held by a thread that is not in this process.
+            raise Ended(None, "the session belongs to the process that opened it")
+        return _Turn(self._lock, self._timeout if timeout is None else timeout)
+
+    def request(self, line: str, timeout: Optional[float] = None, listed: bool = True) -> str:
+        """The reply to a request line, without its newline: one line, or `lines K` and K lines. A picture that it serves is dropped.
+
+        `Refused` if the reply is a refusal, `Ended` if the session is over. An edit that is not `listed` is not in the list of edits.
+        """
+        reply, _ = self._ask(line, timeout, listed)
+        return reply
+
+    def request_all(self, lines: Iterable[str], timeout: Optional[float] = None, progress: Optional[Callable[[int], None]] = None) -> list[Union[str, Refused]]:
+        """The replies to edits, which are not listed, and to questions between them. Many are sent together, so a reply may be a refusal, as an exception
+        in the list: after one of an edit those that were sent with it are made, and those after them are not. `progress` is called with how many lines
+        were answered."""
+        replies = []
+        for batch in batches(lines):
+            with self._locked(timeout) as deadline:
+                found = self._exchange(*map(checks.line, batch), deadline=deadline)
+                first, is_refused = self._lines - len(found) + 1, False
+                for number, (line, (reply, _)) in enumerate(zip(batch, found), first):
+                    if not is_edit(line):
+                        replies.append(Refused(reply) if is_refusal(reply) else reply)
+                    elif is_refusal(reply):
+                        # The program explains them in their order: the first one is that of the first line.
+                        replies.append(Refused(reply) if is_refused else self._refused(reply, number, deadline))
+                        is_refused = True
+                    else:
+                        replies.append(reply)
+                        if self.on_edit is not None:
+                            self.on_edit(line)
+            if progress is not None:
+                progress(len(replies))
+            if is_refused:
+                break
+        return replies
+
+    def _ask(self, line, timeout=None, listed=True):
+        """The reply to a request line, and the width, height and samples of its picture, if it serves one."""
+        text = checks.line(line)
+        is_known = is_edit(line) and first_word(line) in EDITS
+        # What the edit loses is asked for, so that it can be taken back.
+        with self._locked(timeout) as deadline:
+            question = self._edits.question(line) if is_known and listed and not self._ended else None
+            *answers, (reply, picture) = self._exchange(*([] if question is None else [question.encode()]), text, deadline=deadline)
+            if is_refusal(reply):
+                raise self._refused(reply, self._lines, deadline)
+            if is_known:
+                if self.on_edit is not None:
+                    self.on_edit(line)
+                if listed:
+                    self._edits.accept(plain(line), rest_of(answers[0][0]) if answers else "")
+            return reply, picture
+
+    def _exchange(self, *lines, deadline):
+        """Writes lines and reads their replies. Whatever leaves this in the middle ends the session, which then names the last line."""
+        if self._ended:
+            raise self._error()
+        if self._pending is not None:
+            self._end(f"{self._pending} was left in the middle, so the session was ended")
+            raise self._error()
+        self._pending = shown = _shown(lines[-1])
+        try:
+            self._lines += len(lines)
+            found = self._pipes.exchange([line + b"\n" for line in lines], deadline)
+            for line, (reply, _) in zip(lines, found):
+                if not is_reply(reply, line):
+                    raise Strange(repr(reply[:80]))
+        except Gone:
+            self._over(*self._pipes.collect())
+            raise self._error() from None
+        except Late:
+            self._end(f"no reply to {shown} in time, so the session was ended")
+            raise self._error() from None
+        except (Strange, ValueError) as error:
+            self._end(f"the answer to {shown} is not one of vp8serve, so the session was ended: {error}")
+            raise self._error() from None
+        except BaseException as error:
+            self._end(f"{shown} was left in the middle ({type(error).__name__}), so the session was ended")
+            raise
+        self._pending = None
+        return found
+
+    def _refused(self, reply, number, deadline):
+        """The exception of the refusal of line `number`. The reply to another request says that its explanation was written."""
+        if not self._explain:
+            return Refused(reply)
+        self._exchange(b"stats", deadline=deadline)
+        return Refused(reply, self._pipes.explanation(number))
+
+    def ask(self, question: str, source: Optional[int] = None, timeout: Optional[float] = None) -> str:
+        """The reply to a question about the packets of a source, without its newline. The current source stays as it is, also if the question is refused."""
+        return self.ask_all([question], source, timeout)[0]
+
+    def ask_all(self, questions: Iterable[str], source: Optional[int] = None, timeout: Optional[float] = None) -> list[str]:
+        """The replies to several questions about the packets of a source, of which many are sent together. The first one that is refused raises `Refused`."""
+        replies = []
+        with self._locked(timeout) as deadline:
+            current = self._edits.current
+            there, back = ([], []) if source in (None, current) else ([f"use {checks.number(source)}".encode()], [f"use {current}".encode()])
+            for batch in batches(questions):
+                found = self._exchange(*there, *map(checks.question, batch), *back, deadline=deadline)
+                if there and is_refusal(found[0][0]):
+                    raise self._refused(found[0][0], self._lines - len(found) + 1, deadline)
+                first = self._lines - len(found) + len(there) + 1
+                for number, (reply, _) in enumerate(found[len(there) : len(found) - len(back)], first):
+                    if is_refusal(reply):
+                        raise self._refused(reply, number, deadline)
+                    replies.append(reply)
+        return replies
+
+    def turn(self, timeout: Optional[float] = None) -> ContextManager[Optional[float]]:
+        """A block in which no other thread has the session."""
+        return self._locked(timeout)
+
+    def _number(self, line, timeout=None):
+        return int(words_of(self.request(line, timeout))[1])
+
+    def frame(self, number: int, timeout: Optional[float] = None) -> Frame:
+        """Frame `number` of the current stream."""
+        return frame_of(checks.number(number), *self.picture(number, timeout))
+
+    def picture(self, number: int, timeout: Optional[float] = None) -> tuple[int, int, memoryview]:
+        """The width, height and samples of a frame, the samples of the three planes one after the other."""
+        return self._ask(f"frame {checks.number(number)}", timeout)[1]
+
+    def pictures(self, numbers: Iterable[int], timeout: Optional[float] = None) -> list[tuple[int, int, memoryview]]:
+        """The pictures of several frames, as `picture` has them. All are asked for before the first is read, so the program never waits.
+
+        The first one that is refused raises `Refused`.
+        """
+        lines = [f"frame {checks.number(number)}".encode() for number in numbers]
+        with self._locked(timeout) as deadline:
+            found = self._exchange(*lines, deadline=deadline) if lines else []
+            for number, (reply, picture) in enumerate(found, self._lines - len(found) + 1):
+                if picture is None:
+                    raise self._refused(reply, number, deadline)
+        return [picture for _, picture in found]
+
+    @property
+    def is_over(self) -> bool:
+        """Whether the session is known to have ended."""
+        return self._ended is not None
+
+    def frames(self, numbers: Optional[Iterable[int]] = None, timeout: Optional[float] = None) -> Iterator[Frame]:
+        """The frames of a range, one after the other; without a range all of them. `timeout` is for each frame."""
+        if numbers is None:
+            numbers = range(self.count(timeout).frames)
+        for number in numbers:
+            yield self.frame(number, timeout)
+
+    def use(self, source: int, timeout: Optional[float] = None) -> int:
+        """Later edits act on this source. Like every edit it returns the number of packets of the current source."""
+        return self._number(f"use {checks.number(source)}", timeout)
+
+    def insert(self, at: int, data: AnyBytes, stamp: int = 0, timeout: Optional[float] = None) -> int:
+        """Inserts a packet of these bytes at an index, with this time stamp."""
+        return self._number(f"insert {checks.number(at)} {checks.number(stamp)} {checks.hexadecimal(data)}", timeout)
+
+    def replace(self, at: int, data: AnyBytes, timeout: Optional[float] = None) -> int:
+        """Gives a packet other bytes; it keeps its time stamp."""
+        return self._number(f"replace {checks.number(at)} {checks.hexadecimal(data)}", timeout)
+
+    def delete(self, at: Union[int, range], timeout: Optional[float] = None) -> int:
+        """Deletes a packet, or those of a range of indexes, which is one step for `undo`. If one is refused, none is deleted."""
+        # The last one comes first, so the others keep their indexes.
+        lines = [f"delete {index}" for index in checks.indexes(at)]
+        if not lines:
+            return self.count(timeout).packets
+        with self._locked(timeout):
+            return int(words_of(self._edits.run_step(lines, timeout))[1])
+
+    def move(self, index: int, to: int, timeout: Optional[float] = None) -> int:
+        """Removes a packet and inserts it at index `to` of the remaining ones."""
+        return self._number(f"move {checks.number(index)} {checks.number(to)}", timeout)
+
+    def copy(self, source: int, index: int, at: int, timeout: Optional[float] = None) -> int:
+        """Inserts a copy of a packet of a source, which may be the current one."""
+        return self._number(f"copy {checks.number(source)} {checks.number(index)} {checks.number(at)}", timeout)
+
+    def blank(self, at: int, width: int, height: int, timeout: Optional[float] = None) -> int:
+        """Inserts a grey key frame."""
+        return self._number(f"blank {checks.number(at)} {checks.number(width)} {checks.number(height)}", timeout)
+
+    def hold(self, at: int, timeout: Optional[float] = None) -> int:
+        """Inserts a packet that shows the last picture again."""
+        return self._number(f"hold {checks.number(at)}", timeout)
+
+    def hide(self, at: int, timeout: Optional[float] = None) -> int:
+        """Clears the show bit of a packet: it is decoded as before, and no frame shows it."""
+        return self._number(f"hide {checks.number(at)}", timeout)
+
+    def show(self, at: int, timeout: Optional[float] = None) -> int:
+        """Sets the show bit of a packet: a frame shows it."""
+        return self._number(f"show {checks.number(at)}", timeout)
+
+    def script(self, *nodes: Union[str, Script], timeout: Optional[float] = None) -> int:
+        """Sets the script: a `Script`, or a text for each node, as `script("trim 0 0 50", "fade 1 25 25 256 0")`; none: no script."""
+        return self._number("script " + ("; ".join(map(checks.node, nodes)) or "-"), timeout)
+
+    def count(self, timeout: Optional[float] = None) -> Count:
+        """The number of packets and frames."""
+        words = words_of(self.request("count", timeout))
+        return Count(int(words[1]), int(words[3]))
+
+    def decoded(self, timeout: Optional[float] = None) -> int:
+        """The number of packets that were decoded so far."""
+        return self._number("stats", timeout)
+
+    @property
+    def edits(self) -> EditList:
+        """The list of the accepted edits, an `EditList`."""
+        return self._edits
+
+    def undo(self, timeout: Optional[float] = None) -> list[str]:
+        """Takes the last edit back, and returns its lines; an empty list if there is none."""
+        with self._locked(timeout):
+            return self._edits.undo(timeout)
+
+    def redo(self, timeout: Optional[float] = None) -> list[str]:
+        """Makes the edit again that was taken back last, and returns its lines; an empty list if there is none."""
+        with self._locked(timeout):
+            return self._edits.redo(timeout)
+
+    def read_indexes(self) -> None:
+        """Reads where the packets of the files are. No request waits for it meanwhile, and what needs it later is answered sooner."""
+        for item in self._inputs.all:
+            item.records()
+
+    def list_packets(self, first: int, count: int, timeout: Optional[float] = None) -> list[dict[str, Any]]:
+        """The facts of at most `count` packets of the current source, starting at index `first`, as `vp8list --json` has them of the file that they are
+        saved to: a dictionary for each. `first` may be the number of packets."""
+        return objects_of(self.request(f"list {checks.number(first)} {checks.number(count)}", timeout))
+
+    def origins(self, first: int, count: int, timeout: Optional[float] = None) -> list[dict[str, Any]]:
+        """Where at most `count` frames of the current script come from, starting at frame `first`: a dictionary for each, with the source, its frame,
+        the packet, and the numbers of the nodes that change its samples."""
+        return objects_of(self.request(f"origins {checks.number(first)} {checks.number(count)}", timeout))
+
+    def packet_header(self, index: int, timeout: Optional[float] = None) -> list[dict[str, Any]]:
+        """The header of a packet of the current source, as `vp8list --header --json` has it of the file that the packets are saved to: a dictionary of its
+        fields, and one for each probability that it changes. Of a packet that decoding refuses one dictionary with `refused` and `cause`, of one
+        of no bytes one with `repeats`."""
+        return objects_of(self.request(f"header {checks.number(index)}", timeout))
+
+    def macroblocks(self, index: int, timeout: Optional[float] = None) -> list[dict[str, Any]]:
+        """The macroblocks of a packet of the current source, as `vp8list --macroblocks --json` has them: a dictionary for each, or one as `packet_header` has it."""
+        return objects_of(self.request(f"macroblocks {checks.number(index)}", timeout))
+
+    def packet(self, index: int, source: Optional[int] = None) -> bytes:
+        """The bytes of a packet of the current source, or of another one. `OSError` if a file was changed since the session was opened."""
+        with self._locked(None):
+            contents = self._edits.contents()
+            self._inputs.all[contents.source(source)].check()
+            return contents.packet(index, source).data
+
+    def packets(self, numbers: Optional[Iterable[int]] = None, source: Optional[int] = None) -> list[dict[str, Any]]:
+        """The facts of the packets of a range, or of all, of the current source or another one, as `list_packets` has them. Those that do not exist are
+        left out."""
+        wanted = range(MOST_PACKETS) if numbers is None else [number for number in numbers if number >= 0]
+        if not wanted:
+            return []
+        first, end = (0, MOST_PACKETS) if numbers is None else (min(wanted), max(wanted) + 1)
+        with self._locked(None):
+            try:
+                found = objects_of(self.ask(f"list {first} {end - first}", None if source is None else self._edits.contents().source(source)))
+            except Refused:
+                # Only an index past the end is refused.
+                found = []
+        return found if numbers is None else [found[number - first] for number in wanted if number - first < len(found)]
+
+    @property
+    def rate(self) -> tuple[int, int]:
+        """The frames a second of the frames that are served, as a pair: rate and scale of source 0, or 30 and 1 if either is 0, over the median
+        step of its time stamps."""
+        with self._locked(None):
+            return self._edits.contents().rate
+
+    @property
+    def header(self) -> bytes:
+        """The first line of the frames' YUV4MPEG2 text, once a frame was served."""
+        return bytes(self._pipes.reader.header)
+
+    @property
+    def frame_size(self) -> int:
+        """The number of bytes of a frame in that text, with the word FRAME, once a frame was served."""
+        return self._pipes.reader.frame_size
+
+    def shown_kinds(self) -> Optional[list[str]]:
+        """For each shown packet of source 0 `key` or `inter`: those of the frames, if there is no script. None if there is one."""
+        with self._locked(None):
+            contents = self._edits.contents()
+            return contents.shown_kinds(0) if contents.script == "-" else None
+
+    def save(self, path: AnyPath, pad: bool = False, source: int = 0, restamp: bool = False, sound: Optional[str] = None) -> None:
+        """Writes the current packets of a source as an IVF file now, as `--save` does at the end; with `restamp` with new time stamps, by which each
+        shown packet stays as long as in its file.
+
+        If the path ends in `.webm` or `.mkv`, the time stamps are new ones, and the sound of the files is cut with the packets: `sound` is `copy`,
+        `encode` or `none`; without it packets of sound are copied where that is exact, else coded again. `ValueError` if it cannot be done."""
+        with self._locked(None) as deadline:
+            contents = self._edits.contents()
+            number = contents.source(source)
+            if self._makes_files() and muxing.ending_of(path) is None and self._inputs.all[number].media is None:
+                contents.check_output(path)
+                files.write_whole(path, [self._file(lambda: self._pipes.saved(pad, number, restamp, deadline))])
+            else:
+                contents.save(path, pad, number, restamp, sound)
+
+    def export(self, path: AnyPath, pad: bool = False, timeout: Optional[float] = None) -> None:
+        """Writes the frames of the current script as an IVF file now, as `vp8serve --export` does: without coding again. `Unexported` if a frame is
+        refused, or if the script changes samples of one. With `pad` players that use libvpx show packets that repeat a frame."""
+        with self._locked(timeout) as deadline:
+            contents = self._edits.contents()
+            contents.check_output(path)
+            if self._makes_files():
+                files.write_whole(path, [self._exported(pad, deadline)])
+            else:
+                exports.export_plain(contents, list(self._edits), path, pad)
+
+    def _makes_files(self):
+        """Whether the engine makes the files of packets and of frames."""
+        return not self._ended and isinstance(self._pipes, Library) and self._pipes.has_files
+
+    def _file(self, call):
+        """The file that a call of the library makes."""
+        try:
+            return call()
+        except Late:
+            self._end("a file was not made in time, so the session was ended")
+            raise self._error() from None
+
+    def _exported(self, pad, deadline):
+        """The file of the frames, by the library."""
+        try:
+            return self._file(lambda: self._pipes.exported(pad, deadline))
+        except NotExported as error:
+            text = error.text
+            if error.is_refused:
+                # The reply names the cause.
+                [(reply, _)] = self._exchange(b"frame %d" % error.frame, deadline=deadline)
+                text = f"frame {error.frame} is refused: {reply.removeprefix('refused ')}"
+            raise Unexported(text) from None
+
+
+class _Turn:
+    """The lock of a session, and the deadline of the call that has it, which counts from when the call was made."""
+
+    def __init__(self, lock, timeout):
+        self.lock = lock
+        self.timeout = timeout
+
+    def __enter__(self):
+        if self.timeout is None:
+            self.lock.acquire()
+            return None
+        deadline = time.monotonic() + self.timeout
+        if not self.lock.acquire(timeout=max(0.0, self.timeout)):
+            raise TimeoutError("another request has the session; nothing was sent")
+        return deadline
+
+    def __exit__(self, kind, value, trace):
+        self.lock.release()
+
+
+def batches(lines):
+    """Request lines in groups that are sent together."""
+    batch, size = [], 0
+    for line in lines:
+        batch.append(line)
+        size += len(line)
+        if len(batch) == MOST_LINES or size >= MOST_BYTES:
+            yield batch
+            batch, size = [], 0
+    if batch:
+        yield batch
+
+
+def objects_of(reply):
+    """The objects of a reply of several lines."""
+    return [json.loads(line) for line in reply.split("\n")[1:]]
+
+
+def is_reply(reply, line):
+    """Whether a reply may be that of a line: a refusal, or one that begins as this request's does."""
+    return is_refusal(reply) or first_word(reply) == begins_reply(line.decode(errors="replace"))
+
+
+def _shown(text):
+    """A request as a message shows it."""
+    shown = text.decode(errors="replace")
+    return f"`{shown[:80]}..`" if len(shown) > 80 else f"`{shown}`"

@@ -1,0 +1,1 @@
+"""What the commands of `wokureti` are made of: files, containers, sound, repairs, comparisons."""

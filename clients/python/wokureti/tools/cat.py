@@ -1,0 +1,245 @@
+"""wokureti cat: all frames of a stream as one YUV4MPEG2 text, byte for byte as one vp8serve writes it, decoded by several processes.
+
+The parts are joined in order as they come, so the output may be a pipe.
+"""
+
+import os
+import re
+import subprocess
+import tempfile
+import threading
+
+from . import files, paces, parts, programs, rooms, waits
+from ..server import virtual
+from ..session import checks
+from ..session.errors import Ended, Refused, sentence
+from ..session.frames import MARK, parse_header
+from .progress import Progress, say
+
+
+# Bytes of frames that are in the folder for temporary files, at most: those of one part may be more.
+MOST_HELD = 1 << 30
+# Bytes that must be free there, else it is called full.
+LEAST_FREE = 1 << 20
+
+
+class Failed(Exception):
+    """The text could not be made; the message says why."""
+
+
+def run_part(room, number, program, tables, running):
+    """Decodes a part here."""
+    words = room.words(number, program, tables)
+    with open(room.path(number, "replies"), "wb") as replies, tempfile.TemporaryFile() as errors:
+        process = subprocess.Popen(words, stdin=subprocess.DEVNULL, stdout=replies, stderr=errors)
+        running.add(process)
+        try:
+            status = process.wait()
+        finally:
+            running.discard(process)
+        if status != 0:
+            errors.seek(0)
+            said = errors.read().decode(errors="replace").strip()
+            raise Failed(f"part {number}: {said or f'vp8serve ended with status {status}'}{if_full(room.folder)}")
+
+
+def if_full(folder):
+    """What a message says more if the folder for temporary files is full."""
+    found = os.statvfs(folder)
+    if found.f_bavail * found.f_frsize >= LEAST_FREE and (found.f_favail or not found.f_files):
+        return ""
+    return f". The folder for temporary files, {os.path.dirname(folder)}, is full: name another one in the variable TMPDIR"
+
+
+class Here:
+    """Decodes parts on this machine, at most `processes` at a time, and never far ahead of what was joined."""
+
+    def __init__(self, room, plan, processes, program, tables=None):
+        self.room, self.plan, self.processes = room, plan, processes
+        self.program, self.tables = program, tables
+        self.running, self.left = set(), iter(range(len(plan)))
+        self.done = {}
+        self.ready = threading.Condition()
+        # How many parts were joined, and the bytes of the frames of those that were begun and not joined.
+        self.joined = self.held = 0
+        self.stopped = False
+        self.error = None
+
+    def work(self):
+        """Takes one part after the other."""
+        try:
+            while True:
+                with self.ready:
+                    number = next(self.left, None)
+                    if number is None:
+                        return
+                    # Frames take room, so a part waits until those before it were joined.
+                    while self.is_far(number) and not self.stopped:
+                        self.ready.wait()
+                    if self.stopped:
+                        return
+                    self.held += self.size(number)
+                    # Reading the session's files from two threads at a time is avoided.
+                    self.room.write(number, self.plan[number])
+                run_part(self.room, number, self.program, self.tables, self.running)
+                with self.ready:
+                    self.done[number] = True
+                    self.ready.notify_all()
+        except BaseException as error:
+            with self.ready:
+                self.error = self.error or error
+                self.ready.notify_all()
+
+    def size(self, number):
+        """The bytes of the frames of a part."""
+        part = self.plan[number]
+        return (part.end - part.first) * self.room.first.size
+
+    def is_far(self, number):
+        """Whether a part is too far ahead of what was joined. The next one that is joined never is."""
+        if number == self.joined:
+            return False
+        return number >= self.joined + 3 * self.processes or self.held + self.size(number) > MOST_HELD
+
+    def __iter__(self):
+        """The numbers of the parts, each when it was decoded, in order."""
+        threads = [threading.Thread(target=self.work, daemon=True) for _ in range(min(self.processes, len(self.plan)))]
+        for thread in threads:
+            thread.start()
+        try:
+            for number in range(len(self.plan)):
+                with self.ready:
+                    while number not in self.done and not self.error:
+                        self.ready.wait(waits.LONGEST)
+                    if number not in self.done:
+                        raise self.error
+                yield number
+                with self.ready:
+                    self.joined, self.held = number + 1, self.held - self.size(number)
+                    self.ready.notify_all()
+        finally:
+            with self.ready:
+                self.stopped = True
+                self.ready.notify_all()
+            for process in list(self.running):
+                process.kill()
+            for thread in threads:
+                thread.join()
+
+
+def open_session(stream, sources, edits, script, tables, program, anyway=False):
+    """A session with the edits of a list and a script, for finding out what the parts are."""
+    from ..session.session import Session
+
+    session = Session(stream, sources=sources, tables=tables, program=program, anyway=anyway)
+    try:
+        if edits is not None:
+            session.edits.run(edits)
+        if script is not None:
+            session.script(script)
+        return session
+    except BaseException:
+        session.kill()
+        raise
+
+
+def check_output(out, inputs):
+    """The output must be none of the inputs."""
+    for path in inputs:
+        if path is None or path == "-":
+            continue
+        same = checks.is_same_file(out, path) if out != "-" else is_stdout(path)
+        if same:
+            raise Failed(f"the output is {path}, which is read: name another file")
+
+
+def is_stdout(path):
+    try:
+        found, other = os.fstat(1), os.stat(path)
+    except OSError:
+        return False
+    return os.path.isfile(path) and (found.st_dev, found.st_ino) == (other.st_dev, other.st_ino)
+
+
+def plain_folder():
+    """Where the files of the parts are made: the folder for temporary files, unless its path has what `:` or a shell would divide."""
+    folder = tempfile.gettempdir()
+    return folder if re.fullmatch("[A-Za-z0-9._/+-]*", folder) else "/tmp"
+
+
+def output(path):
+    """A file to write to. Standard output is opened again: with PYTHONUNBUFFERED sys.stdout may write a part of what it is given."""
+    return open(os.dup(1), "wb") if path == "-" else files.whole(path)
+
+
+def write(session, out, workers, name="frames"):
+    """Writes all frames of a session; `workers` makes the parts. Returns the refusals, a line for each."""
+    count = session.count().frames
+    number, refused = parts.first_frame(session)
+    if number is None:
+        # One run writes no header either.
+        with output(out):
+            pass
+        return [] if refused is None else [f"frames 0 to {count - 1}: {refused.reply}"]
+    first = parts.find_first(session, number)
+    with rooms.Room(plain_folder()) as folder:
+        room = parts.Room(folder, session, first)
+        plan, made = workers(room, count)
+        refusals, progress = [], Progress(name, count)
+        try:
+            with output(out) as file, progress:
+                file.write(header(session, first))
+                for number in made:
+                    more = room.refusals(number, plan[number])
+                    room.join(number, plan[number], len(more), file)
+                    room.clear(number)
+                    refusals += more
+                    progress.show(plan[number].end)
+        except OSError as error:
+            full = if_full(folder)
+            if full:
+                raise Failed(f"{sentence(error)}{full}") from None
+            raise
+    return refusals
+
+
+def write_constant(session, out):
+    """Writes the frames of a session at its rate: one whose time is not nearest to any step is left out, others are repeated. The exit status."""
+    contents = session.edits.contents()
+    order = paces.constant(paces.begins(contents), contents.rate)
+    number, refused = parts.first_frame(session)
+    refusals, made, picture = {} if refused is None else {0: refused.reply}, None, None
+    with output(out) as file, Progress("frames", len(order)) as progress:
+        for turn, frame in enumerate(order if number is not None else ()):
+            if frame != made:
+                made = frame
+                try:
+                    picture = session.picture(frame)
+                except Refused as error:
+                    refusals.setdefault(frame, error.reply)
+            if not turn:
+                file.write(virtual.header_of(parse_header(session.header), contents.rate))
+            if picture is not None:
+                file.write(MARK + picture[2])
+            progress.show(turn)
+    for frame, reply in list(refusals.items())[:10]:
+        say(f"frame {frame}: {reply}: the frame before it is repeated")
+    return 1 if refusals else 0
+
+
+def header(session, first):
+    """The first line of the text: that of the program, whose rate is the time base of the file; of a container it is the rate that this has."""
+    is_container = session.edits.contents().inputs.all[0].media is not None
+    return virtual.header_of(parse_header(first.header), session.rate) if is_container else first.header
+
+
+def here(session, processes, program, tables):
+    """Workers on this machine."""
+
+    def workers(room, count):
+        contents = session.edits.contents()
+        size = room.first.size
+        plan = parts.by_packets(contents, processes, size) if contents.script == "-" else parts.by_frames(count, processes, size)
+        return plan, Here(room, plan, processes, program, tables)
+
+    return workers

@@ -1,0 +1,298 @@
+"""Files in containers such as WebM: the packets of their video as an IVF file, their sound, their tags and their rate.
+
+Python's `av` reads a container if it is installed, else ffmpeg. Times are in nanoseconds, and those of the file."""
+
+import json
+import math
+import os
+import re
+import shutil
+import statistics
+import subprocess
+from array import array
+from typing import NamedTuple
+
+from . import ivf, times
+from ..session import checks
+
+MOST_TIME = 3600
+NANO = 10**9
+# A rate that a container names is believed if its frames are as far apart as those of the file, to the millisecond to which WebM rounds.
+ROUNDED = 0.001
+# Tags that a program that writes a container makes itself.
+OWN_TAGS = ("encoder", "duration", "language", "creation_time", "major_brand", "minor_version", "compatible_brands", "handler_name", "vendor_id")
+
+
+class Failed(ValueError):
+    """A container that cannot be read."""
+
+
+class Sound(NamedTuple):
+    """A track of sound: its codec with the bytes that a decoder begins with, its tags and language, and its packets, which are parts of the file `path`,
+    with their times and durations. A time is that of the first sample that a packet adds."""
+
+    codec: str
+    private: bytes
+    rate: int
+    channels: int
+    tags: dict
+    language: str
+    index: int
+    path: str
+    starts: array
+    sizes: array
+    times: array
+    durations: array
+
+    def packet(self, number):
+        """The bytes of a packet."""
+        with open(self.path, "rb") as file:
+            file.seek(self.starts[number])
+            return file.read(self.sizes[number])
+
+    def packets(self, numbers):
+        """The bytes of packets, one after the other."""
+        with open(self.path, "rb") as file:
+            for number in numbers:
+                file.seek(self.starts[number])
+                yield file.read(self.sizes[number])
+
+
+class Media(NamedTuple):
+    """What a container, the file `path`, has besides the packets of its video: the frames a second, or None if it has no rate; the tags of the file and of the video;
+    the tracks of sound; and what the program that read it complained of."""
+
+    path: str
+    rate: object
+    tags: dict
+    video_tags: dict
+    language: str
+    sounds: list
+    said: str
+
+
+# What was read in this process, by the path of the IVF file that has the packets of the video.
+known = {}
+
+
+def media_of(path):
+    """What the container had from which this IVF file was made, or None."""
+    return known.get(os.fspath(path))
+
+
+def has_av():
+    try:
+        import av  # noqa: F401
+
+        return True
+    except ImportError:
+        return False
+
+
+def can_read():
+    return has_av() or bool(shutil.which("ffmpeg") and shutil.which("ffprobe"))
+
+
+def read(path, out):
+    """Writes the packets of the first track of video as an IVF file, and returns the name of the program that did it. `media_of` has the rest."""
+    tool, found = ("Python's av", read_by_av(path, out)) if has_av() else ("ffmpeg", read_by_ffmpeg(path, out))
+    known[os.fspath(out)] = found
+    return tool
+
+
+def kept_tags(tags):
+    return {name.lower(): value for name, value in tags.items() if name.lower() not in OWN_TAGS and not name.lower().startswith(("_statistics", "bps", "number_of_"))}
+
+
+def rate_of(path, named):
+    """The frames a second of an IVF file: the rate that the container names, if it is that of the time stamps, else that of their median step. If
+    there is no step, the named one."""
+    with open(path, "rb") as file:
+        head, index = ivf.read_index(file.fileno())
+    steps = times.steps_of(index.stamps, index.tags)
+    if not steps:
+        return named
+    step = statistics.median_low(steps)
+    if named is not None and abs(named[1] / named[0] - step * head.scale / head.rate) <= ROUNDED:
+        return named
+    common = math.gcd(head.rate, head.scale * step)
+    return head.rate // common, head.scale * step // common
+
+
+# By ffmpeg
+
+
+def read_by_ffmpeg(path, out):
+    """The same by the programs ffmpeg and ffprobe."""
+    facts = probe(path)
+    video = next((one for one in facts["streams"] if one.get("codec_type") == "video" and not one.get("disposition", {}).get("attached_pic")), None)
+    check_video(path, video and video.get("codec_name"))
+    [pictures, *sounds], said = copy_tracks(path, facts["streams"], [video["index"]], out)
+    write_ivf(out, video, pictures)
+    rate = rate_of(out, fraction(video.get("avg_frame_rate", "0/0")))
+    tags = video.get("tags", {})
+    return Media(path, rate, kept_tags(facts.get("format", {}).get("tags", {})), kept_tags(tags), tags.get("language", "und"), sounds, said)
+
+
+def read_sounds(path, out):
+    """The tracks of sound of a file, by ffmpeg. Files that are made begin with `out`."""
+    return copy_tracks(path, probe(path)["streams"], [], out)[0]
+
+
+def probe(path):
+    """What ffprobe says of a file."""
+    found = json.loads(run(["ffprobe", "-v", "error", "-of", "json", "-show_streams", "-show_format", "-show_data", f"file:{os.fsdecode(path)}"])[0])
+    return {"streams": [], **found}
+
+
+def copy_tracks(path, streams, more, out):
+    """Writes the packets of tracks to files, those with the indexes `more` and all of sound. Returns the tracks, and what ffmpeg complains of. (Its IVF
+    files are not used: where two packets have one time, it gives the second one a later one.)"""
+    wanted = [one for one in streams if one["index"] in more] + [one for one in streams if one.get("codec_type") == "audio"]
+    words = ["ffmpeg", "-nostdin", "-y", "-v", "error", "-copyts", "-i", f"file:{os.fsdecode(path)}"]
+    for number, one in enumerate(wanted):
+        track = ["-map", f"0:{one['index']}", "-c", "copy", "-copyinkf", "-f"]
+        words += [*track, "data", f"{out}.track{number}", *track, "framecrc", f"{out}.times{number}"]
+    # What the writers of these lists say is not of the file: they are given hidden packets with the time of the next one.
+    said = [line for line in run(words)[1].splitlines() if not line.startswith(("[data @", "[framecrc @"))] if wanted else []
+    return [sound_of(one, f"{out}.track{number}", f"{out}.times{number}") for number, one in enumerate(wanted)], "\n".join(said)
+
+
+def write_ivf(path, facts, track):
+    """Writes the packets of a track of video as an IVF file, with the time base of the container."""
+    base = fraction(facts.get("time_base", "")) or (1, 1000)
+    head = ivf.Head(int(facts.get("width", 0)), int(facts.get("height", 0)), base[1], base[0])
+    # A time was rounded down to a nanosecond.
+    stamps = (-(-time * base[1] // (base[0] * NANO)) % (1 << 64) for time in track.times)
+    with open(path, "wb") as file:
+        file.writelines(ivf.pieces(head, len(track.sizes), zip(stamps, track.packets(range(len(track.sizes))))))
+    os.unlink(track.path)
+
+
+def check_video(path, codec):
+    if codec != "vp8":
+        raise Failed(f"{os.fsdecode(path)} has no video" if codec is None else f"{os.fsdecode(path)} has video of {codec}, and not of VP8")
+
+
+def fraction(text):
+    """A rate such as 30000/1001, or None."""
+    found = re.fullmatch(r"([0-9]+)/([0-9]+)", text)
+    pair = tuple(map(int, found.groups())) if found else (0, 0)
+    return pair if all(pair) else None
+
+
+def sound_of(facts, path, times_path):
+    """The track of sound of what ffprobe says, of the packets in a file, and of the list of their times."""
+    starts, sizes, times, durations = array("Q"), array("I"), array("q"), array("q")
+    place, base = 0, (1, 1000)
+    with open(times_path, encoding="ascii", errors="replace") as file:
+        for line in file:
+            if line.startswith("#tb "):
+                base = fraction(line.split(":")[1].strip()) or base
+            elif not line.startswith("#"):
+                _, _, time, duration, size, _ = (word.strip() for word in line.split(",")[:6])
+                starts.append(place)
+                sizes.append(int(size))
+                times.append(int(time) * base[0] * NANO // base[1])
+                durations.append(int(duration) * base[0] * NANO // base[1])
+                place += int(size)
+    os.unlink(times_path)
+    if place != os.path.getsize(path):
+        raise Failed(f"ffmpeg lists {place} bytes of sound, and wrote {os.path.getsize(path)}")
+    tags = facts.get("tags", {})
+    return Sound(
+        facts.get("codec_name", ""), undumped(facts.get("extradata", "")), int(facts.get("sample_rate", 0)), int(facts.get("channels", 0)),
+        kept_tags(tags), tags.get("language", "und"), facts["index"], path, starts, sizes, times, durations,
+    )  # fmt: skip
+
+
+def undumped(text):
+    """The bytes that ffprobe shows as lines such as `00000000: 4f70 7573  Opus`."""
+    lines = re.findall(r"^[0-9a-f]+: ((?:[0-9a-f]{2,4} ?)+) ", text, re.MULTILINE)
+    return bytes.fromhex("".join(lines))
+
+
+def count_packets(path):
+    """Writes the number of packets into the header of an IVF file: some programs write another number there."""
+    with open(path, "r+b") as file:
+        _, index = ivf.read_index(file.fileno())
+        file.seek(24)
+        file.write(len(index).to_bytes(4, "little"))
+
+
+def run(words):
+    """The text that a program writes, and what it complains of. `Failed` if it fails."""
+    try:
+        done = subprocess.run(words, capture_output=True, stdin=subprocess.DEVNULL, timeout=MOST_TIME, check=False)
+    except subprocess.TimeoutExpired:
+        raise Failed(f"{words[0]} took longer than {MOST_TIME} seconds") from None
+    said = done.stderr.decode(errors="replace").strip()
+    if done.returncode != 0:
+        raise Failed(f"{words[0]} could not read it: {said[-500:]}")
+    return done.stdout, said
+
+
+# By Python's av
+
+
+def read_by_av(path, out):
+    """The same by Python's av."""
+    import av
+
+    try:
+        with av.open(checks.path(path)) as container:
+            video = next(iter(container.streams.video), None)
+            check_video(path, video and video.codec_context.name)
+            tracks = list(container.streams.audio)
+            writers = {track.index: Writer(f"{out}.sound{number}", track) for number, track in enumerate(tracks)}
+            base = video.time_base
+            head = ivf.Head(video.codec_context.width, video.codec_context.height, base.denominator, base.numerator)
+            with open(out, "wb") as file:
+                file.write(head.text(0))
+                for packet in container.demux([video, *tracks]):
+                    if packet.pts is None or packet.size == 0:
+                        continue
+                    if packet.stream.index == video.index:
+                        file.write(ivf.RECORD.pack(packet.size, packet.pts % (1 << 64)))
+                        file.write(bytes(packet))
+                    else:
+                        writers[packet.stream.index].add(packet)
+            for writer in writers.values():
+                writer.file.close()
+            count_packets(out)
+            named = video.average_rate
+            rate = rate_of(out, (named.numerator, named.denominator) if named else None)
+            tags = dict(video.metadata)
+            sounds = [writer.sound() for writer in writers.values()]
+            return Media(path, rate, kept_tags(dict(container.metadata)), kept_tags(tags), tags.get("language", "und"), sounds, "")
+    except (OSError, ValueError) as error:
+        if isinstance(error, Failed):
+            raise
+        raise Failed(f"Python's av could not read {os.fsdecode(path)}: {error}") from None
+
+
+class Writer:
+    """The packets of a track of sound, while they are read."""
+
+    def __init__(self, path, track):
+        self.path, self.track, self.file = path, track, open(path, "wb")
+        self.starts, self.sizes, self.times, self.durations = array("Q"), array("I"), array("q"), array("q")
+
+    def add(self, packet):
+        self.starts.append(self.file.tell())
+        self.sizes.append(packet.size)
+        for items, value in ((self.times, packet.pts), (self.durations, packet.duration or 0)):
+            items.append(int(value * packet.time_base * NANO // 1))
+        self.file.write(bytes(packet))
+
+    def sound(self):
+        context, tags = self.track.codec_context, dict(self.track.metadata)
+        channels = len(context.layout.channels)
+        private = bytes(context.extradata or b"")
+        return Sound(context.codec.canonical_name if hasattr(context.codec, "canonical_name") else plain_name(context.name), private, context.sample_rate, channels,
+            kept_tags(tags), tags.get("language", "und"), self.track.index, self.path, self.starts, self.sizes, self.times, self.durations)  # fmt: skip
+
+
+def plain_name(name):
+    """The name of a codec, from that of the decoder that was chosen for it."""
+    return {"libopus": "opus", "libvorbis": "vorbis", "mp3float": "mp3", "libvpx": "vp8"}.get(name, name)

@@ -1,0 +1,124 @@
+"""Streams in other containers: their packets are taken out into an IVF file, without coding them again and with their time stamps."""
+
+import os
+import shutil
+import stat
+
+from . import blocks, containers
+from ..session import checks
+from .progress import say
+
+
+class Container(ValueError):
+    """A container that nothing here can take apart."""
+
+
+def kind_of(head):
+    """The container of a file that begins with these bytes, or None."""
+    if head[:4] == b"\x1a\x45\xdf\xa3":
+        return "WebM or Matroska"
+    if head[:4] == b"RIFF" and head[8:12] == b"AVI ":
+        return "AVI"
+    if head[4:8] == b"ftyp":
+        return "MP4"
+    if head[:4] == b"OggS":
+        return "Ogg"
+    if head[:3] == b"FLV":
+        return "FLV"
+    return None
+
+
+def is_null(found):
+    return stat.S_ISCHR(found.st_mode) and found.st_rdev == os.stat(os.devnull).st_rdev
+
+
+def spooled(path, folder):
+    """A pipe as a file in the folder."""
+    out = new_name(folder, "spooled")
+    with open(path, "rb") as pipe, open(out, "xb") as file:
+        shutil.copyfileobj(pipe, file, 1 << 20)
+    return out
+
+
+def new_name(folder, ending):
+    return os.path.join(folder, f"{len(os.listdir(folder))}.{ending}")
+
+
+def as_ivf(path, folder, is_quiet=False):
+    """The path of the stream as IVF: the file itself, or a file in the folder. `-` is standard input, and /dev/null an empty stream, for which a
+    session has the path `-`."""
+    given, name, is_file = as_file(path, folder)
+    if not is_file:
+        return given
+    with open(given, "rb") as file:
+        kind = kind_of(file.read(12))
+    return given if kind is None else taken_out(given, folder, name, kind, is_quiet)
+
+
+def as_file(path, folder):
+    """The path of a stream, or of a file in the folder with what a pipe gives; what it is called; and whether it is a file that can be read."""
+    given = "/dev/stdin" if os.fspath(path) == "-" else path
+    name = "standard input" if given == "/dev/stdin" else os.fsdecode(given)
+    try:
+        found = os.stat(given)
+    except OSError:
+        # Who reads it says so.
+        return given, name, False
+    if is_null(found):
+        return "-", name, False
+    if stat.S_ISDIR(found.st_mode):
+        return given, name, False
+    return given if stat.S_ISREG(found.st_mode) else spooled(given, folder), name, True
+
+
+def searched(path, folder):
+    """The path of a stream as IVF, as `as_ivf` has it. A WebM or Matroska file that is damaged is searched for its packets, and then also the head, the
+    packets, the gaps, and the length of the file, else None."""
+    given, name, is_file = as_file(path, folder)
+    if not is_file:
+        return given, None
+    with open(given, "rb") as file:
+        head = file.read(12)
+        if head[:4] == b"DKIF" or (kind_of(head) or "WebM or Matroska") != "WebM or Matroska":
+            return as_ivf(given, folder), None
+        file.seek(0)
+        data = file.read()
+    found = blocks.find(data)
+    is_matroska = kind_of(head) is not None or blocks.video_track(found) is not None
+    if not is_matroska or not found.gaps:
+        return (taken_out(given, folder, name, "WebM or Matroska", False) if is_matroska else given), None
+    out = new_name(folder, "ivf")
+    sought = blocks.as_file(found, given, out)
+    lost = "" if found.tracks else "; what it says of its tracks is lost"
+    say(f"{name} is a damaged WebM or Matroska file: its packets were searched{sound_text(containers.media_of(out))}{lost}")
+    return out, (*sought, len(data))
+
+
+def taken_out(path, folder, name, kind, is_quiet):
+    """The packets of a container as an IVF file in the folder."""
+    out = new_name(folder, "ivf")
+    if containers.can_read():
+        try:
+            tool = containers.read(path, out)
+        except containers.Failed as error:
+            raise Container(str(error)) from None
+    elif shutil.which("mkvextract") and kind == "WebM or Matroska":
+        tool = "mkvextract"
+        containers.run(["mkvextract", checks.path(path), "tracks", f"0:{out}"])
+        containers.count_packets(out)
+    else:
+        raise Container(f"{name} is a {kind} file: to take its packets out, install python3-av, ffmpeg or mkvtoolnix")
+    media = containers.media_of(out)
+    if not is_quiet:
+        say(f"{name} is a {kind} file; {tool} took its packets out without coding them again{sound_text(media)}")
+    if media is not None and media.said:
+        say(f"{tool} complains of {name}: {'; '.join(media.said.splitlines()[:3])}. `wokureti repair` searches a damaged file for all its packets")
+    return out
+
+
+def sound_text(media):
+    """What is said of the sound."""
+    if media is None:
+        return ", and left its sound out: install python3-av or ffmpeg for that"
+    count = len(media.sounds)
+    return f", and {count} track{'s' * (count != 1)} of sound" if count else ""

@@ -1,0 +1,126 @@
+"""wokureti compare --decoder: a folder of streams, and the frames of another decoder for each of them."""
+
+import concurrent.futures
+import contextlib
+import os
+import pathlib
+import shlex
+import shutil
+import subprocess
+import time
+import xml.etree.ElementTree as xml
+from typing import NamedTuple
+
+from . import compare, rooms, y4m
+from ..session.errors import Ended, sentence
+from ..session.frames import size_of
+
+# Seconds that a decoder may take for one stream.
+MOST_TIME = 600
+ENDINGS = (".ivf", ".webm", ".mkv")
+
+
+class Result(NamedTuple):
+    """A stream: its name, what differs, as lines, and the seconds that it took."""
+
+    name: str
+    lines: list
+    seconds: float
+
+    @property
+    def is_same(self):
+        return not self.lines
+
+
+def streams_of(path):
+    """The streams of a folder and of the folders in it, with their names; or one stream."""
+    path = pathlib.Path(path)
+    if path.is_dir():
+        return [(str(one.relative_to(path)), one) for one in sorted(path.rglob("*")) if one.suffix.lower() in ENDINGS and one.is_file()]
+    return [(path.name, path)]
+
+
+def words_of(command):
+    """The words of a command line. `ValueError` if its program is not there."""
+    words = shlex.split(command)
+    if not words:
+        raise ValueError("--decoder names a command, with {in} for the stream")
+    if shutil.which(words[0]) is None:
+        raise ValueError(f"there is no program {words[0]}; a path with spaces is quoted")
+    return words if any("{in}" in word for word in words) else [*words, "{in}"]
+
+
+def raw_frames(file, sizes):
+    """Frames of I420 of these sizes."""
+    for width, height in sizes:
+        samples = y4m.read_exactly(file, size_of(width, height))
+        if len(samples) < size_of(width, height):
+            if samples:
+                raise y4m.NotY4m("the last frame is cut off")
+            return
+        yield width, height, samples
+    if file.read(1):
+        raise y4m.NotY4m("it has more frames than the stream shows")
+
+
+def decoded(words, path, folder):
+    """The file with the frames of a decoder, and what it wrote to standard error."""
+    out = os.path.join(folder, "out")
+    is_file = any("{out}" in word for word in words)
+    words = [word.replace("{in}", str(path)).replace("{out}", out) for word in words]
+    with contextlib.ExitStack() as stack:
+        stdout = subprocess.DEVNULL if is_file else stack.enter_context(open(out, "wb"))
+        done = subprocess.run(words, stdin=subprocess.DEVNULL, stdout=stdout, stderr=subprocess.PIPE, timeout=MOST_TIME, check=False)
+    said = done.stderr.decode(errors="replace").strip().splitlines()
+    if done.returncode and not said:
+        said = [f"it ended with status {done.returncode}"]
+    return out, said
+
+
+def differences(words, path, tables):
+    """How the frames of a decoder differ from those of a stream, as lines. Frames that are refused are left out: a decoder shows none there."""
+    with rooms.Room() as folder:
+        try:
+            out, said = decoded(words, path, folder)
+            ours = [picture for picture in compare.of_stream(str(path), tables) if not isinstance(picture, compare.Missing)]
+            if not os.path.exists(out):
+                return ["it wrote no frames", *said[-1:]]
+            with open(out, "rb") as file:
+                is_text = file.read(9) == b"YUV4MPEG2"
+                file.seek(0)
+                theirs = y4m.read_frames(file) if is_text else raw_frames(file, [picture[:2] for picture in ours])
+                found = compare.Comparison()
+                for number, pair in enumerate(compare.itertools.zip_longest(ours, theirs)):
+                    found.add(number, *pair)
+        except subprocess.TimeoutExpired:
+            return [f"it took longer than {MOST_TIME} seconds"]
+        except y4m.NotY4m as error:
+            return [f"its frames cannot be read: {error}", *said[-1:]]
+        except (Ended, OSError) as error:
+            return [sentence(error)]
+    return [] if found.is_same else [*found.lines(), *said[-1:]]
+
+
+def results(path, command, jobs, tables=None):
+    """The result of each stream, in order, each when it is there."""
+    words, streams = words_of(command), streams_of(path)
+    if not streams:
+        raise ValueError(f"{path} has no streams: files that end in {', '.join(ENDINGS)}")
+
+    def result(stream):
+        name, where = stream
+        start = time.monotonic()
+        return Result(name, differences(words, where, tables), time.monotonic() - start)
+
+    with concurrent.futures.ThreadPoolExecutor(jobs) as pool:
+        yield from pool.map(result, streams)
+
+
+def write_junit(path, command, found):
+    """The results as JUnit has them."""
+    suite = xml.Element("testsuite", name=command, tests=str(len(found)), failures=str(sum(not one.is_same for one in found)), time=f"{sum(one.seconds for one in found):.3f}")
+    for one in found:
+        case = xml.SubElement(suite, "testcase", classname=command, name=one.name, time=f"{one.seconds:.3f}")
+        if not one.is_same:
+            xml.SubElement(case, "failure", message=one.lines[0]).text = "\n".join(one.lines)
+    xml.ElementTree(suite).write(path, encoding="utf-8", xml_declaration=True)

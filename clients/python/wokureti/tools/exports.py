@@ -1,0 +1,219 @@
+"""wokureti cut, join and export: the frames of a script as packets, which `vp8serve --export` writes without coding again."""
+
+import functools
+import os
+import re
+import subprocess
+import tempfile
+from typing import NamedTuple
+
+from . import excerpts, files, ivf, muxing, programs, rooms, times
+from ..session import checks
+from ..session.errors import Ended, Unexported
+from ..session.origins import joined, runs_of
+
+# A script has 16 nodes: a part is a trim, and all but the first one are spliced.
+MOST_PARTS, MOST_STREAMS = 8, 8
+MOST_TIME = 3600
+# What the program says if it does not export the frames.
+UNEXPORTED = re.compile(r"frame \d+ is |too many packets|no packet repeats")
+CLOCK = re.compile(r"(?:(?:(\d+):)?(\d+):)?(\d+(?:\.\d*)?)")
+
+
+class Failed(ValueError):
+    """What is asked for cannot be exported."""
+
+
+class Told(NamedTuple):
+    """What was written: the nanoseconds and the number of frames, of packets and of hidden ones, the bytes of these, and of all."""
+
+    length: int
+    frames: int
+    packets: int
+    hidden: int
+    hidden_bytes: int
+    bytes: int
+
+    def text(self):
+        share = 100 * self.hidden_bytes / self.bytes if self.bytes else 0
+        hidden = f"{self.hidden:,} of them hidden: {self.hidden_bytes:,} bytes, {share:.1f} % of the file" if self.hidden else "none of them hidden"
+        return f"{clock_text(self.length)}, {self.frames:,} frames, in {self.packets:,} packets, {hidden}"
+
+
+def clock_text(nano):
+    """A time as h:mm:ss.mmm."""
+    seconds, rest = divmod(round(nano / 10**6), 1000)
+    minutes, seconds = divmod(seconds, 60)
+    return f"{minutes // 60}:{minutes % 60:02}:{seconds:02}.{rest:03}"
+
+
+@functools.lru_cache
+def has_option(program, name):
+    """Whether a program has an option."""
+    try:
+        done = subprocess.run([program, "--help"], capture_output=True, text=True, timeout=60, check=False)
+    except FileNotFoundError:
+        raise programs.missing(program) from None
+    return re.search(rf"^ +(-\w, )?{re.escape(name)}\b", done.stdout, re.MULTILINE) is not None
+
+
+def check_program(program):
+    if not has_option(program, "--export"):
+        raise Failed(f"{program} cannot export a script: it has no option --export. Install a newer vp8serve")
+
+
+class Frames:
+    """The frames of each source of a session, and those that its script serves; or of other streams of its packets, and other runs of frames."""
+
+    def __init__(self, contents, streams=None, runs=None):
+        self.contents, self.runs, self.shown = contents, runs, []
+        contents.listing.learn()
+        for source, stream in enumerate(contents.streams if streams is None else streams):
+            pairs = [(number, duration) for number, duration in zip(stream, contents.durations(source, stream)) if contents.is_shown(number)]
+            self.shown.append([(number, duration, source) for number, duration in pairs])
+
+    def served(self):
+        """The packets of the frames that the script serves, with their durations and sources."""
+        runs = joined(runs_of(self.contents.session)) if self.runs is None else self.runs
+        return [frame for count, source, first in runs for frame in self.shown[source][first : first + count]]
+
+    def length_text(self):
+        """How long source 0 is."""
+        head = self.contents.inputs.all[0].head
+        return f"{len(self.shown[0]):,} frames, {clock_text(times.nano(sum(duration for _, duration, _ in self.shown[0]), head))}"
+
+    def place(self, text, is_end):
+        """The frame of source 0 that a number or a time names: that which is shown then, or for an end the first one that begins then or later."""
+        frames = self.shown[0]
+        if re.fullmatch("[0-9]+", text):
+            return min(int(text), len(frames))
+        found = CLOCK.fullmatch(text)
+        if found is None:
+            raise Failed(f"{text!r} is no frame and no time, such as 83, 0:03.3 or 1:02:03.456")
+        hours, minutes, seconds = (float(part or 0) for part in found.groups())
+        wanted, clock, head = round((3600 * hours + 60 * minutes + seconds) * times.NANO), 0, self.contents.inputs.all[0].head
+        for place, (_, duration, _) in enumerate(frames):
+            after = clock + duration
+            if times.nano(clock, head) >= wanted if is_end else times.nano(after, head) > wanted:
+                return place
+            clock = after
+        return len(frames)
+
+
+def cut_script(frames, parts):
+    """The script of parts of source 0, pairs of texts of the first frame and of the end, or None for the beginning or the end of the stream."""
+    if not 1 <= len(parts) <= MOST_PARTS:
+        raise Failed(f"1 to {MOST_PARTS} parts are cut at a time, and these are {len(parts)}: join several cuts")
+    nodes, pieces = [], []
+    for start, stop in parts:
+        first = 0 if start is None else frames.place(start, False)
+        end = len(frames.shown[0]) if stop is None else frames.place(stop, True)
+        if first >= end:
+            raise Failed(f"there is no frame from {start or 'the beginning'} to {stop or 'the end'}: the stream has {frames.length_text()}")
+        nodes.append(f"trim 0 {first} {end - first}")
+        pieces.append(len(nodes))
+    return spliced(nodes, pieces)
+
+
+def join_script(count):
+    """The script of so many sources, one after the other."""
+    if count > MOST_STREAMS:
+        raise Failed(f"at most {MOST_STREAMS} streams are joined at a time: join these first, and then what comes of it with the others")
+    if count == 1:
+        return "-"
+    return spliced([f"source {source}" for source in range(1, count)], list(range(count)))
+
+
+def spliced(nodes, pieces):
+    """The text of a script that serves these nodes one after the other."""
+    nodes, last = list(nodes), pieces[0]
+    for piece in pieces[1:]:
+        nodes.append(f"splice {last} {piece}")
+        last = len(nodes)
+    return "; ".join(nodes)
+
+
+class Output(NamedTuple):
+    """How a file is written: the path; whether packets that hold the picture are padded; what is done with sound; and what a sentence is given to."""
+
+    path: str
+    pad: bool
+    sound: object
+    say: object
+
+
+def export(contents, lines, out, room):
+    """Writes the frames that a session with these contents and edits serves as packets: an IVF file, or WebM or Matroska with their sound. Returns what was
+    written. Files that are made on the way are in the folder `room`."""
+    check_program(contents.program)
+    between = os.path.join(room, "exported.ivf")
+    try:
+        run(contents.program, contents.inputs, lines, between, out.pad, contents.tables)
+    except Ended as ended:
+        # The file on the way has a name that says nothing.
+        text = ended.text.replace(f"--export {between}", os.path.basename(os.fsdecode(out.path))).removeprefix("vp8serve: ")
+        raise Ended(ended.status, text) from None
+    served = Frames(contents).served()
+    with open(between, "rb") as file:
+        head, index = ivf.read_index(file.fileno())
+        spans = excerpts.of_frames(contents, served)
+        told = told_of(index, spans)
+        if muxing.ending_of(out.path) is None:
+            files.write_whole(out.path, iter(lambda: file.read(1 << 20), b""))
+            return told
+        size = excerpts.first_size(file, index) or (head.width, head.height)
+        rate = contents.rate if excerpts.is_constant([span.length for span in spans], contents.rate) else None
+        video = muxing.Video(timed(file, index, spans), told.length, size, rate, contents.inputs.all[0].media)
+        muxing.write(out.path, video, spans, out.sound, out.say)
+    return told
+
+
+def export_plain(contents, lines, out, pad):
+    """Writes the frames that a session with these contents and edits serves as an IVF file. `Unexported` if they are not exported."""
+    check_program(contents.program)
+    with rooms.Room() as room:
+        between = os.path.join(room, "exported.ivf")
+        try:
+            run(contents.program, contents.inputs, lines, between, pad, contents.tables, explains=False)
+        except Ended as ended:
+            text = ended.text.removeprefix("vp8serve: ")
+            if ended.status == 1 and UNEXPORTED.match(text):
+                raise Unexported(text) from None
+            raise
+        with open(between, "rb") as file:
+            files.write_whole(out, iter(lambda: file.read(1 << 20), b""))
+
+
+def run(program, inputs, lines, out, pad, tables, explains=True):
+    """Runs the program on the edits of a session. `Ended` with what it says if it refuses."""
+    words = [program, inputs.words[0], "-", "-", "--export", out, *(["--explain"] if explains else []), *(["--pad"] if pad else [])]
+    words += ["--sources", ":".join(inputs.words[1:])] if len(inputs.words) > 1 else []
+    words += ["--tables", checks.path(tables)] if tables is not None else []
+    with tempfile.TemporaryFile() as given, tempfile.TemporaryFile() as errors:
+        given.write("".join(f"{line}\n" for line in lines).encode())
+        given.seek(0)
+        try:
+            done = subprocess.run(words, stdin=given, stdout=subprocess.DEVNULL, stderr=errors, timeout=MOST_TIME, check=False, pass_fds=inputs.shared)
+        except subprocess.TimeoutExpired:
+            raise Ended(None, f"{program} took longer than {MOST_TIME} seconds") from None
+        if done.returncode != 0:
+            errors.seek(0)
+            raise Ended(done.returncode, errors.read().decode(errors="replace").strip())
+
+
+def told_of(index, spans):
+    """What the exported file has. `ValueError` if its frames are not as many as those of the script."""
+    shown = sum(bool(tags & ivf.SHOWN) for tags in index.tags)
+    if shown != len(spans):
+        raise ValueError(f"vp8serve exported {shown} frames, and the script has {len(spans)}")
+    hidden = [size for size, tags in zip(index.sizes, index.tags) if not tags & ivf.SHOWN]
+    return Told(sum(span.length for span in spans), shown, len(index), len(hidden), sum(hidden), sum(index.sizes))
+
+
+def timed(file, index, spans):
+    """The packets with their times: those of the spans, and for a hidden one that of the next shown one."""
+    clock, lengths = 0, iter([span.length for span in spans])
+    for start, size, tags in zip(index.starts, index.sizes, index.tags):
+        yield clock, os.pread(file.fileno(), size, start)
+        clock += next(lengths) if tags & ivf.SHOWN else 0
+

@@ -1,0 +1,33 @@
+"""Where the programs vp8serve and vp8list are."""
+
+import errno
+import os
+import pathlib
+import shutil
+
+HERE = pathlib.Path(__file__).resolve()
+TREE = HERE.parents[4]
+
+
+def installed(name):
+    """The program that a wheel installed together with this package, if it did: below one folder are bin/, lib/wokureti/ and this package."""
+    for folder in HERE.parents:
+        if (folder / "lib/wokureti" / f"{name}-x86-64-v2").is_file() and (folder / "bin" / name).is_file():
+            return str(folder / "bin" / name)
+    return None
+
+
+def missing(word):
+    """The error of a program that is not there."""
+    name = "vp8list" if os.path.basename(word) == "vp8list" else "vp8serve"
+    where = f"{name} is not on the PATH" if os.sep not in word else f"there is no {word}"
+    return FileNotFoundError(errno.ENOENT, f"{where}: install it, or name it in the variable {name.upper()}")
+
+
+def find(name):
+    """The path of a program: that of the variable VP8SERVE or VP8LIST, or installed with this package, or found on the PATH, or built in this tree."""
+    found = os.environ.get(name.upper()) or installed(name) or shutil.which(name)
+    if found:
+        return found
+    built = (TREE / "bin" / name, TREE / "crates" / name / "out" / name)
+    return next((str(path) for path in built if path.is_file()), name)
