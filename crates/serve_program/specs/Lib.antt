@@ -1,3 +1,5 @@
+pub mod Done
 pub mod Endings
 pub mod Frames
 pub mod Reports
+pub mod Saved
