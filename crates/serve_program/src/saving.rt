@@ -134,7 +134,7 @@ fn finish_one<R: SavedFiles + AllocGlobal, T: SavedText>(
     begun: Option<R::Begun>,
     text: &T,
 ) -> Result<(), Unsaved>
-    requires { is_some begun ≡ is_some path.entry }
+    requires { is_some begun ≡ is_some path }
     ensures { OnOk result (IfSome path.entry (λ path. R.is_saved_at rt.now path.now (T.text text.now))) }
 {
     let Some(path) = path else {
@@ -153,7 +153,7 @@ fn finish_packets<R: SavedFiles + AllocGlobal>(
     words: Words<'_>,
     begun: Option<R::Begun>,
 ) -> Result<(), Unsaved>
-    requires { is_some begun ≡ is_some words.entry.saved }
+    requires { is_some begun ≡ is_some words.saved }
     ensures { OnOk result (ArePacketsSaved (R.is_saved_at rt.now) words.entry session.now.now) }
 {
     let packets = Packets {
@@ -171,7 +171,7 @@ fn finish_frames<R: SavedFiles + AllocGlobal>(
     words: Words<'_>,
     begun: Option<R::Begun>,
 ) -> Result<(), Unsaved>
-    requires { is_some begun ≡ is_some words.entry.exported }
+    requires { is_some begun ≡ is_some words.exported }
     ensures { OnOk result (IfSome export.entry (λ export. IsExportSaved (R.is_saved_at rt.now) words.entry export.now)) }
 {
     let Some(export) = export else {
@@ -194,8 +194,8 @@ pub fn finish_saves<R: SavedFiles + AllocGlobal, E: Write>(
     saves: Saves<R::Begun>,
     messages: &mut Messages<'_, E>,
 ) -> Result<(), Fault<'static>>
-    requires packets { is_some saves.packets ≡ is_some words.entry.saved }
-    requires frames { is_some saves.frames ≡ is_some words.entry.exported }
+    requires packets { is_some saves.packets ≡ is_some words.saved }
+    requires frames { is_some saves.frames ≡ is_some words.exported }
     ensures packets { OnOk result (ArePacketsSaved (R.is_saved_at rt.now) words.entry done.now.session.now) }
     ensures frames { OnOk result (IfSome done.now.export (IsExportSaved (R.is_saved_at rt.now) words.entry)) }
     ensures fault { IfErr result IsSaveFault }
