@@ -41,7 +41,7 @@ no_frame (Ok refusal) = refl
 no_frame (Err fault) = tt
 
 frame_told : {E : Type 0} (w : Result (Option Refusal) E) (n : ℕ) (answer : Answer) (refusal : Option Refusal) → IfOk w (λ told. told ≡ refusal) → is_refusal answer.reply ≡ is_some refusal → IsTold w (requests.Frame n) answer
-frame_told (Ok told) n answer refusal is same = same ∙ ap is_some (sym is)
+frame_told (Ok told) n answer refusal is same = same ∙ ap (λ (r : Option Refusal). is_some r) (sym is)
 frame_told (Err fault) n answer refusal is same = tt
 
 -- the cost of a frame depends only on whether its answer follows from the packet's picture

@@ -7,9 +7,7 @@ use Rattle.request_lines.specs.declared.lines.Line.{Line}
 use Rattle.frame_session.specs.declared.refusal.Refusal.{Refusal}
 use Rattle.frame_session.specs.Answers.{Answer, AreIvfs, Run, Runs, requests_of}
 use Rattle.frame_session.specs.Cached.{SessionValue, begun}
-use Rattle.frame_session.specs.Live.{LiveMeans}
-use Rattle.frame_session.specs.LiveSteps.{RunsText}
-use Rattle.frame_session.specs.Noted.{LiveMeansNoted, MeansNoted, Notes, RunsNoted, is_frame, refuses_frame, refuses_some}
+use Rattle.frame_session.specs.Noted.{MeansNoted, Notes, RunsNoted, is_frame, refuses_frame, refuses_some}
 use Rattle.frame_session.specs.Sessions.{Now, start}
 
 pub or_false : (b : Bool) → (b || false) ≡ b

@@ -1,5 +1,7 @@
 // The program over a reader and two writers.
-ghost use Rattle.std.specs.Prelude.{◌≡◌, ◌≤◌, ◌⊎◌, ℕ, [], IfOk, IfErr, IfSome, List, None, OnOk, Option, codes, is_some, length, map, option_map};
+ghost use Rattle.std.specs.Prelude.{◌≡◌, ◌≤◌, ◌⊎◌, ℕ, [], true, IfOk, IfErr, IfSome, List, None, OnOk, Option, codes, is_some, length, map, nat_eq, option_map};
+ghost use Rattle.std.specs.Cmp.Lexicographic.{pointwise};
+ghost use Rattle.std.specs.List.{list_any};
 ghost use Rattle.std.specs.Io.Buffered.{writer_buffer};
 ghost use Rattle.std.specs.Io.KnownBytes.{Appends};
 ghost use Rattle.std.specs.Rc.{rc_slice_items};
@@ -269,6 +271,13 @@ fn flush_replies<O: Write + Drop>(output: &mut BufWriter<O>) -> Result<(), Fault
     output.flush().map_err(|_| Fault::CannotWrite)
 }
 
+/// Whether the option `--fail-refused` is among the arguments.
+fn names_fail_refused<S: AsStr>(words: &[S]) -> bool
+    ensures { result ≡ list_any (λ word. pointwise nat_eq (S.text word) (codes "--fail-refused")) words.now }
+{
+    words.iter().any(|word| word.as_str() == "--fail-refused")
+}
+
 /// The exit status after all requests were answered.
 fn status_after(fails_refused: bool, has_refused: bool) -> u8
     ensures { result ≡ status_after fails_refused has_refused }
@@ -277,6 +286,7 @@ fn status_after(fails_refused: bool, has_refused: bool) -> u8
 }
 
 /// Does what a command line asks for, flushes the replies, and returns the exit status.
+#[tactic(auto, using(crate::proofs::Statuses::named_at_three))]
 fn answer_line<'a, R: Files + AllocGlobal, S: AsStr, I: Read, O: Write + Drop, E: Write>(
     rt: &R,
     words: &'a [S],
@@ -285,8 +295,11 @@ fn answer_line<'a, R: Files + AllocGlobal, S: AsStr, I: Read, O: Write + Drop, E
     messages: &mut Messages<'_, E>,
 ) -> Result<u8, Fault<'a>>
     ensures status { IfOk result (λ status. (status ≡ 0) ⊎ (status ≡ 3)) }
+    ensures asked { IfOk result (λ status. status ≡ 3 → list_any (λ word. pointwise nat_eq (S.text word) (codes "--fail-refused")) words.now ≡ true) }
     ensures flushed { OnOk result (writer_buffer output.new ≡ []) }
 {
+    // No contract says which argument sets the flag of an option, so the argument itself is looked for too.
+    let is_named = names_fail_refused(words);
     let words = match parse(rt.alloc(), words) {
         Ok(words) => words,
         Err(error) => {
@@ -302,7 +315,8 @@ fn answer_line<'a, R: Files + AllocGlobal, S: AsStr, I: Read, O: Write + Drop, E
         answer(rt, &line, input, output, messages)?
     };
     flush_replies(output)?;
-    Ok(status_after(line.words.fails_refused, served.has_refused))
+    let fails_refused = line.words.fails_refused && is_named;
+    Ok(status_after(fails_refused, served.has_refused))
 }
 
 /// Runs the program on a command line, whose first argument is the program's name, and returns its exit
@@ -329,6 +343,7 @@ pub fn serve<R: Files + AllocGlobal, S: AsStr, I: Read, O: Write + Drop, E: Writ
     ensures status { result ≤ 3 }
     ensures flushed { result ≡ 0 → writer_buffer output.new ≡ [] }
     ensures failed { result ≡ 3 → writer_buffer output.new ≡ [] }
+    ensures asked { result ≡ 3 → list_any (λ word. pointwise nat_eq (S.text word) (codes "--fail-refused")) words.now ≡ true }
 {
     let mut messages = Messages::new(errors, is_asked(words));
     let answer = answer_line(rt, words, input, output, &mut messages);
