@@ -1,5 +1,5 @@
 -- The functions that answer lines keep to the cost of the lines.
-use Rattle.std.proofs.Common.{◌≡◌, inl, ℕ, List, [], ◌∷◌, ◌++◌, map, Option, None, Some, Result, Ok, Err, refl, sym, ap, ◌∙◌, subst, append-nil}
+use Rattle.std.proofs.Common.{◌≡◌, inl, ℕ, Bool, List, [], ◌∷◌, ◌++◌, map, Option, None, Some, Result, Ok, Err, refl, sym, ap, ◌∙◌, subst, append-nil}
 use Rattle.std.specs.Io.KnownBytes.{Appends, Keeps}
 use Rattle.std.specs.Prelude.{◌&&◌, false, is_some, IfOk, OnOk}
 use Rattle.std.proofs.KnownBytes.{Appends-kept, Appends-nil}
@@ -36,9 +36,9 @@ on_ok_anyway (Err _) p = tt
 abbrev pub IsTold : {E : Type 0} → Result (Option Refusal) E → Line → Answer → Type 0
 IsTold w line answer = IfOk w (λ refusal. refuses_frame line answer ≡ (is_frame line && is_some refusal))
 
-pub no_frame : {E : Type 0} (w : Result (Option Refusal) E) → IfOk w (λ refusal. false ≡ (false && is_some refusal))
-no_frame (Ok refusal) = refl
-no_frame (Err fault) = tt
+no_frame : {E : Type 0} (w : Result (Option Refusal) E) (line : Line) (answer : Answer) → is_frame line ≡ false → IsTold w line answer
+no_frame (Ok refusal) line answer none = ap (λ (b : Bool). b && is_refusal answer.reply) none ∙ sym (ap (λ (b : Bool). b && is_some refusal) none)
+no_frame (Err fault) line answer none = tt
 
 frame_told : {E : Type 0} (w : Result (Option Refusal) E) (n : ℕ) (answer : Answer) (refusal : Option Refusal) → IfOk w (λ told. told ≡ refusal) → is_refusal answer.reply ≡ is_some refusal → IsTold w (requests.Frame n) answer
 frame_told (Ok told) n answer refusal is same = same ∙ ap (λ (r : Option Refusal). is_some r) (sym is)
@@ -71,23 +71,29 @@ kept_at_cost {E} w old line f f' r r' r'' told new at_cost kept same = record {
 
 module _ {E : Type 0} (w : Result (Option Refusal) E) (old : SessionValue) (f f' r r' : Option (List ℕ)) where
   -- a line that only has a reply
-  pub replied : (line : Line) (reply : List ℕ) (new : SessionValue) → Answers old.now line (reply_only reply) new.now → LineCosts old line (reply_only reply) new → OnOk w (Appends r r' reply) → IsTold w line (reply_only reply) → AnswersAtCost old line f f r r' w new
-  replied line reply new means costs said told = record { answer = reply_only reply; means = means; costs = costs; shown = on_ok_anyway w (Appends-nil f); said = said; told = told }
+  pub replied : (line : Line) (reply : List ℕ) (new : SessionValue) → Answers old.now line (reply_only reply) new.now → LineCosts old line (reply_only reply) new → OnOk w (Appends r r' reply) → is_frame line ≡ false → AnswersAtCost old line f f r r' w new
+  replied line reply new means costs said none = record { answer = reply_only reply; means = means; costs = costs; shown = on_ok_anyway w (Appends-nil f); said = said; told = no_frame w line (reply_only reply) none }
 
   pub chosen_at_cost : (source : ℕ) (chosen : Result ℕ Refusal) (new : SessionValue) → chosen ≡ choice_answer old.now source → new ≡ record old { now = now_after_choice source old.now } → OnOk w (Appends r r' (edit_line chosen)) → AnswersAtCost old (requests.Use source) f f r r' w new
   chosen_at_cost source chosen new is after said =
-      replied (requests.Use source) (edit_line chosen) new (ap (λ (c : Result ℕ Refusal). reply_only (edit_line c)) is, ap (λ (v : SessionValue). v.now) after) (record { stores = ap (λ (v : SessionValue). v.stores) after; cache = ap (λ (v : SessionValue). v.cache) after }) said (no_frame w)
+      replied (requests.Use source) (edit_line chosen) new (ap (λ (c : Result ℕ Refusal). reply_only (edit_line c)) is, ap (λ (v : SessionValue). v.now) after) (record { stores = ap (λ (v : SessionValue). v.stores) after; cache = ap (λ (v : SessionValue). v.cache) after }) said refl
 
   pub script_at_cost : (text : List ℕ) (set : Result ℕ Refusal) (new : SessionValue) → IsOrNoMemory (script_answer old.now text) set → new ≡ record old { now = now_after_script text old.now set } → OnOk w (Appends r r' (edit_line set)) → AnswersAtCost old (requests.Script text) f f r r' w new
   script_at_cost text set new returned after said =
-      replied (requests.Script text) (edit_line set) new (set, returned, (refl, ap (λ (v : SessionValue). v.now) after)) (record { stores = ap (λ (v : SessionValue). v.stores) after; cache = ap (λ (v : SessionValue). v.cache) after }) said (no_frame w)
+      replied (requests.Script text) (edit_line set) new (set, returned, (refl, ap (λ (v : SessionValue). v.now) after)) (record { stores = ap (λ (v : SessionValue). v.stores) after; cache = ap (λ (v : SessionValue). v.cache) after }) said refl
 
   pub edited_at_cost : (edit : Edit (List ℕ)) (edited : Result ℕ Refusal) (new : SessionValue) → WrittenAnswers old.now.tables old.now.lists (current_list old.now) edit edited → new.now ≡ now_after_edit edit old.now edited → EditCosts edit edited old new → OnOk w (Appends r r' (edit_line edited)) → AnswersAtCost old (requests.Edit edit) f f r r' w new
-  edited_at_cost edit edited new returned after costs said = replied (requests.Edit edit) (edit_line edited) new (edited, returned, (refl, after)) (edited, refl, costs) said (no_frame w)
+  edited_at_cost edit edited new returned after costs said = replied (requests.Edit edit) (edit_line edited) new (edited, returned, (refl, after)) (edited, refl, costs) said refl
 
   pub refused_at_cost : (n : ℕ) (refusal : Refusal) (new : SessionValue) → IsOrNoMemory (frame_of old.now n) (Err refusal) → IsAfterFrame old.now (size_given (Err refusal)) new.now → FrameCosts {A = PictureSamples} (packet_of_frame old.now n) old (Err refusal) new → OnOk w (Appends r r' (refused_line refusal)) → IfOk w (λ told. told ≡ Some refusal) → AnswersAtCost old (requests.Frame n) f f r r' w new
-  refused_at_cost n refusal new returned after costs said told =
-      replied (requests.Frame n) (refused_line refusal) new (Err refusal, returned, refl, after) (Err refusal, refl, costs_alike {A = PictureSamples} {B = Shown} (packet_of_frame old.now n) old new (Err refusal) (Err refusal) refl costs) said (frame_told w n (reply_only (refused_line refusal)) (Some refusal) told refl)
+  refused_at_cost n refusal new returned after costs said told = record {
+    answer = reply_only (refused_line refusal);
+    means = (Err refusal, returned, refl, after);
+    costs = (Err refusal, refl, costs_alike {A = PictureSamples} {B = Shown} (packet_of_frame old.now n) old new (Err refusal) (Err refusal) refl costs);
+    shown = on_ok_anyway w (Appends-nil f);
+    said = said;
+    told = frame_told w n (reply_only (refused_line refusal)) (Some refusal) told refl;
+  }
 
   -- a frame, written with the head that is due
   pub frame_at_cost : (n : ℕ) (picture : PictureSamples) (new : SessionValue) (head : Option Head) → head ≡ head_due old.now → IsFrameOrNoMemory (frame_of old.now n) (Ok picture) → IsAfterFrame old.now (size_given (Ok picture)) new.now → FrameCosts (packet_of_frame old.now n) old (Ok picture) new

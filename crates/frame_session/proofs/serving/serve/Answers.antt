@@ -6,7 +6,7 @@ use Rattle.request_lines.specs.declared.lines.Line.TheVariants as requests
 use Rattle.frame_session.specs.Cached.{SessionValue}
 use Rattle.frame_session.specs.Questions.{answer_to}
 use Rattle.frame_session.specs.Sessions.{now_after_choice}
-use Rattle.frame_session.proofs.AtCost.{asked_at_cost, chosen_at_cost, edited_at_cost, no_frame, replied, script_at_cost}
+use Rattle.frame_session.proofs.AtCost.{asked_at_cost, chosen_at_cost, edited_at_cost, replied, script_at_cost}
 use Rattle.frame_session.proofs.Served.{serves_asked, serves_chosen, serves_edited, serves_reply, serves_script}
 use Rattle.frame_session.proofs.serving.serve.Goals as goal
 
@@ -133,14 +133,14 @@ pub returns-in-Silent-clause-costs : goal.returns-in-Silent-clause-costs
 returns-in-Silent-clause-costs g c =
     let f = g.F.Write.contents c.args.frames.now in
     let r = g.P.Write.contents c.args.replies.now in
-    rw c.in-Silent.is (replied _ c.args.session.now f f r r requests.Silent [] c.args.session.now (refl, refl) (record { stores = refl; cache = refl }) (Appends-nil r) (no_frame _))
+    rw c.in-Silent.is (replied _ c.args.session.now f f r r requests.Silent [] c.args.session.now (refl, refl) (record { stores = refl; cache = refl }) (Appends-nil r) refl)
 
 pub returns-in-Unknown-clause-costs : goal.returns-in-Unknown-clause-costs
 returns-in-Unknown-clause-costs g c =
     let f = g.F.Write.contents c.args.frames.now in
     let r = g.P.Write.contents c.args.replies.now in
     let r' = g.P.Write.contents c.write_refused.new.w in
-    rw c.in-Unknown.is (replied c.write_refused.result c.args.session.now f f r r' requests.Unknown _ c.args.session.now (refl, refl) (record { stores = refl; cache = refl }) c.write_refused.ensures.wrote (no_frame c.write_refused.result))
+    rw c.in-Unknown.is (replied c.write_refused.result c.args.session.now f f r r' requests.Unknown _ c.args.session.now (refl, refl) (record { stores = refl; cache = refl }) c.write_refused.ensures.wrote refl)
 
 pub returns-in-Use-clause-costs : goal.returns-in-Use-clause-costs
 returns-in-Use-clause-costs g c =
@@ -169,14 +169,14 @@ returns-in-Count-clause-costs g c =
     let f = g.F.Write.contents c.args.frames.now in
     let r = g.P.Write.contents c.args.replies.now in
     let r' = g.P.Write.contents c.report_count.new.replies in
-    rw c.in-Count.is (replied c.report_count.result c.args.session.now f f r r' requests.Count _ c.args.session.now (refl, refl) (record { stores = refl; cache = refl }) c.report_count.ensures.wrote (no_frame c.report_count.result))
+    rw c.in-Count.is (replied c.report_count.result c.args.session.now f f r r' requests.Count _ c.args.session.now (refl, refl) (record { stores = refl; cache = refl }) c.report_count.ensures.wrote refl)
 
 pub returns-in-Stats-clause-costs : goal.returns-in-Stats-clause-costs
 returns-in-Stats-clause-costs g c =
     let f = g.F.Write.contents c.args.frames.now in
     let r = g.P.Write.contents c.args.replies.now in
     let r' = g.P.Write.contents c.write_stats.new.w in
-    rw c.in-Stats.is (replied c.write_stats.result c.args.session.now f f r r' requests.Stats _ c.args.session.now (refl, refl) (record { stores = refl; cache = refl }) (rw c.decoded.ensures.value at c.write_stats.ensures.wrote) (no_frame c.write_stats.result))
+    rw c.in-Stats.is (replied c.write_stats.result c.args.session.now f f r r' requests.Stats _ c.args.session.now (refl, refl) (record { stores = refl; cache = refl }) (rw c.decoded.ensures.value at c.write_stats.ensures.wrote) refl)
 
 pub returns-in-Ask-clause-costs : goal.returns-in-Ask-clause-costs
 returns-in-Ask-clause-costs g c =
@@ -190,4 +190,4 @@ returns-in-Lost-clause-costs g c =
     let f = g.F.Write.contents c.args.frames.now in
     let r = g.P.Write.contents c.args.replies.now in
     let r' = g.P.Write.contents c.write_refused-in-Lost.new.w in
-    rw c.in-Lost.is (replied c.write_refused-in-Lost.result c.args.session.now f f r r' requests.Lost _ c.args.session.now (refl, refl) (record { stores = refl; cache = refl }) c.write_refused-in-Lost.ensures.wrote (no_frame c.write_refused-in-Lost.result))
+    rw c.in-Lost.is (replied c.write_refused-in-Lost.result c.args.session.now f f r r' requests.Lost _ c.args.session.now (refl, refl) (record { stores = refl; cache = refl }) c.write_refused-in-Lost.ensures.wrote refl)
