@@ -43,9 +43,10 @@ class Result:
     seconds: float
 
 
-def ran(words, data=b"", folder=None, limit=LIMIT):
-    """Runs a program to its end, with all that it starts."""
-    with subprocess.Popen(list(map(str, words)), stdin=subprocess.PIPE, stdout=subprocess.PIPE, stderr=subprocess.STDOUT, cwd=folder, start_new_session=True) as process:
+def ran(words, data=b"", folder=None, limit=LIMIT, more=()):
+    """Runs a program to its end, with all that it starts, and with more variables."""
+    streams = {"stdin": subprocess.PIPE, "stdout": subprocess.PIPE, "stderr": subprocess.STDOUT}
+    with subprocess.Popen(list(map(str, words)), **streams, cwd=folder, env={**os.environ, **dict(more)}, start_new_session=True) as process:
         try:
             output, _ = process.communicate(data, timeout=limit)
         except subprocess.TimeoutExpired:
@@ -55,11 +56,11 @@ def ran(words, data=b"", folder=None, limit=LIMIT):
     return process.returncode, output
 
 
-def script(path, *words):
+def script(path, *words, **variables):
     """A test that is a script of its own: it prints nothing and ends with 0 if all is well. A line `skipped: ..` names what it could not run."""
 
     def test():
-        status, output = ran([sys.executable, TOP / path, *words])
+        status, output = ran([sys.executable, TOP / path, *words], more=variables)
         lines = output.decode(errors="replace").splitlines()
         skipped = [line for line in lines if line.startswith("skipped: ")]
         wrong = [line for line in lines if not line.startswith("skipped: ")]
@@ -152,9 +153,23 @@ def growths():
     return script("compare/growths.py")()
 
 
+def by_the_library(name):
+    """A file of the client's tests, with sessions that the library answers."""
+    test = script("clients/python/tests/run.py", name, WOKURETI_ENGINE="library")
+
+    def either():
+        if not (TOP / "bin/libwokureti.so.0").is_file() and not os.environ.get("LIBWOKURETI"):
+            raise Skipped("the library is not built: ./build.py --library makes it")
+        return test()
+
+    return either
+
+
 def all_tests():
     """Each test by its name, those that take longest first."""
-    found = {f"clients/python/tests/{path.name}": script("clients/python/tests/run.py", path.stem) for path in sorted(CLIENT.glob("test_*.py"))}
+    names = sorted(path.stem for path in CLIENT.glob("test_*.py"))
+    found = {f"clients/python/tests/{name}.py": script("clients/python/tests/run.py", name, WOKURETI_ENGINE="program") for name in names}
+    found |= {f"clients/python/tests/{name}.py, by the library": by_the_library(name) for name in names}
     found |= {f"tests/{path.name}": script(f"tests/{path.name}") for path in sorted(HERE.glob("test_*.py"))}
     found |= {name: script(name) for name in ("conformance/records.py", "compare/options.py", "conformance/check")}
     found["compare/definitions.py"] = script("compare/definitions.py", "--quiet")

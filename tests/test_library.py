@@ -57,6 +57,37 @@ def checks(folder):
             yield f"checks {what} {clip}: status {done.returncode}: {done.stdout}{done.stderr}"
 
 
+def of_readme(folder):
+    """The example in C of README.md compiles, and gives frame 12 and takes an edit."""
+    lines = (TOP / "README.md").read_text(encoding="utf-8").splitlines()
+    start = lines.index("    wk_handle clip = {0};")
+    end = next(place for place in range(start, len(lines)) if lines[place] == "    }")
+    text = "\n".join(lines[start : end + 1])
+    source, made, clip = folder / "readme.c", folder / "readme", TOP / "examples/mandelbrot.ivf"
+    source.write_text(README % text)
+    words = ["gcc", "-std=c11", "-O1", "-Wall", "-Wextra", "-Werror", "-I", TOP / "clients/c/include", source, LIBRARY, "-o", made, f"-Wl,-rpath,{LIBRARY.parent}"]
+    subprocess.run(list(map(str, words)), check=True, timeout=LIMIT)
+    done = subprocess.run([made, clip], capture_output=True, timeout=LIMIT, check=False)
+    y4m = folder / "readme.y4m"
+    subprocess.run([SERVE, clip, "-", y4m], input=b"frame 12\n", capture_output=True, timeout=LIMIT, check=True)
+    head, _, rest = y4m.read_bytes().partition(b"\n")
+    width, height = (int(word[1:]) for word in head.split()[1:3])
+    if done.returncode or done.stdout != rest[6 : 6 + width * height]:
+        yield f"the example of README.md: status {done.returncode}, {len(done.stdout)} samples of luma: {done.stderr[-500:]!r}"
+
+
+# A program around the example: the samples of luma on standard output.
+README = """#include <stdio.h>
+#include <wokureti.h>
+static uint8_t file[1 << 20], y[640 * 480], cb[320 * 240], cr[320 * 240];
+int main(int argc, char **argv) {
+    FILE *in = fopen(argv[argc - 1], "rb");
+    size_t size = in ? fread(file, 1, sizeof file, in) : 0, length = 0;
+%s
+    for (unsigned line = 0; line < shown.height; line++) fwrite(y + 640 * line, 1, shown.width, stdout);
+    return !(shown.width && length > 3);
+}
+"""
 PROJECT = """cmake_minimum_required(VERSION 3.10)
 project(example C)
 find_package(wokureti {version} CONFIG REQUIRED)
@@ -223,7 +254,7 @@ def main():
         session, is_checked = compiled(folder)
         if not is_checked:
             print("skipped: the compiler has no -fsanitize=address")
-        differ += [*refusals(session, folder), *checks(folder), *cmake(folder)]
+        differ += [*refusals(session, folder), *checks(folder), *cmake(folder), *of_readme(folder)]
         for number in range(LISTS):
             differ += compare(chance, session, folder, number)
         for number in range(LIVE_LISTS):

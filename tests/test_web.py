@@ -122,6 +122,16 @@ def lists(node, chance, folder):
             yield f"{where}: another file"
 
 
+def questions(node, folder):
+    """Questions whose replies have several lines: packets, a header, macroblocks, also after an edit."""
+    lines = ["list 0 4", "header 0", "macroblocks 0", "delete 1", "macroblocks 1", "header 2", "list 0 3", "origins 0 5"]
+    tasks = [{"file": path, "states": 4, "lines": lines, "out": None, "save": folder / "questions.ivf"} for path in CLIPS if path.stem in EDITED]
+    for task, result in zip(tasks, node.tasks(tasks)):
+        wanted = ran(SERVE, task["file"], input="".join(f"{line}\n" for line in lines).encode()).stdout.decode()
+        if "".join(f"{reply}\n" for reply in result.get("replies", [])) != wanted:
+            yield f"questions of {task['file'].name}: other replies {result.get('error')}"
+
+
 def edited(node, chance, folder):
     """Steps of the editor: the frames of the saved file are those that they leave."""
     tasks, wanted = [], []
@@ -305,7 +315,7 @@ def main():
             print("skipped: Node with 64-bit memory in WebAssembly is not there")
         else:
             node = Node(words)
-            wrong += [*frames(node), *lists(node, chance, folder), *edited(node, chance, folder), *repaired(node, folder)]
+            wrong += [*frames(node), *lists(node, chance, folder), *questions(node, folder), *edited(node, chance, folder), *repaired(node, folder)]
         with browser_of() as browser:
             if browser is not None:
                 wrong += in_browser(browser, folder)

@@ -15,7 +15,7 @@ import unittest
 TOP = pathlib.Path(__file__).resolve().parents[3]
 sys.path.insert(0, str(TOP / "clients/python"))
 
-from wokureti import Session, ivf, programs  # noqa: E402
+from wokureti import Session, ivf, library, programs  # noqa: E402
 
 # The programs of this tree are tested, not others that may be on the PATH.
 for name in ("vp8serve", "vp8list"):
@@ -26,6 +26,9 @@ for name in ("vp8serve", "vp8list"):
 # A shell's job in the background ignores Ctrl-C, and so would what it starts; the tests send it.
 signal.signal(signal.SIGINT, signal.default_int_handler)
 
+# What sessions ask where a test does not say, and how its errors begin.
+ENGINE = library.engine_of(None, None)
+SPEAKER = {"program": "vp8serve", "library": "libwokureti"}[ENGINE]
 CLIP = TOP / "examples/mandelbrot.ivf"
 DATA = TOP / "crates/gate_clips/data"
 SMALL = DATA / "small.ivf"
@@ -114,6 +117,14 @@ def children_of(pid):
 
 def process_of(session):
     return session._pipes.process.pid
+
+
+def crash(session):
+    """Ends what answers a session, as a fault of its program does."""
+    if session.engine == "program":
+        os.kill(process_of(session), signal.SIGKILL)
+    else:
+        session._pipes.kill()
 
 
 def digest(frame):

@@ -429,7 +429,7 @@ class Lists(Case):
 
     def test_nothing_is_lost_with_the_program(self):
         path = self.folder() / "list"
-        stream = self.session(edits=path)
+        stream = self.session(engine="program", edits=path)
         stream.delete(3)
         stream.blank(0, 7, 5)
         known = state(stream, 1)
@@ -514,7 +514,7 @@ class Lists(Case):
 
     def test_edits_that_are_not_on_the_disk_are_written_with_the_next(self):
         room = self.folder()
-        stream = self.session(edits=room / "list")
+        stream = self.session(engine="program", edits=room / "list")
         stream.delete(3)
         with mock.patch.object(edit_files.EditFile, "write", side_effect=OSError(errno.ENOSPC, "full")):
             for turn in range(2):

@@ -105,6 +105,39 @@ class Alike(Library):
             self.assertEqual(*found)
             self.assertTrue(found[0][1])
 
+    def test_the_example_of_the_readme(self):
+        lines = (TOP / "README.md").read_text(encoding="utf-8").splitlines()
+        start = lines.index("    from wokureti import Session")
+        end = next(place for place in range(start + 2, len(lines)) if not lines[place])
+        room = self.folder()
+        (room / "clip.ivf").write_bytes(CLIP.read_bytes())
+        code = "\n".join([*(line[4:] for line in lines[start:end]), "print(session.engine)"])
+        env = {**os.environ, "PYTHONPATH": str(TOP / "clients/python"), "WOKURETI_ENGINE": "library"}
+        done = subprocess.run([sys.executable, "-c", code], cwd=room, env=env, capture_output=True, text=True, timeout=60, check=False)
+        self.assertEqual((done.returncode, done.stdout, done.stderr), (0, "320 180 30\nlibrary\n", ""))
+        with Session(CLIP) as whole, Session(room / "cut.ivf") as cut:
+            self.assertEqual([cut.picture(n) for n in range(30)], [whole.picture(n) for n in range(8, 38)])
+
+    def test_what_is_asked_where_nothing_is_said(self):
+        found = {}
+        for name, variables, program in (("nothing", {}, None), ("a program", {"VP8SERVE": programs.find("vp8serve")}, None), ("program=", {}, "x"), ("the variable", {"WOKURETI_ENGINE": "program"}, None)):
+            named = {key: value for key, value in os.environ.items() if key not in ("VP8SERVE", "WOKURETI_ENGINE")}
+            with unittest.mock.patch.dict(os.environ, {**named, **variables}, clear=True):
+                found[name] = library.engine_of(None, program)
+        self.assertEqual(found, {"nothing": "library", "a program": "program", "program=": "program", "the variable": "program"})
+        # A library of another version is not taken.
+        with unittest.mock.patch.object(library.versions, "version", return_value="0.1.0"), unittest.mock.patch.dict(os.environ, {"WOKURETI_ENGINE": "", "VP8SERVE": ""}):
+            self.assertEqual(library.engine_of(None, None), "program")
+
+    def test_threads_with_a_small_stack(self):
+        before = threading.stack_size(64 << 10)
+        try:
+            session = self.session()
+            self.assertEqual(session.frame(3).i420(), Case.session(self, SMALL, engine="program").frame(3).i420())
+            self.assertEqual(threading.stack_size(), 64 << 10)
+        finally:
+            threading.stack_size(before)
+
     def test_the_version(self):
         first, second, third = map(int, (TOP / "VERSION").read_text().split("."))
         self.assertEqual(library.load().wk_version(), 10000 * first + 100 * second + third)
@@ -114,7 +147,7 @@ class Broken(Library):
     def test_a_file_that_is_none(self):
         path = self.folder() / "none.ivf"
         path.write_bytes(b"no file of packets, but longer than a header\n")
-        with self.assertRaisesRegex(Ended, "source 1: Magic"):
+        with self.assertRaisesRegex(Ended, "libwokureti: source 1 Magic"):
             Session(SMALL, sources=[path], engine="library")
 
     def test_tables_that_are_none(self):

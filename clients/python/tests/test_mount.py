@@ -13,7 +13,7 @@ import time
 import unittest
 import zlib
 
-from support import DATA, SLOW, SMALL, Case, children_of, command, packets_of, serve, start, whole_text, write_packets
+from support import DATA, SLOW, SMALL, Case, children_of, command, crash, packets_of, serve, start, whole_text, write_packets
 from wokureti import folders, ivf, mount, png
 from wokureti.live import Changed
 from wokureti.opened import Opened
@@ -157,7 +157,7 @@ class Files(Case):
     def test_the_program_may_end(self):
         self.opened(SCENES)
         whole = self.whole("clip.y4m")
-        os.kill(self.live.session._pipes.process.pid, signal.SIGKILL)
+        crash(self.live.session)
         self.folder_of.kept = self.folder_of.now().kept = folders.Kept()
         self.assertEqual(self.whole("clip.y4m"), whole)
 

@@ -17,7 +17,7 @@ import unittest
 from array import array
 from unittest import mock
 
-from support import DATA, ODD, SLOW, SMALL, Case, command, frames_of, list_of, packets_of, process_of, serve, start, write_packets
+from support import DATA, ODD, SLOW, SMALL, Case, command, crash, frames_of, list_of, packets_of, serve, start, write_packets
 from test_serve import TOKEN, ServerCase
 from wokureti import Refused, Script, Session, ivf, programs, views
 from wokureti.opened import Opened
@@ -482,7 +482,7 @@ class Steps(PageCase):
         self.serve(edits=self.folder() / "list")
         self.step("delete 3", "delete 3")
         self.change("undo")
-        os.kill(process_of(self.live.session), signal.SIGKILL)
+        crash(self.live.session)
         with mock.patch("sys.stderr"):
             status, _, _ = self.post_to("/edits", lines=["delete 0", "delete 0"])
             self.assertIn(status, (200, 503))
@@ -728,7 +728,7 @@ class Pasting(PageCase):
         self.step("insert 5 7 1000", "delete 9")
         made, own = self.remember(5, 1), self.remember(20, 1)
         with mock.patch("sys.stderr"):
-            os.kill(process_of(self.live.session), signal.SIGKILL)
+            crash(self.live.session)
             self.assertEqual(self.ask("/frames/2.y4m")[0], 200)
         self.assertIn("gone", self.paste(made, 0, status=409)["error"])
         self.paste(own, 0)
@@ -1044,7 +1044,7 @@ class Killed(PageCase):
         before = {path: self.members(path) for path in ("/timeline", "/origins", "/place?packet=4")}
         kinds = self.members("/session")
         with mock.patch("sys.stderr"):
-            os.kill(process_of(self.live.session), signal.SIGKILL)
+            crash(self.live.session)
             self.assertEqual(self.ask("/frames/2.y4m")[0], 200)
         self.await_list()
         found = self.members("/session")
@@ -1060,7 +1060,7 @@ class Killed(PageCase):
         wanted = (self.post_to("/preview", **body)[2], self.picture("/before/frames/5.y4m"))
         with mock.patch("sys.stderr"):
             for live in (self.live.preview.live, self.live.originals[0]):
-                os.kill(process_of(live.session), signal.SIGKILL)
+                crash(live.session)
             self.assertEqual((self.post_to("/preview", **body)[2], self.picture("/before/frames/5.y4m")), wanted)
 
     def test_events_say_that_it_was_saved(self):

@@ -6,7 +6,7 @@ import types
 import unittest
 from concurrent.futures import ThreadPoolExecutor
 
-from support import DATA, ODD, TOP, Case, frames_of, is_alive, process_of
+from support import DATA, ODD, TOP, Case, frames_of
 from wokureti import Refused, Session
 
 STRIDE = 64
@@ -142,7 +142,8 @@ class Source(Case):
         session = self.addSession(ODD)
         with self.assertRaises(ValueError):
             source(session)
-        self.assertTrue(is_alive(process_of(session)))
+        # It is left to its owner.
+        self.assertTrue(session.count().frames)
 
 
 if __name__ == "__main__":

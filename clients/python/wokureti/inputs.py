@@ -152,11 +152,11 @@ class Input:
             place += len(data)
             yield data
 
-    def whole(self):
-        """The bytes of the whole file; those of an empty stream if there is none."""
+    def whole(self, most):
+        """The bytes of the whole file, at most so many; those of an empty stream if there is none."""
         if self.path == "-":
             return ivf.EMPTY.text(0)
-        return os.pread(self.opened(), os.fstat(self.opened()).st_size, 0)
+        return os.pread(self.opened(), min(most, os.fstat(self.opened()).st_size), 0)
 
     def close(self):
         if self.descriptor is not None:

@@ -10,12 +10,16 @@ import threading
 import time
 import weakref
 
-from . import ivf, programs
+from . import ivf, programs, versions
 from .files import write_whole
 from .frames import MARK, size_of
 from .pipes import Gone, Late, Strange
 
 NAME = "libwokureti.so.0"
+ENGINES = ("library", "program")
+# Bytes of stack that a worker has at least: the library needs 64 KB.
+LEAST_STACK = 1 << 20
+STARTING = threading.Lock()
 CACHE, MOST_STATES = 32, 4096
 V3 = {"avx2", "bmi1", "bmi2", "f16c", "fma", "abm", "movbe"}
 OK, FILE, MEMORY, ROOM, LOST, NO_MEMORY = 0, 2, 3, 5, 7, 31
@@ -25,8 +29,10 @@ REFUSALS = range(16, 33)
 FAULTS = {
     1: "a number is outside its range: 1 to 8 files and 1 to 4096 states",
     3: "out of memory",
-    6: "the tables do not have 3012 bytes",
+    6: "tables are not 3012 bytes",
 }
+# Bytes of a file, at most.
+MOST_FILE = 1 << 30
 CAUSES = ("", "Header", "Magic", "FourCc", "HeaderLength", "TooMany", "NoMemory")
 
 
@@ -66,6 +72,15 @@ class NotExported(Exception):
             self.text = f"frame {frame} is changed by node {node}"
         else:
             self.text = "too many packets" if status == FULL else "no packet repeats a frame of this size"
+
+
+def room_of(size):
+    """A bytearray of this size. The engine writes each of its bytes, so they are not set before."""
+    make = getattr(getattr(ctypes, "pythonapi", None), "PyByteArray_FromStringAndSize", None)
+    if make is None:
+        return bytearray(size)
+    make.argtypes, make.restype = [ctypes.c_char_p, ctypes.c_ssize_t], ctypes.py_object
+    return make(None, size)
 
 
 def processors():
@@ -118,6 +133,33 @@ def states_in(file, size):
     except ivf.NotIvf:
         found = None
     return CACHE if found is None else max(1, min(MOST_STATES, size // picture_bytes(*found)))
+
+
+def number_of(version):
+    """The number of a version, as `wk_version` returns it."""
+    first, second, third = map(int, version.split("."))
+    return 10000 * first + 100 * second + third
+
+
+def is_ready():
+    """Whether the library is found, can be loaded here, and is of the version of this package."""
+    path = find()
+    if path is None:
+        return False
+    try:
+        return load(path).wk_version() == number_of(versions.version())
+    except (OSError, AttributeError, ValueError):
+        return False
+
+
+def engine_of(named, program):
+    """What answers: what is named, in the call or in the variable WOKURETI_ENGINE, or the program where one is named; else the library where it is ready."""
+    engine = named or ("program" if program else os.environ.get("WOKURETI_ENGINE"))
+    if not engine:
+        return "library" if not os.environ.get("VP8SERVE") and is_ready() else "program"
+    if engine not in ENGINES:
+        raise ValueError(f'the engine is {engine!r}, but must be "program" or "library"')
+    return engine
 
 
 def load(path=None):
@@ -185,7 +227,7 @@ class Engine:
         """A frame that was just served, into new memory."""
         while True:
             width, height = self.size
-            across, down, samples = (width + 1) // 2, (height + 1) // 2, bytearray(max(1, size_of(width, height)))
+            across, down, samples = (width + 1) // 2, (height + 1) // 2, room_of(max(1, size_of(width, height)))
             room = (ctypes.c_ubyte * len(samples)).from_buffer(samples)
             at, luma, chroma = ctypes.addressof(room), width * height, across * down
             self.shown.luma_stride, self.shown.chroma_stride = width, across
@@ -260,6 +302,19 @@ def work(asked):
         del item, call, answers
 
 
+def start_worker(asked):
+    """Starts a thread for the calls of a session, also where `threading.stack_size` gives threads less than the library needs."""
+    with STARTING:
+        given = threading.stack_size()
+        if given:
+            threading.stack_size(max(given, LEAST_STACK))
+        try:
+            threading.Thread(target=work, args=(asked,), name="wokureti", daemon=True).start()
+        finally:
+            if given:
+                threading.stack_size(given)
+
+
 class Library:
     """A running session. `files` are the bytes of its sources; `save` gets the packets of source 0 when it is finished."""
 
@@ -267,14 +322,14 @@ class Library:
         library = load()
         self.owner = os.getpid()
         self.asked = queue.SimpleQueue()
-        threading.Thread(target=work, args=(self.asked,), name="wokureti", daemon=True).start()
+        start_worker(self.asked)
         self.engine, self.is_over, self.save, self.pad = None, False, save, pad
         self.finalizer = weakref.finalize(self, self.asked.put, None)
         self.engine = self.call(lambda: Engine(library, files, states, tables, explains))
         if self.engine.trouble:
             status, source, cause = self.engine.trouble
             self.finalizer()
-            raise Gone(f"source {source}: {CAUSES[cause]}" if status == FILE else FAULTS[status])
+            raise Gone(f"{f'source {source}' if source else 'input'} {CAUSES[cause]}" if status == FILE else FAULTS[status])
         # The worker closes the session, whatever ends first.
         self.finalizer.detach()
         self.finalizer = weakref.finalize(self, end, self.asked, self.engine)
@@ -342,7 +397,7 @@ class Library:
                 write_whole(self.save, [self.call(lambda: self.engine.saved(self.pad), deadline)])
         except (OSError, MemoryError) as error:
             self.kill()
-            return 1, f"cannot save {self.save}: {error}"
+            return 1, f"libwokureti: cannot write {os.fsdecode(self.save)}: {error}"
         self.kill()
         return 0, ""
 

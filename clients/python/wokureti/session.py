@@ -14,7 +14,7 @@ from .edits import EditList, begins_reply, is_edit, words_of
 from .errors import Ended, Refused, Unexported
 from .frames import Frame, frame_of
 from .inputs import Inputs
-from .library import Library, NotExported, states_in
+from .library import MOST_FILE, Library, NotExported, engine_of, states_in
 from .pipes import Gone, Late, Pipes, Strange
 from .scripts import Script
 
@@ -49,8 +49,10 @@ class Session:
     `timeout` is the number of seconds that a call may take, if it gives none of its own. With `explain` the program says why it refuses
     a request, in `Refused.reason`.
 
-    With `engine="library"` there is no program: the same proved code answers in this process, from `libwokureti.so.0`, without a pipe. A
-    call that takes too long is left to its thread, and the session is over.
+    `engine` is "library" or "program". With the library there is no program: the same proved code answers in this process, from
+    `libwokureti.so.0`, without a pipe; a call that takes too long is left to its thread, and the session is over. The program is a process of its
+    own, which can be ended. Where nothing is said, here or in the variable WOKURETI_ENGINE, it is the library where one of this version is found, and the
+    program where `program` or the variable VP8SERVE names one. `session.engine` is what was taken.
 
     Threads may share a session: a call waits until the one before it has its reply and its picture. What leaves a call in the middle, as
     an exception of a signal's handler, or a call that takes too long, ends the session, since the reply would be taken for the next
@@ -74,7 +76,7 @@ class Session:
         cache_bytes: Optional[int] = None,
         anyway: bool = False,
         resume: Optional[EditList] = None,
-        engine: str = "program",
+        engine: Optional[str] = None,
     ) -> None:
         # Called with the line of each edit that was accepted, also with those of `undo` and `redo`.
         self.on_edit: Optional[Callable[[str], None]] = None
@@ -85,6 +87,8 @@ class Session:
         self._explain = explain
         self._lines = 0
         self._edits = None
+        # "library" or "program".
+        self.engine: str = engine_of(engine, program)
         self._settings = (program or programs.find("vp8serve"), lister or programs.find("vp8list"), tables)
         self._inputs = Inputs([checks.stream(stream), *checks.sources(sources)])
         try:
@@ -92,7 +96,7 @@ class Session:
             if edits is not None:
                 checks.outputs(edits, [*self._inputs.paths, *(path for path in (save, tables) if path is not None)], "edits")
             self._edits = EditList(self, edits, anyway)
-            self._pipes = Pipes(words, self._inputs.shared) if engine == "program" else self._library(engine, cache, cache_bytes, tables, save, pad)
+            self._pipes = Pipes(words, self._inputs.shared) if self.engine == "program" else self._library(cache, cache_bytes, tables, save, pad)
         except BaseException:
             self._close_files()
             raise
@@ -124,20 +128,30 @@ class Session:
             words += ["--cache-bytes", str(checks.number(MOST_CACHED if cache_bytes is None else cache_bytes))]
         return words + ["--pad"] * bool(pad) + ["--explain"] * bool(self._explain)
 
-    def _library(self, engine, cache, cache_bytes, tables, save, pad):
+    def _library(self, cache, cache_bytes, tables, save, pad):
         """The session in this process, over the bytes of the files as they were opened."""
-        if engine != "library":
-            raise ValueError(f'the engine is {engine!r}, but must be "program" or "library"')
         if cache is not None and cache_bytes is not None:
             raise ValueError("either cache or cache_bytes is given, not both")
-        if save is not None:
-            checks.outputs(save, [*self._inputs.paths, *([] if tables is None else [tables])], "save")
-        files = [item.whole() for item in self._inputs.all]
-        states = states_in(files[0], checks.number(MOST_CACHED if cache_bytes is None else cache_bytes)) if cache is None else checks.states(cache)
         try:
-            return Library(files, states, b"" if tables is None else pathlib.Path(tables).read_bytes(), None if save is None else checks.path(save), pad, self._explain)
+            files = [self._whole(item.path, lambda item=item: item.whole(MOST_FILE + 1)) for item in self._inputs.all]
+            long_tables = b"" if tables is None else self._whole(tables, pathlib.Path(os.fsdecode(tables)).read_bytes)
+            if save is not None and not os.path.exists(save) and not os.access(os.path.dirname(os.path.realpath(save)), os.W_OK | os.X_OK):
+                raise Gone(f"cannot write {os.fsdecode(save)}")
+            states = states_in(files[0], checks.number(MOST_CACHED if cache_bytes is None else cache_bytes)) if cache is None else checks.states(cache)
+            return Library(files, states, long_tables, None if save is None else checks.path(save), pad, self._explain)
         except Gone as error:
-            raise Ended(2, str(error)) from None
+            raise Ended(1, f"libwokureti: {error}") from None
+
+    @staticmethod
+    def _whole(path, read):
+        """The bytes of a file, as a program reads it whole. `Gone` if it cannot be read, or has more bytes than a program takes."""
+        try:
+            found = read()
+        except OSError:
+            raise Gone(f"cannot read {os.fsdecode(path)}") from None
+        if len(found) > MOST_FILE:
+            raise Gone(f"{os.fsdecode(path)} is too long")
+        return found
 
     def _close_files(self):
         if self._edits is not None:

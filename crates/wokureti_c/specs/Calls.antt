@@ -6,6 +6,7 @@ use Rattle.pixel_planes.specs.declared.pictures.Component.TheVariants.{Luma, Cb,
 use Rattle.stream_files.specs.Texts.{written_text}
 use Rattle.packet_edits.specs.Saved.{packets_of, padded_packets_of}
 use Rattle.request_lines.specs.Requests.{asked_by}
+use Rattle.frame_header.specs.declared.cause.Cause.{Cause}
 use Rattle.frame_session.specs.Answers.{Serves}
 use Rattle.frame_session.specs.Cached.{SessionValue}
 use Rattle.frame_session.specs.Edits.{list_at}
@@ -13,6 +14,7 @@ use Rattle.frame_session.specs.IsOrNoMemory.{IsFrameOrNoMemory}
 use Rattle.frame_session.specs.Sessions.{IsAfterFrame, Now, frame_of, size_given}
 use Rattle.frame_session.specs.Told.{Tells}
 use Rattle.frame_session.specs.declared.refusal.Refusal.{Refusal}
+use Rattle.frame_session.specs.declared.refusal.Refusal.TheVariants as refusals
 use Rattle.explanations.specs.Details.{IsDetail}
 use Rattle.explanations.specs.Refusals.{explained}
 use Rattle.explanations.specs.declared.details.Detail.{Detail}
@@ -57,11 +59,12 @@ pub record IsTooLarge (old : SessionValue) (n : ℕ) (shown : Shown) (rooms room
   pub high : shown.height ≡ picture.height
   pub untouched : rooms' ≡ rooms
 
--- a frame that was refused, with this number: the rooms as they were
-pub record IsRefused (old : SessionValue) (n status : ℕ) (rooms rooms' : Planes) (new : SessionValue) : Type 0 where
+-- a frame that was refused, with this number: the packet that broke its source is reported, and the rooms are as they were
+pub record IsRefused (old : SessionValue) (n status : ℕ) (shown : Shown) (rooms rooms' : Planes) (new : SessionValue) : Type 0 where
   pub refusal : Refusal
   pub answers : FrameAnswers old n (Err refusal) new
   pub numbered : status ≡ number_of_refusal refusal
+  pub broken : (source place : ℕ) (cause : Cause) → refusal ≡ refusals.Packet source place cause → (shown.source ≡ source) × (shown.packet ≡ place)
   pub untouched : rooms' ≡ rooms
 
 -- a line is kept with its number and the refusal that its reply reports

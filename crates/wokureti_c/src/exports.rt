@@ -86,7 +86,7 @@ pub extern "C" fn wk_frame(
 ) -> u32
     ensures served { result ≡ 0 → Over handle.old.held handle.new.held (λ old new. IsServed old.session n shown.old shown.new (record { y = y.old; cb = cb.old; cr = cr.old }) (record { y = y.new; cb = cb.new; cr = cr.new }) new.session) }
     ensures room { result ≡ 5 → Over handle.old.held handle.new.held (λ old new. IsTooLarge old.session n shown.new (record { y = y.old; cb = cb.old; cr = cr.old }) (record { y = y.new; cb = cb.new; cr = cr.new }) new.session) }
-    ensures refused { 15 < result → Over handle.old.held handle.new.held (λ old new. IsRefused old.session n result (record { y = y.old; cb = cb.old; cr = cr.old }) (record { y = y.new; cb = cb.new; cr = cr.new }) new.session) }
+    ensures refused { 15 < result → Over handle.old.held handle.new.held (λ old new. IsRefused old.session n result shown.new (record { y = y.old; cb = cb.old; cr = cr.old }) (record { y = y.new; cb = cb.new; cr = cr.new }) new.session) }
     ensures rest { KeepsRest handle.old.held handle.new.held }
     ensures closed { handle.old.held ≡ None → (result ≡ 4) × (handle.new.held ≡ None) }
 {

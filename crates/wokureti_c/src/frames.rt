@@ -49,7 +49,7 @@ pub fn show(
 ) -> u32
     ensures served { result ≡ 0 → IsServed session.old n shown.old shown.new (record { y = y.old; cb = cb.old; cr = cr.old }) (record { y = y.new; cb = cb.new; cr = cr.new }) session.new }
     ensures room { result ≡ 5 → IsTooLarge session.old n shown.new (record { y = y.old; cb = cb.old; cr = cr.old }) (record { y = y.new; cb = cb.new; cr = cr.new }) session.new }
-    ensures refused { 15 < result → IsRefused session.old n result (record { y = y.old; cb = cb.old; cr = cr.old }) (record { y = y.new; cb = cb.new; cr = cr.new }) session.new }
+    ensures refused { 15 < result → IsRefused session.old n result shown.new (record { y = y.old; cb = cb.old; cr = cr.old }) (record { y = y.new; cb = cb.new; cr = cr.new }) session.new }
 {
     let picture = match session.frame(n) {
         Ok(picture) => picture,
