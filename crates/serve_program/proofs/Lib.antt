@@ -3,4 +3,3 @@ pub mod Ended
 pub mod LiveEnded
 pub mod Unexported
 pub mod ExportLines
-pub mod Statuses

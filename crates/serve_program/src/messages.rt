@@ -1,6 +1,7 @@
 // What goes to standard error.
 ghost use Rattle.std.specs.Prelude.{◌≡◌, ◌+◌, ◌-◌, ◌*◌, ◌/◌, ◌^◌, min, None, Some, false, option_map, slice_index_or};
 ghost use Rattle.output_files.specs.Counts.{whole_pieces};
+ghost use Rattle.frame_session.specs.Noted.{Notes};
 ghost use Rattle.serve_program.specs.Frames.{frame_length};
 ghost use Rattle.serve_arguments.specs.Statuses.{fault_of};
 
@@ -135,6 +136,15 @@ impl<E: Write> Messages<'_, E> {
         }
     }
 
+    /// Takes note of a request for a frame that was refused.
+    fn note_refusal(&mut self, asks_frame: bool, refusal: Option<Refusal>)
+        ensures { Notes self.old.has_refused self.new.has_refused asks_frame refusal }
+    {
+        if asks_frame && refusal.is_some() {
+            self.has_refused = true;
+        }
+    }
+
     /// Takes note of an edit that was accepted.
     fn note_edit(&mut self, session: &Session, line: &[u8])
         ensures { self.new.has_refused ≡ self.old.has_refused }
@@ -177,7 +187,7 @@ impl<E: Write> Observer for Messages<'_, E> {
         refusal: Option<Refusal>,
     ) {
         self.answered = self.answered.saturating_add(1);
-        self.has_refused = self.has_refused || asks_frame && refusal.is_some();
+        self.note_refusal(asks_frame, refusal);
         if !self.explains {
             return;
         }

@@ -280,13 +280,13 @@ fn names_fail_refused<S: AsStr>(words: &[S]) -> bool
 
 /// The exit status after all requests were answered.
 fn status_after(fails_refused: bool, has_refused: bool) -> u8
-    ensures { result ≡ status_after fails_refused has_refused }
+    ensures value { result ≡ status_after fails_refused has_refused }
+    ensures either { (result ≡ 0) ⊎ (result ≡ 3) }
 {
     if fails_refused && has_refused { 3 } else { 0 }
 }
 
 /// Does what a command line asks for, flushes the replies, and returns the exit status.
-#[tactic(auto, using(crate::proofs::Statuses::named_at_three))]
 fn answer_line<'a, R: Files + AllocGlobal, S: AsStr, I: Read, O: Write + Drop, E: Write>(
     rt: &R,
     words: &'a [S],
@@ -315,8 +315,10 @@ fn answer_line<'a, R: Files + AllocGlobal, S: AsStr, I: Read, O: Write + Drop, E
         answer(rt, &line, input, output, messages)?
     };
     flush_replies(output)?;
-    let fails_refused = line.words.fails_refused && is_named;
-    Ok(status_after(fails_refused, served.has_refused))
+    if !is_named {
+        return Ok(0);
+    }
+    Ok(status_after(line.words.fails_refused, served.has_refused))
 }
 
 /// Runs the program on a command line, whose first argument is the program's name, and returns its exit
