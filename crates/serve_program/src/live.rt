@@ -34,7 +34,7 @@ fn run_to_path<R: Files + AllocGlobal, I: BufRead, P: Write, E: Write>(
     replies: &mut P,
     messages: &mut Messages<'_, E>,
 ) -> Result<Session, LiveFault>
-    requires capacity { (1 ≤ settings.capacity) × (settings.capacity ≤ 4096) }
+    requires capacity { (1 ≤ settings.capacity.states) × (settings.capacity.states ≤ 4096) }
     requires sources { (1 ≤ length sources.now) × (length sources.now ≤ 8) }
     ensures replied { IfOk result (λ session. IsLiveReplied settings.tables (map rc_slice_items sources.now) (I.remaining requests.old) (P.contents replies.old) (P.contents replies.new) session.now) }
     ensures capacity { IfOk result (λ session. session.cache.capacity ≡ settings.capacity) }
@@ -87,7 +87,7 @@ fn run_over<R: Files + AllocGlobal, I: Read, P: Write, E: Write>(
     replies: &mut P,
     messages: &mut Messages<'_, E>,
 ) -> Result<Session, LiveFault>
-    requires capacity { (1 ≤ settings.capacity) × (settings.capacity ≤ 4096) }
+    requires capacity { (1 ≤ settings.capacity.states) × (settings.capacity.states ≤ 4096) }
     requires sources { (1 ≤ length sources.now) × (length sources.now ≤ 8) }
     ensures replied { IfOk result (λ session. IsLiveReplied settings.tables (map rc_slice_items sources.now) (I.remaining reader.old) (P.contents replies.old) (P.contents replies.new) session.now) }
     ensures capacity { IfOk result (λ session. session.cache.capacity ≡ settings.capacity) }
@@ -116,7 +116,7 @@ fn run_requests<'a, R: Files + AllocGlobal, I: Read, P: Write, E: Write>(
     replies: &mut P,
     messages: &mut Messages<'_, E>,
 ) -> Result<Session, Fault<'a>>
-    requires capacity { (1 ≤ settings.capacity) × (settings.capacity ≤ 4096) }
+    requires capacity { (1 ≤ settings.capacity.states) × (settings.capacity.states ≤ 4096) }
     requires sources { (1 ≤ length sources.now) × (length sources.now ≤ 8) }
     ensures replied { IfOk result (λ session. AreLiveReplied line.now.words.requests.now (I.remaining input.old) (P.contents replies.old) (P.contents replies.new) session.now settings.tables (map rc_slice_items sources.now)) }
     ensures capacity { IfOk result (λ session. session.cache.capacity ≡ settings.capacity) }
@@ -175,7 +175,7 @@ fn answer_files<'a, R: Files + AllocGlobal, I: Read, O: Write, E: Write>(
     requires capacity { IsGiven line.now.capacity }
     requires sources { (1 ≤ length files.sources.items) × (length files.sources.items ≤ 8) }
     ensures replied { IfOk result (λ session. AreLiveAnswered line.now.words.requests.now (I.remaining input.old) (O.contents output.old) (O.contents output.new) (is_some line.now.words.exported) session.now files.tables (map (λ bytes. bytes.items) files.sources.items)) }
-    ensures capacity { IfOk result (λ session. AreStates line.now.capacity (stream_in (map (λ bytes. bytes.items) files.sources.items)) session.cache.capacity) }
+    ensures capacity { IfOk result (λ session. AreStates line.now.capacity (stream_in (map (λ bytes. bytes.items) files.sources.items)) session.cache.capacity.states) }
     ensures refused { IfErr result (λ fault. IsLiveRefused files.tables (map (λ bytes. bytes.items) files.sources.items) line.now.words.requests.now (I.remaining input.old) (O.contents output.old) (O.contents output.new) fault ⊎ (IsSaveFault fault × Keeps (O.contents output.old) (O.contents output.new)) ⊎ ((end : Now) × AreLiveReplied line.now.words.requests.now (I.remaining input.old) (O.contents output.old) (O.contents output.new) end files.tables (map (λ bytes. bytes.items) files.sources.items) × (IsSaveFault fault ⊎ IsExportFault end fault))) }
 {
     let FilesRead { tables, sources } = files;
@@ -210,7 +210,7 @@ pub fn answer_live<'a, R: Files + AllocGlobal, I: Read, O: Write, E: Write>(
 ) -> Result<Session, Fault<'a>>
     requires capacity { IsGiven line.now.capacity }
     requires paths { length line.now.more.items ≤ 7 }
-    ensures served { IfOk result (λ session. IsServed EMPTY (source_names line.now) (is_some line.now.words.tables) line.now.capacity session.cache.capacity (AreLiveAnswered line.now.words.requests.now (I.remaining input.old) (O.contents output.old) (O.contents output.new) (is_some line.now.words.exported) session.now)) }
+    ensures served { IfOk result (λ session. IsServed EMPTY (source_names line.now) (is_some line.now.words.tables) line.now.capacity session.cache.capacity.states (AreLiveAnswered line.now.words.requests.now (I.remaining input.old) (O.contents output.old) (O.contents output.new) (is_some line.now.words.exported) session.now)) }
     ensures ended { IfErr result (IsLiveEnded EMPTY (option_map (λ path. path.now) line.now.words.tables) (source_names line.now) line.now.words.requests.now (I.remaining input.old) (I.remaining input.new) (O.contents output.old) (O.contents output.new)) }
 {
     let files = read_files(rt, line)?;

@@ -54,12 +54,15 @@ pub fn settings_over(
 ) -> Result<Settings, Fault<'static>>
     requires { IsGiven capacity }
     ensures tables { IfOk result (λ settings. settings.tables ≡ tables) }
-    ensures states { IfOk result (λ settings. AreStates capacity (stream_in (map rc_slice_items sources.now)) settings.capacity) }
-    ensures range { IfOk result (λ settings. (1 ≤ settings.capacity) × (settings.capacity ≤ 4096)) }
+    ensures states { IfOk result (λ settings. AreStates capacity (stream_in (map rc_slice_items sources.now)) settings.capacity.states) }
+    ensures range { IfOk result (λ settings. (1 ≤ settings.capacity.states) × (settings.capacity.states ≤ 4096)) }
     ensures fault { IfErr result (λ fault. fault ≡ Fault.NoMemory) }
 {
-    let capacity = states_for(alloc, capacity, sources)?;
-    Ok(Settings { tables, capacity })
+    let states = states_for(alloc, capacity, sources)?;
+    Ok(Settings {
+        tables,
+        capacity: frame_session::Capacity::of_states(states),
+    })
 }
 
 /// The error of a run for the user.
