@@ -1,6 +1,7 @@
 -- The state of a session that its answers do not depend on: the marks of its packets and its cache.
 use Rattle.std.specs.Prelude.{◌≡◌, ℕ, ◌<◌, ◌≤◌, Bool, true, false, [], List, length, map, slice_get, slice_index_or, slice_set, Option, Some, None, Result, Ok, Err, option_and_then, option_map}
-pub use Rattle.state_cache.specs.Reaching.{of_states}
+pub use Rattle.state_cache.specs.Reaching.{of_bytes, of_states}
+pub use Rattle.state_cache.specs.declared.capacity.Capacity.{Capacity}
 use Rattle.vp8_tables.specs.declared.tables.Tables.{Tables}
 use Rattle.stream_files.specs.declared.ivf.Ivf.{Ivf}
 use Rattle.packet_times.specs.Durations.{one_frame}
@@ -8,7 +9,6 @@ use Rattle.packet_edits.specs.Edits.{Listing, copied, starting}
 use Rattle.packet_edits.specs.Marks.{StoreValue, marks_deleted, marks_inserted, marks_moved, marks_pushed, marks_replaced}
 use Rattle.packet_edits.specs.Shown.{shown_indexes, stream_of}
 use Rattle.script_nodes.specs.Frames.{traced}
-use Rattle.state_cache.specs.declared.capacity.Capacity.{Capacity}
 use Rattle.state_cache.specs.Costs.{Costs}
 use Rattle.state_cache.specs.EditLaws.{IsWithout, AreOfPackets, id_at}
 use Rattle.state_cache.specs.Reaching.{CacheValue, OthersDrop, OthersStay, view_of}

@@ -3,15 +3,14 @@ ghost use Rattle.std.specs.Prelude.{◌≡◌, ◌≤◌, ◌⊎◌, IfErr, IfOk
 ghost use Rattle.std.specs.Io.KnownBytes.{Keeps};
 ghost use Rattle.std.specs.Rc.{rc_slice_items};
 ghost use Rattle.frame_session.specs.Sessions.{Now};
-ghost use Rattle.serve_arguments.specs.CachedStates.{AreStates};
 ghost use Rattle.serve_arguments.specs.Capacities.{IsGiven};
 ghost use Rattle.serve_arguments.specs.CommandLines.{source_names};
-ghost use Rattle.serve_program.specs.Endings.{AreLiveAnswered, AreLiveReplied, IsAfterExport, IsExportFault, IsLiveEnded, IsLiveFault, IsLiveRefused, IsLiveReplied, IsSaveFault, IsServed, stream_in};
+ghost use Rattle.serve_program.specs.Endings.{AreLiveAnswered, AreLiveReplied, IsAfterExport, IsExportFault, IsLiveEnded, IsLiveFault, IsLiveRefused, IsLiveReplied, IsSaveFault, IsServed, cached_by};
 
 use crate::exports::with_export;
 use crate::messages::Messages;
 use crate::program::{BYTES_AT_ONCE, finish, taken_by};
-use crate::runs::{live_fault, settings_over, shared};
+use crate::runs::{live_fault, settings_with, shared};
 use crate::saving::{Saves, begin_saves};
 use frame_session::{LiveFault, Session, Settings, run_live_over};
 use output_files::Counted;
@@ -175,12 +174,12 @@ fn answer_files<'a, R: Files + AllocGlobal, I: Read, O: Write, E: Write>(
     requires capacity { IsGiven line.now.capacity }
     requires sources { (1 ≤ length files.sources.items) × (length files.sources.items ≤ 8) }
     ensures replied { IfOk result (λ session. AreLiveAnswered line.now.words.requests.now (I.remaining input.old) (O.contents output.old) (O.contents output.new) (is_some line.now.words.exported) session.now files.tables (map (λ bytes. bytes.items) files.sources.items)) }
-    ensures capacity { IfOk result (λ session. AreStates line.now.capacity (stream_in (map (λ bytes. bytes.items) files.sources.items)) session.cache.capacity.states) }
+    ensures capacity { IfOk result (λ session. session.cache.capacity ≡ cached_by line.now.capacity) }
     ensures refused { IfErr result (λ fault. IsLiveRefused files.tables (map (λ bytes. bytes.items) files.sources.items) line.now.words.requests.now (I.remaining input.old) (O.contents output.old) (O.contents output.new) fault ⊎ (IsSaveFault fault × Keeps (O.contents output.old) (O.contents output.new)) ⊎ ((end : Now) × AreLiveReplied line.now.words.requests.now (I.remaining input.old) (O.contents output.old) (O.contents output.new) end files.tables (map (λ bytes. bytes.items) files.sources.items) × (IsSaveFault fault ⊎ IsExportFault end fault))) }
 {
     let FilesRead { tables, sources } = files;
     let sources = shared(rt.alloc(), sources)?;
-    let settings = settings_over(rt.alloc(), tables, line.capacity, sources.as_slice())?;
+    let settings = settings_with(tables, line.capacity);
     let saves = begin_saves(rt, line.words, messages)?;
     let answered = run_requests(
         rt,
@@ -210,7 +209,7 @@ pub fn answer_live<'a, R: Files + AllocGlobal, I: Read, O: Write, E: Write>(
 ) -> Result<Session, Fault<'a>>
     requires capacity { IsGiven line.now.capacity }
     requires paths { length line.now.more.items ≤ 7 }
-    ensures served { IfOk result (λ session. IsServed EMPTY (source_names line.now) (is_some line.now.words.tables) line.now.capacity session.cache.capacity.states (AreLiveAnswered line.now.words.requests.now (I.remaining input.old) (O.contents output.old) (O.contents output.new) (is_some line.now.words.exported) session.now)) }
+    ensures served { IfOk result (λ session. IsServed EMPTY (source_names line.now) (is_some line.now.words.tables) line.now.capacity session.cache.capacity (AreLiveAnswered line.now.words.requests.now (I.remaining input.old) (O.contents output.old) (O.contents output.new) (is_some line.now.words.exported) session.now)) }
     ensures ended { IfErr result (IsLiveEnded EMPTY (option_map (λ path. path.now) line.now.words.tables) (source_names line.now) line.now.words.requests.now (I.remaining input.old) (I.remaining input.new) (O.contents output.old) (O.contents output.new)) }
 {
     let files = read_files(rt, line)?;

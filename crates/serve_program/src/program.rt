@@ -5,17 +5,16 @@ ghost use Rattle.std.specs.Io.KnownBytes.{Appends};
 ghost use Rattle.std.specs.Rc.{rc_slice_items};
 ghost use Rattle.frame_session.specs.Answers.{Means};
 ghost use Rattle.frame_session.specs.Sessions.{Now};
-ghost use Rattle.serve_arguments.specs.CachedStates.{AreStates};
 ghost use Rattle.serve_arguments.specs.Capacities.{IsGiven};
 ghost use Rattle.serve_arguments.specs.CommandLines.{source_names};
 ghost use Rattle.serve_arguments.specs.Readings.{AreNamed};
-ghost use Rattle.serve_program.specs.Endings.{AreAnswered, AreReplied, AreStopped, IsAfterExport, IsEnded, IsExportFault, IsRefused, IsReplied, IsSaveFault, IsServed, IsStopped, IsUnreplied, spare_text, stream_in};
+ghost use Rattle.serve_program.specs.Endings.{AreAnswered, AreReplied, AreStopped, IsAfterExport, IsEnded, IsExportFault, IsRefused, IsReplied, IsSaveFault, IsServed, IsStopped, IsUnreplied, spare_text, cached_by};
 
 use crate::explain::{explain_end, explain_export, explain_fault, is_asked};
 use crate::exports::{Answered, with_export};
 use crate::live::answer_live;
 use crate::messages::Messages;
-use crate::runs::{run_fault, settings_over, shared};
+use crate::runs::{run_fault, settings_with, shared};
 use crate::saving::{Saves, begin_saves, finish_saves};
 use frame_session::{Observer, Session, Settings, run_over};
 use output_files::{Counted, Taken};
@@ -208,13 +207,13 @@ fn answer_inputs<R: Files + AllocGlobal, O: Write, E: Write>(
     requires paths { length line.now.more.items ≤ 7 }
     requires named { AreNamed EMPTY (source_names line.now) (map (λ bytes. bytes.items) inputs.files.sources.items) }
     ensures replied { IfOk result (λ session. (end : Now) × IsReplied inputs.files.tables (map (λ bytes. bytes.items) inputs.files.sources.items) inputs.requests.items (O.contents output.old) (O.contents output.new) end × IsAfterExport (is_some line.now.words.exported) end session.now) }
-    ensures capacity { IfOk result (λ session. AreStates line.now.capacity (stream_in (map (λ bytes. bytes.items) inputs.files.sources.items)) session.cache.capacity.states) }
+    ensures capacity { IfOk result (λ session. session.cache.capacity ≡ cached_by line.now.capacity) }
     ensures ended { IfErr result (λ fault. (left : Option (List ℕ)) → (left' : Option (List ℕ)) → (line.now.words.requests.now ≡ codes "-" → IfSome left (λ bytes. inputs.requests.items ≡ bytes)) → IsEnded EMPTY (option_map (λ path. path.now) line.now.words.tables) (source_names line.now) line.now.words.requests.now left left' (O.contents output.old) (O.contents output.new) (AreStopped line.now.words.requests.now left (O.contents output.old) (O.contents output.new)) (AreReplied line.now.words.requests.now left (O.contents output.old) (O.contents output.new)) fault) }
 {
     let Inputs { files, requests } = inputs;
     let FilesRead { tables, sources } = files;
     let sources = shared(rt.alloc(), sources)?;
-    let settings = settings_over(rt.alloc(), tables, line.capacity, sources.as_slice())?;
+    let settings = settings_with(tables, line.capacity);
     let session = run_to_path(
         rt,
         settings,
@@ -238,7 +237,7 @@ fn answer<'a, R: Files + AllocGlobal, I: Read, O: Write, E: Write>(
 ) -> Result<Session, Fault<'a>>
     requires capacity { IsGiven line.now.capacity }
     requires paths { length line.now.more.items ≤ 7 }
-    ensures served { IfOk result (λ session. IsServed EMPTY (source_names line.now) (is_some line.now.words.tables) line.now.capacity session.cache.capacity.states (AreAnswered line.now.words.requests.now (I.remaining input.old) (O.contents output.old) (O.contents output.new) (is_some line.now.words.exported) session.now)) }
+    ensures served { IfOk result (λ session. IsServed EMPTY (source_names line.now) (is_some line.now.words.tables) line.now.capacity session.cache.capacity (AreAnswered line.now.words.requests.now (I.remaining input.old) (O.contents output.old) (O.contents output.new) (is_some line.now.words.exported) session.now)) }
     ensures ended { IfErr result (IsEnded EMPTY (option_map (λ path. path.now) line.now.words.tables) (source_names line.now) line.now.words.requests.now (I.remaining input.old) (I.remaining input.new) (O.contents output.old) (O.contents output.new) (AreStopped line.now.words.requests.now (I.remaining input.old) (O.contents output.old) (O.contents output.new)) (AreReplied line.now.words.requests.now (I.remaining input.old) (O.contents output.old) (O.contents output.new))) }
 {
     let inputs = read_inputs(rt, line, input)?;
