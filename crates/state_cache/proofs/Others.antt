@@ -6,7 +6,7 @@ use Rattle.state_cache.specs.ProofsOnly.{IsLeastBetween, Lesser}
 use Rattle.state_cache.proofs.Least.{age_some, get_dropped, get_taken, less_across}
 use Rattle.state_cache.proofs.Runs.{up_to_or_behind}
 
-taken_low : (n : ℕ) (ss : List Saving) (i : ℕ) (x : Saving) → slice_get (take n ss) i ≡ Some x → i < n
+pub taken_low : (n : ℕ) (ss : List Saving) (i : ℕ) (x : Saving) → slice_get (take n ss) i ≡ Some x → i < n
 taken_low zero ss i x h = cc
 taken_low (suc n) [] i x h = cc
 taken_low (suc n) (y ∷ ss) zero x h = omega arith
@@ -116,3 +116,8 @@ module _ (ss : List Saving) (uses len newest : ℕ) (low : newest < len) where
   pub of_any_before : (before : Option ℕ) → (newest + 1 < len → ⊥) → IfSome before (IsLeastBetween ss uses 0 newest) → IfSome before (IsOtherVictim ss uses len newest)
   of_any_before None none a = tt
   of_any_before (Some before) none a = of_before before none a
+
+-- the victim is not the newest one
+pub victim_apart : (ss : List Saving) (uses len newest : ℕ) (victim : Option ℕ) → IfSome victim (IsOtherVictim ss uses len newest) → (n : ℕ) → victim ≡ Some n → n ≡ newest → ⊥
+victim_apart ss uses len newest None v n is same = cc
+victim_apart ss uses len newest (Some m) v n is same = let here : m ≡ n = cc in v.is_other (here ∙ same)
