@@ -24,24 +24,40 @@ two_from samples k = mean_of_two (samples k) (samples (k + 1))
 abbrev pub three_from : (ℕ → ℕ) → ℕ → ℕ
 three_from samples k = mean_of_three (samples k) (samples (k + 1)) (samples (k + 2))
 
--- the intra sample of a sub block in this column of this row
-unfoldable pub sub_sample : SubMode → List ℕ → ℕ → List ℕ → ℕ → ℕ → ℕ
+-- B_VR_PRED, B_VL_PRED, B_HD_PRED and B_HU_PRED (RFC 6386, section 12.3): the sample in this column of this row, from the edge, from
+-- the samples above, from the edge and from those of the left side: means of two samples and of three take turns, and at one end
+-- there are only means of three
+abbrev pub vertical_right : (edge : ℕ → ℕ) → (column row : ℕ) → ℕ
+vertical_right edge column row =
+    if nat_lt column (row / 2)
+    then three_from edge (4 - row)
+    else (if row % 2 == 0 then two_from edge (4 + column - row / 2) else three_from edge (3 + column - row / 2))
+
+abbrev pub vertical_left : (above : ℕ → ℕ) → (column row : ℕ) → ℕ
+vertical_left above column row =
+    if nat_lt 3 (column + row / 2)
+    then three_from above (row + 2)
+    else (if row % 2 == 0 then two_from above (column + row / 2) else three_from above (column + row / 2))
+
+abbrev pub horizontal_down : (edge : ℕ → ℕ) → (column row : ℕ) → ℕ
+horizontal_down edge column row =
+    if nat_lt row (column / 2)
+    then three_from edge (column + 2)
+    else (if column % 2 == 0 then two_from edge (3 + column / 2 - row) else three_from edge (3 + column / 2 - row))
+
+abbrev pub horizontal_up : (left : ℕ → ℕ) → (column row : ℕ) → ℕ
+horizontal_up left column row = if column % 2 == 0 then two_from left (row + column / 2) else three_from left (row + column / 2)
+
+-- the intra sample of a sub block in this column of this row, over the four samples of the left side, the corner and the eight samples
+-- above
+unfoldable pub sub_sample : SubMode → (left : List ℕ) → (corner : ℕ) → (above : List ℕ) → (column row : ℕ) → ℕ
 sub_sample Dc left corner above column row = mean_of (take 4 above ++ left)
 sub_sample Tm left corner above column row = gradient (slice_index left row) (slice_index above column) corner
 sub_sample Ve left corner above column row = three_from (edge_at left corner above) (4 + column)
 sub_sample He left corner above column row = mean_of_three (edge_at left corner above (4 - row)) (left_at left row) (left_at left (row + 1))
 sub_sample Ld left corner above column row = three_from (above_at above) (column + row)
 sub_sample Rd left corner above column row = three_from (edge_at left corner above) (3 + column - row)
-sub_sample Vr left corner above column row =
-    if nat_lt column (row / 2)
-    then three_from (edge_at left corner above) (4 - row)
-    else (if row % 2 == 0 then two_from (edge_at left corner above) (4 + column - row / 2) else three_from (edge_at left corner above) (3 + column - row / 2))
-sub_sample Vl left corner above column row =
-    if nat_lt 3 (column + row / 2)
-    then three_from (above_at above) (row + 2)
-    else (if row % 2 == 0 then two_from (above_at above) (column + row / 2) else three_from (above_at above) (column + row / 2))
-sub_sample Hd left corner above column row =
-    if nat_lt row (column / 2)
-    then three_from (edge_at left corner above) (column + 2)
-    else (if column % 2 == 0 then two_from (edge_at left corner above) (3 + column / 2 - row) else three_from (edge_at left corner above) (3 + column / 2 - row))
-sub_sample Hu left corner above column row = if column % 2 == 0 then two_from (left_at left) (row + column / 2) else three_from (left_at left) (row + column / 2)
+sub_sample Vr left corner above column row = vertical_right (edge_at left corner above) column row
+sub_sample Vl left corner above column row = vertical_left (above_at above) column row
+sub_sample Hd left corner above column row = horizontal_down (edge_at left corner above) column row
+sub_sample Hu left corner above column row = horizontal_up (left_at left) column row
