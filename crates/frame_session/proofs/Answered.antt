@@ -38,8 +38,8 @@ use Rattle.frame_session.specs.Origins.{origin_line}
 use Rattle.frame_session.specs.Questions.{answer_to}
 use Rattle.frame_session.specs.Replies.{lines_reply, refused_line, served_line, ok_line, edit_line, count_line, packet_line, script_line, stats_line, text_reply}
 use Rattle.frame_session.specs.Scripts.{script_reported}
-use Rattle.frame_session.specs.Sessions.{Now, after_frame, choice_answer, current_list, edit_answer, now_after_choice, now_after_edit, now_after_script, fits, fitted, frame_count, frame_from, frame_made, frame_of, outcome_of, packet_count, picture_from, script_answer, shown_counts, size_of, size_served}
-use Rattle.frame_session.specs.Answers.{Answer, Answers, Run, answer_to_frame, reply_only}
+use Rattle.frame_session.specs.Sessions.{SessionState, after_frame, choice_answer, current_list, edit_answer, now_after_choice, now_after_edit, now_after_script, fits, fitted, frame_count, frame_from, frame_made, frame_of, outcome_of, packet_count, picture_from, script_answer, shown_counts, size_of, size_served}
+use Rattle.frame_session.specs.Answers.{Answer, Answers, AnswersEach, answer_to_frame, reply_only}
 use Rattle.frame_session.specs.Laws.{HaveMemory}
 
 -- a frame may have the wanted answer
@@ -56,7 +56,7 @@ made_given size steps source None = refl
 made_given size steps source (Some (Err broken)) = refl
 made_given size steps source (Some (Ok decoded)) = fitted_given size (steps_shown steps (shown_in decoded.1))
 
-wanted_given : (old : Now) (from : Option Origin) → IsOrNoMemory (frame_from old from) (frame_from old from)
+wanted_given : (old : SessionState) (from : Option Origin) → IsOrNoMemory (frame_from old from) (frame_from old from)
 wanted_given old None = refl
 wanted_given old (Some from) = made_given old.size from.steps from.source (outcome_of old from.source from.frame)
 
@@ -85,7 +85,7 @@ refusal_told (refusals.Packet zero place cause) some e = let other : 112 ≡ 78 
 pub begins_otherwise : (reply : List ℕ) (refusal : Refusal) → (get_or reply 0 0 ≡ 114 → ⊥) → reply ≡ refused_line refusal → ⊥
 begins_otherwise reply refusal other e = other (ap (λ (l : List ℕ). get_or l 0 0) e)
 
-tells_no_lack : (old : Now) (n : ℕ) (frame : Result Shown Refusal) → (frame ≡ Err refusals.NoMemory → ⊥) → (answer_to_frame old n frame).reply ≡ refused_line refusals.NoMemory → ⊥
+tells_no_lack : (old : SessionState) (n : ℕ) (frame : Result Shown Refusal) → (frame ≡ Err refusals.NoMemory → ⊥) → (answer_to_frame old n frame).reply ≡ refused_line refusals.NoMemory → ⊥
 tells_no_lack old n (Ok shown) some e = begins_otherwise (served_line n) refusals.NoMemory (λ h. omega (arith, h)) e
 tells_no_lack old n (Err refusal) some e = refusal_told refusal (λ h. some (ap (λ (x : Refusal). Err x) h)) e
 
@@ -102,7 +102,7 @@ made_some size steps source None e = cc
 made_some size steps source (Some (Err broken)) e = cc
 made_some size steps source (Some (Ok decoded)) e = fitted_some size (steps_shown steps (shown_in decoded.1)) e
 
-wanted_some : (old : Now) (from : Option Origin) → frame_from old from ≡ Err refusals.NoMemory → ⊥
+wanted_some : (old : SessionState) (from : Option Origin) → frame_from old from ≡ Err refusals.NoMemory → ⊥
 wanted_some old None e = cc
 wanted_some old (Some from) e = made_some old.size from.steps from.source (outcome_of old from.source from.frame) e
 
@@ -225,7 +225,7 @@ detail_told : (within : Bool) (text : List ℕ) → cond within (text_reply text
 detail_told true text same = begins_otherwise (text_reply text) refusals.NoMemory (λ h. omega (arith, h)) same
 detail_told false text same = refusal_told refusals.Place (λ h. cc) same
 
-question_told : (old : Now) (question : Question) → answer_to old question ≡ refused_line refusals.NoMemory → ⊥
+question_told : (old : SessionState) (question : Question) → answer_to old question ≡ refused_line refusals.NoMemory → ⊥
 question_told old (questions.Packet at) e = packet_told (slice_get (current_list old).entries at) e
 question_told old (questions.Macroblocks at) e = detail_told (nat_lt at (length (current_list old).entries)) (detail_text what.Macroblocks old.tables (current_list old) at) e
 question_told old (questions.Header at) e = detail_told (nat_lt at (length (current_list old).entries)) (detail_text what.Header old.tables (current_list old) at) e
@@ -234,13 +234,13 @@ question_told old (questions.Origins first count) e = lines_told refusals.NoSuch
 question_told old (questions.List first count) e = lines_told refusals.Place (λ h. cc) (nat_lt (length (current_list old).entries) first) (lines_from (current_list old) first count) e
 
 -- an answer to one line, other than `refused NoMemory`, and the state after it
-pub record HasAnswer (old : Now) (line : Line) : Type 0 where
+pub record HasAnswer (old : SessionState) (line : Line) : Type 0 where
   pub answer : Answer
-  pub new : Now
+  pub new : SessionState
   pub means : Answers old line answer new
   pub enough : answer.reply ≡ refused_line refusals.NoMemory → ⊥
 
-answered : (old : Now) (line : Line) → line ≢ requests.Lost → HasAnswer old line
+answered : (old : SessionState) (line : Line) → line ≢ requests.Lost → HasAnswer old line
 answered old requests.Silent held = record { answer = reply_only []; new = old; means = (refl, refl); enough = λ e. cc }
 answered old requests.Unknown held = record {
   answer = reply_only (refused_line refusals.Line);
@@ -278,13 +278,13 @@ answered old (requests.Ask question) held = record { answer = reply_only (answer
 answered old requests.Lost held = absurd (held refl)
 
 -- answers to lines, none of which is `refused NoMemory`
-pub record HaveAnswers (old : Now) (lines : List Line) : Type 0 where
+pub record HaveAnswers (old : SessionState) (lines : List Line) : Type 0 where
   pub answers : List Answer
-  pub new : Now
-  pub run : Run old lines answers new
+  pub new : SessionState
+  pub run : AnswersEach old lines answers new
   pub enough : HaveMemory answers
 
-pub all_answered : (old : Now) (lines : List Line) → All (λ line. line ≢ requests.Lost) lines → HaveAnswers old lines
+pub all_answered : (old : SessionState) (lines : List Line) → All (λ line. line ≢ requests.Lost) lines → HaveAnswers old lines
 all_answered old [] held = record { answers = []; new = old; run = refl; enough = tt }
 all_answered old (line ∷ lines) held =
     let first = answered old line (All-head (λ line. line ≢ requests.Lost) line lines held) in
@@ -296,5 +296,5 @@ all_answered old (line ∷ lines) held =
       enough = (first.enough, rest.enough);
     }
 
-pub meaning_exists : (old : Now) (lines : List Line) → All (λ line. line ≢ requests.Lost) lines → (answers : List Answer) × (new : Now) × Run old lines answers new × HaveMemory answers
+pub meaning_exists : (old : SessionState) (lines : List Line) → All (λ line. line ≢ requests.Lost) lines → (answers : List Answer) × (new : SessionState) × AnswersEach old lines answers new × HaveMemory answers
 meaning_exists old lines held = let all = all_answered old lines held in (all.answers, all.new, all.run, all.enough)

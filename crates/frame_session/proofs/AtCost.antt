@@ -21,7 +21,7 @@ use Rattle.frame_session.specs.Questions.{GainsAnswer, answer_to}
 use Rattle.frame_session.specs.Replies.{refused_line, edit_line, served_line}
 use Rattle.frame_session.specs.Sessions.{IsAfterFrame, choice_answer, current_list, now_after_choice, now_after_edit, now_after_script, frame_of, head_due, script_answer, size_given}
 use Rattle.frame_session.specs.Cached.{FrameCosts, SessionValue, begun, needs_picture, packet_of_frame}
-use Rattle.frame_session.specs.Answers.{Answer, Answers, AreIvfs, Runs, Serves, answer_to_frame, opening, reply_only, requests_of}
+use Rattle.frame_session.specs.Answers.{Answer, Answers, AreIvfs, WritesAnswers, WritesAnswer, answer_to_frame, opening, reply_only, requests_of}
 use Rattle.frame_session.specs.LineCosts.{AnswersAtCost, EditCosts, LineCosts, MeansAtCost, RunCosts, RunsAtCost}
 use Rattle.frame_session.proofs.Served.{frame_same, size_same}
 
@@ -37,7 +37,7 @@ costs_alike (Some packet) old new a b same costs =
     record { reached = costs.reached; costs = costs.costs; walks = costs.walks; others = costs.others; is_needed = λ needed. costs.is_needed (sym same ∙ needed) }
 
 -- the answer of a line that was answered at its cost
-abbrev pub serves_of : {A E : Type 0} (old : SessionValue) (line : Line) (f f' r r' : Option (List ℕ)) (told : A) (new : SessionValue) → AnswersAtCost {A = A} {E = E} old line f f' r r' (Ok told) new → Serves old.now line f f' r r' new.now
+abbrev pub serves_of : {A E : Type 0} (old : SessionValue) (line : Line) (f f' r r' : Option (List ℕ)) (told : A) (new : SessionValue) → AnswersAtCost {A = A} {E = E} old line f f' r r' (Ok told) new → WritesAnswer old.now line f f' r r' new.now
 serves_of old line f f' r r' told new at_cost = record { answer = at_cost.answer; means = at_cost.means; shown = at_cost.shown; said = at_cost.said }
 
 -- a line that was answered, whether or not its reply was flushed
@@ -116,7 +116,7 @@ costs_append old mid new (l ∷ ls) ls' [] ys ran ran' = absurd ran
 costs_append old mid new (l ∷ ls) ls' (x ∷ xs) ys ran ran' = (ran.0, ran.1, ran.2, costs_append ran.0 mid new ls ls' xs ys ran.3 ran')
 
 -- if no line is left, all are done
-pub all_at_cost : (old new : SessionValue) (done : List Line) (left : List (List ℕ)) (all : List Line) (f f' r r' : Option (List ℕ)) → left ≡ [] → done ++ map asked_by left ≡ all → (ran : Runs old.now done f f' r r' new.now) → RunCosts old done ran.answers new → RunsAtCost old all f f' r r' new
+pub all_at_cost : (old new : SessionValue) (done : List Line) (left : List (List ℕ)) (all : List Line) (f f' r r' : Option (List ℕ)) → left ≡ [] → done ++ map asked_by left ≡ all → (ran : WritesAnswers old.now done f f' r r' new.now) → RunCosts old done ran.answers new → RunsAtCost old all f f' r r' new
 all_at_cost old new done left all f f' r r' none whole ran costs =
     let same : done ≡ all = sym (append-nil done) ∙ ap (λ (ls : List (List ℕ)). done ++ map asked_by ls) (sym none) ∙ whole in
     subst (λ (ls : List Line). RunsAtCost old ls f f' r r' new) same (record { runs = ran; costs = costs })

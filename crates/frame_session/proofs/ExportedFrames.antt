@@ -36,7 +36,7 @@ use Rattle.lossless_cuts.specs.Limits.{IsTooLarge}
 use Rattle.frame_session.specs.Edits.{list_at}
 use Rattle.frame_session.specs.IsOrNoMemory.{IsOrNoMemory, MayRunOutOfMemory}
 use Rattle.frame_session.specs.Exported.{AreTargets, CanExport, HasTarget, HaveTargets, IsChanged, IsExport, IsFrame, IsFrameFault, IsNotExported, IsPackingFault, IsTarget, ScriptsAreExported, source_picture, streams_in, unsized}
-use Rattle.frame_session.specs.Sessions.{Now, fitted, frame_count, frame_from, frame_made, frame_of, outcome_of, picture_from, shown_counts}
+use Rattle.frame_session.specs.Sessions.{SessionState, fitted, frame_count, frame_from, frame_made, frame_of, outcome_of, picture_from, shown_counts}
 use Rattle.frame_session.specs.Cached.{lists_of}
 use Rattle.packet_edits.specs.Marks.{StoreValue}
 use Rattle.packet_edits.specs.Laws.{IsShownList}
@@ -129,9 +129,9 @@ steps_kept (step ∷ steps) picture shown keeps shows =
 shows_itself : (picture : PictureSamples) → Shows picture (shown_in picture)
 shows_itself picture = record { wide = refl; high = refl; each = λ component x y less below. refl }
 
-pub is_frame : (now : Now) (n : ℕ) (target : Target) (picture : PictureSamples) → IsTarget now n target picture → IsFrame now n picture
+pub is_frame : (now : SessionState) (n : ℕ) (target : Target) (picture : PictureSamples) → IsTarget now n target picture → IsFrame now n picture
 is_frame now n target picture t =
-    let free : Now = record now { size = None } in
+    let free : SessionState = record now { size = None } in
     let stream : List (List ℕ) = stream_of (list_at now.lists target.source) in
     let keeps : list_all (keeps_samples picture.width picture.height) t.from.steps ≡ true =
     ap (λ (w : ℕ). list_all (keeps_samples w picture.height) t.from.steps) t.decoded.wide ∙ ap (λ (h : ℕ). list_all (keeps_samples target.width h) t.from.steps) t.decoded.high ∙ t.keeps in
@@ -151,14 +151,14 @@ stream_listed [] source = refl
 stream_listed (list ∷ lists) zero = refl
 stream_listed (list ∷ lists) (suc source) = stream_listed lists source
 
-are_decoded : (now : Now) (n : ℕ) (targets : List Target) (pictures : List PictureSamples) → AreTargets now n targets pictures → AreDecoded now.tables (streams_in now) targets pictures
+are_decoded : (now : SessionState) (n : ℕ) (targets : List Target) (pictures : List PictureSamples) → AreTargets now n targets pictures → AreDecoded now.tables (streams_in now) targets pictures
 are_decoded now n [] [] t = tt
 are_decoded now n [] (picture ∷ pictures) t = absurd t
 are_decoded now n (target ∷ targets) [] t = absurd t
 are_decoded now n (target ∷ targets) (picture ∷ pictures) t =
     (subst (λ (packets : List (List ℕ)). IsDecoded now.tables packets target picture) (sym (stream_listed now.lists target.source)) t.0.decoded, are_decoded now (n + 1) targets pictures t.1)
 
-are_frames : (now : Now) (n : ℕ) (targets : List Target) (pictures : List PictureSamples) → AreTargets now n targets pictures → (k : ℕ) (picture : PictureSamples) → slice_get pictures k ≡ Some picture → IsFrame now (n + k) picture
+are_frames : (now : SessionState) (n : ℕ) (targets : List Target) (pictures : List PictureSamples) → AreTargets now n targets pictures → (k : ℕ) (picture : PictureSamples) → slice_get pictures k ≡ Some picture → IsFrame now (n + k) picture
 are_frames now n [] [] t k picture found = cc
 are_frames now n [] (first ∷ pictures) t k picture found = absurd t
 are_frames now n (target ∷ targets) [] t k picture found = absurd t
@@ -170,7 +170,7 @@ are_frames now n (target ∷ targets) (first ∷ pictures) t (suc k) picture fou
     let moved : n + 1 + k ≡ n + suc k = omega arith in
     subst (λ (m : ℕ). IsFrame now m picture) moved (are_frames now (n + 1) targets pictures t.1 k picture found)
 
-same_count : (now : Now) (n : ℕ) (targets : List Target) (pictures : List PictureSamples) → AreTargets now n targets pictures → length pictures ≡ length targets
+same_count : (now : SessionState) (n : ℕ) (targets : List Target) (pictures : List PictureSamples) → AreTargets now n targets pictures → length pictures ≡ length targets
 same_count now n [] [] t = refl
 same_count now n [] (picture ∷ pictures) t = absurd t
 same_count now n (target ∷ targets) [] t = absurd t
@@ -188,26 +188,26 @@ scripts_are_exported tables law now targets pictures same t count =
 
 -- ---- targets, one after another
 
-pub have_more : (now : Now) (n : ℕ) (targets : List Target) (target : Target) → HaveTargets now n targets → HasTarget now (n + length targets) target → HaveTargets now n (targets ++ target ∷ [])
+pub have_more : (now : SessionState) (n : ℕ) (targets : List Target) (target : Target) → HaveTargets now n targets → HasTarget now (n + length targets) target → HaveTargets now n (targets ++ target ∷ [])
 have_more now n [] target have has = (let here : n + 0 ≡ n = omega arith in subst (λ (m : ℕ). HasTarget now m target) here has, tt)
 have_more now n (first ∷ targets) target have has =
     let moved : n + suc (length targets) ≡ n + 1 + length targets = omega arith in
     (have.0, have_more now (n + 1) targets target have.1 (subst (λ (m : ℕ). HasTarget now m target) moved has))
 
-pub pictures_of : (now : Now) (n : ℕ) (targets : List Target) → HaveTargets now n targets → (pictures : List PictureSamples) × AreTargets now n targets pictures
+pub pictures_of : (now : SessionState) (n : ℕ) (targets : List Target) → HaveTargets now n targets → (pictures : List PictureSamples) × AreTargets now n targets pictures
 pictures_of now n [] have = ([], tt)
 pictures_of now n (target ∷ targets) have =
     let rest = pictures_of now (n + 1) targets have.1 in
     (have.0.0 ∷ rest.0, (have.0.1, rest.1))
 
 -- the number of steps made does not matter
-pub target_kept : (now : Now) (decoded n : ℕ) (target : Target) → HasTarget (record now { decoded = decoded }) n target → HasTarget now n target
+pub target_kept : (now : SessionState) (decoded n : ℕ) (target : Target) → HasTarget (record now { decoded = decoded }) n target → HasTarget now n target
 target_kept now decoded n target has =
     let t = has.1 in
     (has.0, record { from = t.from; traces = t.traces; source = t.source; place = t.place; keeps = t.keeps; decoded = t.decoded })
 
-pub target_before : (now mid : Now) (n : ℕ) (target : Target) → mid ≡ record now { decoded = mid.decoded } → HasTarget mid n target → HasTarget now n target
-target_before now mid n target same has = target_kept now mid.decoded n target (subst (λ (m : Now). HasTarget m n target) same has)
+pub target_before : (now mid : SessionState) (n : ℕ) (target : Target) → mid ≡ record now { decoded = mid.decoded } → HasTarget mid n target → HasTarget now n target
+target_before now mid n target same has = target_kept now mid.decoded n target (subst (λ (m : SessionState). HasTarget m n target) same has)
 
 picture_got : (source : ℕ) (o : Option Outcome) (picture : PictureSamples) → picture_from source o ≡ Ok picture → (state : State) × (o ≡ Some (Ok (state, picture)))
 picture_got source None picture is = cc
@@ -217,7 +217,7 @@ picture_got source (Some (Ok d)) picture is =
     (d.0, ap (λ (p : PictureSamples). let o : Option Outcome = Some (Ok (d.0, p)) in o) same)
 
 -- the target of a frame, from what is found of it
-pub target_is : (now : Now) (n source frame : ℕ) (target : Target) (steps : List Step) (picture : PictureSamples) → IsShownList → traced (shown_counts now) now.script n ≡ Some (origin_of source frame steps) → target.source ≡ source
+pub target_is : (now : SessionState) (n source frame : ℕ) (target : Target) (steps : List Step) (picture : PictureSamples) → IsShownList → traced (shown_counts now) now.script n ≡ Some (origin_of source frame steps) → target.source ≡ source
     → slice_get (shown_indexes (stream_of (list_at now.lists source))) frame ≡ Some target.place → picture_from source (slice_get (outcomes now.tables (stream_of (list_at now.lists source))) target.place) ≡ Ok picture
     → list_all (keeps_samples target.width target.height) steps ≡ true → picture.width ≡ target.width → picture.height ≡ target.height → HasBytes picture → HasTarget now n target
 target_is now n source frame target steps picture listed traces same place got keeps wide high bytes =
@@ -237,12 +237,12 @@ target_is now n source frame target steps picture listed traces same place got k
     )
 
 -- the packets of all targets
-pub export_is : (tables : Tables) (old new : Now) (targets : List Target) (packets : List (List ℕ)) → ExportsShowTheirFrames tables → old.tables ≡ tables → new ≡ record old { decoded = new.decoded } → HaveTargets old 0 targets → length targets ≡ frame_count old
+pub export_is : (tables : Tables) (old new : SessionState) (targets : List Target) (packets : List (List ℕ)) → ExportsShowTheirFrames tables → old.tables ≡ tables → new ≡ record old { decoded = new.decoded } → HaveTargets old 0 targets → length targets ≡ frame_count old
     → packets ≡ exported new.tables (streams_in new) None targets → IsExport old packets
 export_is tables old new targets packets law same after have count is =
     let shown = pictures_of old 0 targets have in
     let whole : IsExport old (exported old.tables (streams_in old) None targets) = scripts_are_exported tables law old targets shown.0 same shown.1 count in
-    let first : packets ≡ exported old.tables (streams_in old) None targets = is ∙ ap (λ (m : Now). exported m.tables (streams_in m) None targets) after in
+    let first : packets ≡ exported old.tables (streams_in old) None targets = is ∙ ap (λ (m : SessionState). exported m.tables (streams_in m) None targets) after in
     subst (λ (ps : List (List ℕ)). IsExport old ps) (sym first) whole
 
 -- the packets of all stores
@@ -256,8 +256,8 @@ stamped_length stamp units [] = refl
 stamped_length stamp units (packet ∷ packets) = ap suc (stamped_length (stamp_after stamp packet (units_first units)) (units_after packet units) packets)
 
 -- only the number of steps made changes
-pub steps_only : (old mid new : Now) → mid ≡ record old { decoded = mid.decoded } → new ≡ record mid { decoded = new.decoded } → new ≡ record old { decoded = new.decoded }
-steps_only old mid new first second = second ∙ ap (λ (m : Now). let n : Now = record m { decoded = new.decoded } in n) first
+pub steps_only : (old mid new : SessionState) → mid ≡ record old { decoded = mid.decoded } → new ≡ record mid { decoded = new.decoded } → new ≡ record old { decoded = new.decoded }
+steps_only old mid new first second = second ∙ ap (λ (m : SessionState). let n : SessionState = record m { decoded = new.decoded } in n) first
 
 -- ---- why a frame is not exported
 
@@ -300,11 +300,11 @@ none_changes law counts nodes n source frame steps size script from none =
     subst (λ (ss : List Step). list_all (keeps_samples size.0 size.1) ss ≡ true) same (none_changed (node_steps counts nodes n) size (no_first (changed_nodes size (node_steps counts nodes n)) none))
 
 -- a frame, by the picture of its packet
-pub frame_is : (now : Now) (n source frame place : ℕ) (steps : List Step) (o : Result PictureSamples Refusal) → traced (shown_counts now) now.script n ≡ Some (origin_of source frame steps) → slice_get (shown_indexes (stream_of (list_at now.lists source))) frame ≡ Some place
+pub frame_is : (now : SessionState) (n source frame place : ℕ) (steps : List Step) (o : Result PictureSamples Refusal) → traced (shown_counts now) now.script n ≡ Some (origin_of source frame steps) → slice_get (shown_indexes (stream_of (list_at now.lists source))) frame ≡ Some place
     → picture_from source (slice_get (outcomes now.tables (stream_of (list_at now.lists source))) place) ≡ o → (source_picture now (traced (shown_counts now) now.script n) ≡ o) × (frame_of (unsized now) n ≡ frame_made None steps o)
 frame_is now n source frame place steps o from at decoded =
     let stream : List (List ℕ) = stream_of (list_at now.lists source) in
-    let free : Now = unsized now in
+    let free : SessionState = unsized now in
     let out : outcome_of now source frame ≡ slice_get (outcomes now.tables stream) place = ap (λ (s : Option ℕ). option_and_then (λ (i : ℕ). slice_get (outcomes now.tables stream) i) s) at in
     let is : picture_from source (outcome_of now source frame) ≡ o = ap (picture_from source) out ∙ decoded in
     (ap (source_picture now) from ∙ is, ap (frame_from free) from ∙ ap (frame_made None steps) is)
@@ -318,7 +318,7 @@ cut_off : (o : Option Shown) → is_some o ≡ false → fitted None o ≡ Err r
 cut_off None none = refl
 cut_off (Some shown) none = cc
 
-pub frame_cut_off : (now : Now) (n : ℕ) (steps : List Step) (picture : PictureSamples) → frame_of (unsized now) n ≡ frame_made None steps (Ok picture) → is_some (steps_shown steps (shown_in picture)) ≡ false → IsOrNoMemory (frame_of (unsized now) n) (Err refusals.CropOutside)
+pub frame_cut_off : (now : SessionState) (n : ℕ) (steps : List Step) (picture : PictureSamples) → frame_of (unsized now) n ≡ frame_made None steps (Ok picture) → is_some (steps_shown steps (shown_in picture)) ≡ false → IsOrNoMemory (frame_of (unsized now) n) (Err refusals.CropOutside)
 frame_cut_off now n steps picture is none = is ∙ cut_off (steps_shown steps (shown_in picture)) none
 
 may_fit : (o : Option Shown) → MayRunOutOfMemory (fitted None o)
@@ -334,57 +334,57 @@ made_refused steps (Err first) _ why = ap (frame_made None steps) why
 made_refused steps (Ok picture) refusals.NoMemory why = may_fit (steps_shown steps (shown_in picture))
 made_refused steps (Ok picture) _ why = cc
 
-pub frame_refused : (now : Now) (n : ℕ) (steps : List Step) (o : Result PictureSamples Refusal) (refusal : Refusal) → frame_of (unsized now) n ≡ frame_made None steps o → IsOrNoMemory o (Err refusal) → IsOrNoMemory (frame_of (unsized now) n) (Err refusal)
+pub frame_refused : (now : SessionState) (n : ℕ) (steps : List Step) (o : Result PictureSamples Refusal) (refusal : Refusal) → frame_of (unsized now) n ≡ frame_made None steps o → IsOrNoMemory o (Err refusal) → IsOrNoMemory (frame_of (unsized now) n) (Err refusal)
 frame_refused now n steps o refusal is why = subst (λ (made : Result Shown Refusal). IsOrNoMemory made (Err refusal)) (sym is) (made_refused steps o refusal why)
 
-pub frame_changed : (now : Now) (n node : ℕ) (steps : List Step) (picture : PictureSamples) → source_picture now (traced (shown_counts now) now.script n) ≡ Ok picture → frame_of (unsized now) n ≡ frame_made None steps (Ok picture) → is_some (steps_shown steps (shown_in picture)) ≡ true
+pub frame_changed : (now : SessionState) (n node : ℕ) (steps : List Step) (picture : PictureSamples) → source_picture now (traced (shown_counts now) now.script n) ≡ Ok picture → frame_of (unsized now) n ≡ frame_made None steps (Ok picture) → is_some (steps_shown steps (shown_in picture)) ≡ true
     → slice_get (changed_nodes (picture.width, picture.height) (node_steps (shown_counts now) now.script n)) 0 ≡ Some node → IsChanged now n node
 frame_changed now n node steps picture decoded is some first =
     let shown = served_shown (steps_shown steps (shown_in picture)) some in
     record { shown = shown.0; served = is ∙ shown.1; picture = picture; decoded = decoded; first = first }
 
-pub changed_if : (now : Now) (n : ℕ) (o : Option ℕ) (steps : List Step) (picture : PictureSamples) → source_picture now (traced (shown_counts now) now.script n) ≡ Ok picture → frame_of (unsized now) n ≡ frame_made None steps (Ok picture) → is_some (steps_shown steps (shown_in picture)) ≡ true
+pub changed_if : (now : SessionState) (n : ℕ) (o : Option ℕ) (steps : List Step) (picture : PictureSamples) → source_picture now (traced (shown_counts now) now.script n) ≡ Ok picture → frame_of (unsized now) n ≡ frame_made None steps (Ok picture) → is_some (steps_shown steps (shown_in picture)) ≡ true
     → o ≡ slice_get (changed_nodes (picture.width, picture.height) (node_steps (shown_counts now) now.script n)) 0 → IfSome o (IsChanged now n)
 changed_if now n None steps picture decoded is some first = tt
 changed_if now n (Some node) steps picture decoded is some first = frame_changed now n node steps picture decoded is some (sym first)
 
 -- ---- the first fault
 
-changed_kept : (now : Now) (decoded n node : ℕ) → IsChanged (record now { decoded = decoded }) n node → IsChanged now n node
+changed_kept : (now : SessionState) (decoded n node : ℕ) → IsChanged (record now { decoded = decoded }) n node → IsChanged now n node
 changed_kept now decoded n node c = record { shown = c.shown; served = c.served; picture = c.picture; decoded = c.decoded; first = c.first }
 
-pub frame_fault : (now mid : Now) (n : ℕ) (fault : ExportFault) → mid ≡ record now { decoded = mid.decoded } → n < frame_count now → CanExport now n → IsFrameFault mid n fault → IsNotExported now fault
+pub frame_fault : (now mid : SessionState) (n : ℕ) (fault : ExportFault) → mid ≡ record now { decoded = mid.decoded } → n < frame_count now → CanExport now n → IsFrameFault mid n fault → IsNotExported now fault
 frame_fault now mid n (Frame frame refusal) same less can why =
-    let here = subst (λ (m : Now). IsFrameFault m n (Frame frame refusal)) same why in (
+    let here = subst (λ (m : SessionState). IsFrameFault m n (Frame frame refusal)) same why in (
       subst (λ (k : ℕ). k < frame_count now) (sym here.0) less,
       subst (λ (k : ℕ). CanExport now k) (sym here.0) can,
       subst (λ (k : ℕ). IsOrNoMemory (frame_of (unsized now) k) (Err refusal)) (sym here.0) here.1,
     )
 frame_fault now mid n (Changed frame node) same less can why =
-    let here = subst (λ (m : Now). IsFrameFault m n (Changed frame node)) same why in (
+    let here = subst (λ (m : SessionState). IsFrameFault m n (Changed frame node)) same why in (
       subst (λ (k : ℕ). k < frame_count now) (sym here.0) less,
       subst (λ (k : ℕ). CanExport now k) (sym here.0) can,
       subst (λ (k : ℕ). IsChanged now k node) (sym here.0) (changed_kept now mid.decoded n node here.1),
     )
 frame_fault now mid n (Packets fault) same less can why = absurd why
 
-packing_why : (now : Now) (targets : List Target) (fault : CutFault) → HaveTargets now 0 targets → length targets ≡ frame_count now → IsPackingFault now targets (Packets fault) → IsNotExported now (Packets fault)
+packing_why : (now : SessionState) (targets : List Target) (fault : CutFault) → HaveTargets now 0 targets → length targets ≡ frame_count now → IsPackingFault now targets (Packets fault) → IsNotExported now (Packets fault)
 packing_why now targets cuts.Full have all why = inr (targets, have, all, why)
 packing_why now targets cuts.Place have all why = tt
 packing_why now targets cuts.Size have all why = tt
 packing_why now targets cuts.TooLarge have all why = tt
 packing_why now targets cuts.NoMemory have all why = tt
 
-pub packing_fault : (now new : Now) (targets : List Target) (fault : ExportFault) → new ≡ record now { decoded = new.decoded } → HaveTargets now 0 targets → length targets ≡ frame_count now → IsPackingFault new targets fault → IsNotExported now fault
+pub packing_fault : (now new : SessionState) (targets : List Target) (fault : ExportFault) → new ≡ record now { decoded = new.decoded } → HaveTargets now 0 targets → length targets ≡ frame_count now → IsPackingFault new targets fault → IsNotExported now fault
 packing_fault now new targets (Frame frame refusal) same have all why = absurd why
 packing_fault now new targets (Changed frame node) same have all why = absurd why
-packing_fault now new targets (Packets cuts.Full) same have all why = packing_why now targets cuts.Full have all (subst (λ (m : Now). IsPackingFault m targets (Packets cuts.Full)) same why)
+packing_fault now new targets (Packets cuts.Full) same have all why = packing_why now targets cuts.Full have all (subst (λ (m : SessionState). IsPackingFault m targets (Packets cuts.Full)) same why)
 packing_fault now new targets (Packets cuts.Place) same have all why = tt
 packing_fault now new targets (Packets cuts.Size) same have all why = tt
 packing_fault now new targets (Packets cuts.TooLarge) same have all why = tt
 packing_fault now new targets (Packets cuts.NoMemory) same have all why = tt
 
-pub packed_why : (now : Now) (targets : List Target) (fault : CutFault) → (fault ≡ cuts.Full → IsTooLarge (exported now.tables (streams_in now) None targets)) → IsPackingFault now targets (Packets fault)
+pub packed_why : (now : SessionState) (targets : List Target) (fault : CutFault) → (fault ≡ cuts.Full → IsTooLarge (exported now.tables (streams_in now) None targets)) → IsPackingFault now targets (Packets fault)
 packed_why now targets cuts.Full why = why refl
 packed_why now targets cuts.Place why = tt
 packed_why now targets cuts.Size why = tt

@@ -21,7 +21,7 @@ use Rattle.state_cache.specs.Walks.{IsWalk}
 use Rattle.frame_session.specs.Cached.{FrameCosts, LeavesOthers, SessionValue, packet_of_frame, store_at}
 use Rattle.frame_session.specs.IsOrNoMemory.{IsFrameOrNoMemory}
 use Rattle.frame_session.specs.Edits.{list_at}
-use Rattle.frame_session.specs.Sessions.{Now, fits, fitted, frame_from, frame_made, frame_of, outcome_of, picture_from, shown_counts, size_of}
+use Rattle.frame_session.specs.Sessions.{SessionState, fits, fitted, frame_from, frame_made, frame_of, outcome_of, picture_from, shown_counts, size_of}
 
 -- there are at most as many shown packets as packets
 few_from : (place : ℕ) (xs : List (List ℕ)) → length (shown_from place xs) ≤ length xs
@@ -49,7 +49,7 @@ fitted_given size (Some shown) made shows fit =
     let fit' : P shown.width shown.height = subst (λ h. P shown.width h) shows.high (subst (λ w. P w made.height) shows.wide fit) in
     (shown, chosen shown (fits size (size_of shown)) fit', shows)
 
-pub frame_given : (old : Now) (n : ℕ) (counts : List ℕ) (source frame place : ℕ) (steps : List Step) (picture made : PictureSamples) → counts ≡ shown_counts old → traced counts old.script n ≡ Some (origin_of source frame steps) → Some place ≡ slice_get (shown_indexes (stream_of (list_at old.lists source))) frame
+pub frame_given : (old : SessionState) (n : ℕ) (counts : List ℕ) (source frame place : ℕ) (steps : List Step) (picture made : PictureSamples) → counts ≡ shown_counts old → traced counts old.script n ≡ Some (origin_of source frame steps) → Some place ≡ slice_get (shown_indexes (stream_of (list_at old.lists source))) frame
     → picture_from source (slice_get (outcomes old.tables (stream_of (list_at old.lists source))) place) ≡ Ok picture → ShowsMade (steps_shown steps (shown_in picture)) made → fits old.size (record { width = made.width; height = made.height }) ≡ true → IsWholePicture made → IsFrameOrNoMemory (frame_of old n) (Ok made)
 frame_given old n counts source frame place steps picture made same from at decoded shows fit whole =
     let stream = stream_of (list_at old.lists source) in

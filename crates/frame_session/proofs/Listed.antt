@@ -13,7 +13,7 @@ use Rattle.packet_lists.specs.Lines.{first_record, lines_from, lines_of}
 use Rattle.frame_session.specs.Origins.{origin_line, origins_answer}
 use Rattle.frame_session.specs.Questions.{list_answer}
 use Rattle.frame_session.specs.Replies.{lines_line}
-use Rattle.frame_session.specs.Sessions.{Now, frame_count}
+use Rattle.frame_session.specs.Sessions.{SessionState, frame_count}
 
 -- as many lines follow an index as packets
 rest_counted : (list : Listing) (first : ℕ) → length (drop first (lines_of list)) ≡ length list.entries - first
@@ -32,14 +32,14 @@ list_replied list first count cut within is =
     rw past (ap (λ (n : ℕ). lines_line n ++ concat (lines_from list first count)) many ∙ ap (λ (lines : List (List ℕ)). lines_line cut ++ concat lines) (sym same))
 
 -- one more line of a frame
-pub origins_more : (now : Now) (first n at : ℕ) → first + n ≡ at
+pub origins_more : (now : SessionState) (first n at : ℕ) → first + n ≡ at
     → concat (map (origin_line now) (range_with_len first (n + 1))) ≡ concat (map (origin_line now) (range_with_len first n)) ++ origin_line now at
 origins_more now first n at e =
     ap concat (map-range_with_len_more (origin_line now) first n at e) ∙ concat-append (map (origin_line now) (range_with_len first n)) (origin_line now at ∷ [])
     ∙ ap (λ (t : List ℕ). concat (map (origin_line now) (range_with_len first n)) ++ t) (append-nil (origin_line now at))
 
 -- the reply to `origins`: its first line, and this many lines
-pub origins_replied : (now : Now) (first count cut : ℕ) → first ≤ frame_count now → cut ≡ min count (frame_count now - first)
+pub origins_replied : (now : SessionState) (first count cut : ℕ) → first ≤ frame_count now → cut ≡ min count (frame_count now - first)
     → origins_answer now first count ≡ lines_line cut ++ concat (map (origin_line now) (range_with_len first cut))
 origins_replied now first count cut within is =
     let past : nat_lt (frame_count now) first ≡ false = search (rules, tests) in

@@ -12,11 +12,11 @@ use Rattle.stream_files.specs.declared.ivf.Ivf.{Ivf}
 use Rattle.request_lines.specs.declared.lines.Line.{Line}
 use Rattle.frame_session.specs.declared.live.LiveFault.{LiveFault}
 use Rattle.frame_session.specs.declared.live.LiveFault.TheVariants as faults
-use Rattle.frame_session.specs.Sessions.{Now}
+use Rattle.frame_session.specs.Sessions.{SessionState}
 use Rattle.frame_session.specs.Cached.{SessionValue, begun}
 use Rattle.frame_session.specs.LineCosts.{LineCosts, LiveMeansAtCost}
 use Rattle.frame_session.proofs.AtCost.{costs_append}
-use Rattle.frame_session.specs.Answers.{Answer, AreIvfs, Run, Runs, Serves, Stops, WritesFrameFirst, frames_of, replies_of}
+use Rattle.frame_session.specs.Answers.{Answer, AreIvfs, AnswersEach, WritesAnswers, WritesAnswer, WritesUntilError, WritesFrameFirst, frames_of, replies_of}
 use Rattle.frame_session.specs.Live.{AnswersText, AreAsked, CutsOff, IsAsked, IsCutOff, LiveEnds, LiveRefuses, longest_line}
 use Rattle.frame_session.specs.declared.live.LineRead.{LineRead}
 use Rattle.frame_session.specs.LiveSteps.{IsRead, IsShort, MayFollow, ReadsLine, RunsText}
@@ -24,14 +24,14 @@ use Rattle.frame_session.proofs.Served.{runs_more, runs_none}
 use Rattle.frame_session.proofs.LiveReads.{at_end}
 use Rattle.frame_session.proofs.LiveLines.{IsOnly, asked-append, count-append, ends-append, newline_ends, only_before_newline, only_last, only_short, short-append}
 
-pub run_append : (old mid new : Now) (ls ls' : List Line) (xs ys : List Answer) → Run old ls xs mid → Run mid ls' ys new → Run old (ls ++ ls') (xs ++ ys) new
-run_append old mid new [] ls' [] ys same ran = subst (λ now. Run now ls' ys new) same ran
+pub run_append : (old mid new : SessionState) (ls ls' : List Line) (xs ys : List Answer) → AnswersEach old ls xs mid → AnswersEach mid ls' ys new → AnswersEach old (ls ++ ls') (xs ++ ys) new
+run_append old mid new [] ls' [] ys same ran = subst (λ now. AnswersEach now ls' ys new) same ran
 run_append old mid new [] ls' (x ∷ xs) ys ran ran' = absurd ran
 run_append old mid new (l ∷ ls) ls' [] ys ran ran' = absurd ran
 run_append old mid new (l ∷ ls) ls' (x ∷ xs) ys ran ran' = (ran.0, ran.1, run_append ran.0 mid new ls ls' xs ys ran.2 ran')
 
 -- lines, and lines after them
-abbrev pub runs_append : (old mid new : Now) (ls ls' : List Line) (f f' f'' r r' r'' : Option (List ℕ)) → Runs old ls f f' r r' mid → Runs mid ls' f' f'' r' r'' new → Runs old (ls ++ ls') f f'' r r'' new
+abbrev pub runs_append : (old mid new : SessionState) (ls ls' : List Line) (f f' f'' r r' r'' : Option (List ℕ)) → WritesAnswers old ls f f' r r' mid → WritesAnswers mid ls' f' f'' r' r'' new → WritesAnswers old (ls ++ ls') f f'' r r'' new
 runs_append old mid new ls ls' f f' f'' r r' r'' ran more = record {
   answers = ran.answers ++ more.answers;
   means = run_append old mid new ls ls' ran.answers more.answers ran.means more.means;
@@ -40,8 +40,8 @@ runs_append old mid new ls ls' f f' f'' r r' r'' ran more = record {
 }
 
 -- lines, and then lines that a writer's error stops at their last one
-module _ (old mid : Now) (ls ls' : List Line) (f f' f'' r r' r'' : Option (List ℕ)) (ran : Runs old ls f f' r r' mid) (s : Stops mid ls' f' f'' r' r'') where
-  abbrev stops_append : Stops old (ls ++ ls') f f'' r r''
+module _ (old mid : SessionState) (ls ls' : List Line) (f f' f'' r r' r'' : Option (List ℕ)) (ran : WritesAnswers old ls f f' r r' mid) (s : WritesUntilError mid ls' f' f'' r' r'') where
+  abbrev stops_append : WritesUntilError old (ls ++ ls') f f'' r r''
   stops_append = record {
     done = ls ++ s.done;
     line = s.line;
@@ -56,11 +56,11 @@ module _ (old mid : Now) (ls ls' : List Line) (f f' f'' r r' r'' : Option (List 
   }
 
 -- a text of no lines
-abbrev no_text : (old : Now) (f r : Option (List ℕ)) → AnswersText old [] f f r r old
+abbrev no_text : (old : SessionState) (f r : Option (List ℕ)) → AnswersText old [] f f r r old
 no_text old f r = record { short = All-nil (λ line. length line ≤ longest_line); requests = []; asked = tt; runs = runs_none old f r }
 
 -- the lines of a text, and of a text after it
-abbrev text_append : (old mid new : Now) (whole text : List ℕ) (f f' f'' r r' r'' : Option (List ℕ)) → IsEmptyOrEndsWith whole 10 → AnswersText old whole f f' r r' mid → AnswersText mid text f' f'' r' r'' new → AnswersText old (whole ++ text) f f'' r r'' new
+abbrev text_append : (old mid new : SessionState) (whole text : List ℕ) (f f' f'' r r' r'' : Option (List ℕ)) → IsEmptyOrEndsWith whole 10 → AnswersText old whole f f' r r' mid → AnswersText mid text f' f'' r' r'' new → AnswersText old (whole ++ text) f f'' r r'' new
 text_append old mid new whole text f f' f'' r r' r'' ends x y = record {
   short = short-append whole text ends x.short y.short;
   requests = x.requests ++ y.requests;
@@ -69,11 +69,11 @@ text_append old mid new whole text f f' f'' r r' r'' ends x y = record {
 }
 
 -- the only line of a text was answered, or a writer refused its answer
-module _ (old new : Now) (text line : List ℕ) (is : IsOnly text line) (request : Line) (asked : IsAsked line request) (f f' r r' : Option (List ℕ)) where
+module _ (old new : SessionState) (text line : List ℕ) (is : IsOnly text line) (request : Line) (asked : IsAsked line request) (f f' r r' : Option (List ℕ)) where
   all_asked : AreAsked (lines text) (request ∷ [])
   all_asked = subst (λ ls. AreAsked ls (request ∷ [])) (sym is.one) (asked, tt)
 
-  abbrev only_answered : Serves old request f f' r r' new → AnswersText old text f f' r r' new
+  abbrev only_answered : WritesAnswer old request f f' r r' new → AnswersText old text f f' r r' new
   only_answered served = record {
     short = only_short text line is;
     requests = request ∷ [];
@@ -93,7 +93,7 @@ module _ (old new : Now) (text line : List ℕ) (is : IsOnly text line) (request
 
 -- the next line was read
 module _ (old new : SessionValue) (a b f f' r r' : Option (List ℕ)) (line : List ℕ) (short : IsShort line) (request : Line) where
-  pub line_answered : Consumes a b (line ++ 10 ∷ []) → IsAsked (strip_carriage_return line) request → (served : Serves old.now request f f' r r' new.now) → LineCosts old request served.answer new → RunsText 1 old new a b f f' r r' true
+  pub line_answered : Consumes a b (line ++ 10 ∷ []) → IsAsked (strip_carriage_return line) request → (served : WritesAnswer old.now request f f' r r' new.now) → LineCosts old request served.answer new → RunsText 1 old new a b f f' r r' true
   line_answered taken asked served costs =
       let only = only_before_newline line short in
       record {
@@ -105,7 +105,7 @@ module _ (old new : SessionValue) (a b f f' r r' : Option (List ℕ)) (line : Li
         costs = (new, served.means, costs, refl);
       }
 
-  pub last_answered : Consumes a b line → OnSome a (IsAtEnd b) → 0 < length line → IsAsked line request → (served : Serves old.now request f f' r r' new.now) → LineCosts old request served.answer new → RunsText 0 old new a b f f' r r' false
+  pub last_answered : Consumes a b line → OnSome a (IsAtEnd b) → 0 < length line → IsAsked line request → (served : WritesAnswer old.now request f f' r r' new.now) → LineCosts old request served.answer new → RunsText 0 old new a b f f' r r' false
   last_answered taken end some asked served costs = record {
     text = line;
     taken = taken;
@@ -138,7 +138,7 @@ module _ (old new : SessionValue) (a b f f' r r' : Option (List ℕ)) (read : Li
       by_length [] e = absurd (some (is.length ∙ ap length e))
       by_length (x ∷ xs) e = omega (arith, ap length e)
 
-  pub read_answered : (t : Bool) → ReadsLine a b read (Ok t) → (t ≡ false → read.length ≡ 0 → ⊥) → IsRequest t → (served : Serves old.now request f f' r r' new.now) → LineCosts old request served.answer new → RunsText (cond t 1 0) old new a b f f' r r' t
+  pub read_answered : (t : Bool) → ReadsLine a b read (Ok t) → (t ≡ false → read.length ≡ 0 → ⊥) → IsRequest t → (served : WritesAnswer old.now request f f' r r' new.now) → LineCosts old request served.answer new → RunsText (cond t 1 0) old new a b f f' r r' t
   read_answered true x some asked served costs = line_answered old new a b f f' r r' x.0 x.2 request x.3 (asked x.0 x.1) served costs
   read_answered false x some asked served costs = last_answered old new a b f f' r r' x.0 x.2 request x.3 x.4 (some_bytes x.0 x.1 (some refl)) (asked x.0 x.1) served costs
 
@@ -238,7 +238,7 @@ ends_endless n old mid a b f f' r r' most x = record {
   answers = x.answers;
 }
 
-module _ (old : Now) (a b f r : Option (List ℕ)) (part : List ℕ) (taken : Consumes a b part) where
+module _ (old : SessionState) (a b f r : Option (List ℕ)) (part : List ℕ) (taken : Consumes a b part) where
   cut_first : (fault : LiveFault) → IsCutOff [] part fault → CutsOff old a b f f r r fault
   cut_first fault cut = record {
     text = [];

@@ -11,7 +11,7 @@ use Rattle.packet_edits.specs.Shown.{shown_indexes, stream_of}
 use Rattle.request_lines.specs.declared.edit.Edit.{Edit}
 use Rattle.frame_session.specs.declared.refusal.Refusal.{Refusal}
 use Rattle.frame_session.specs.Edits.{after_edit, edited, list_at}
-use Rattle.frame_session.specs.Sessions.{Now, list_of_file, now_after_edit}
+use Rattle.frame_session.specs.Sessions.{SessionState, list_of_file, now_after_edit}
 use Rattle.frame_session.specs.Cached.{lists_of, marks_after, marks_edited, shown_counts_of, store_at, store_of_file, store_copied, store_edited, stores_after}
 
 -- the packets of one source after those of one were replaced
@@ -65,7 +65,7 @@ lists_after tables current edit stores count =
     lists_of_set stores current _ ∙ ap (λ (l : Listing). slice_set (lists_of stores) current (edited tables (lists_of stores) edit l)) (sym (list_of_store stores current))
 
 -- the state after an edit
-pub edit_leaves : (old : Now) (stores made : List StoreValue) (edit : Edit (List ℕ)) (answer : Result ℕ Refusal) → made ≡ stores_after old.tables old.current edit stores answer → record old { lists = lists_of made } ≡ now_after_edit edit (record old { lists = lists_of stores }) answer
+pub edit_leaves : (old : SessionState) (stores made : List StoreValue) (edit : Edit (List ℕ)) (answer : Result ℕ Refusal) → made ≡ stores_after old.tables old.current edit stores answer → record old { lists = lists_of made } ≡ now_after_edit edit (record old { lists = lists_of stores }) answer
 edit_leaves old stores made edit (Ok count) is = ap (λ (l : List Listing). record old { lists = l }) (ap lists_of is ∙ lists_after old.tables old.current edit stores count)
 edit_leaves old stores made edit (Err refusal) is = ap (λ (l : List StoreValue). record old { lists = lists_of l }) is
 

@@ -24,7 +24,7 @@ use Rattle.frame_session.specs.Edits.{WrittenAnswers}
 use Rattle.frame_session.specs.Frames.{shown_text}
 use Rattle.frame_session.specs.Questions.{AnswersQuestion}
 use Rattle.frame_session.specs.Replies.{refused_line, served_line, edit_line, count_line, stats_line}
-use Rattle.frame_session.specs.Sessions.{IsAfterFrame, Now, choice_answer, current_list, now_after_choice, now_after_edit, now_after_script, frame_count, frame_of, head_due, packet_count, script_answer, size_served, start}
+use Rattle.frame_session.specs.Sessions.{IsAfterFrame, SessionState, choice_answer, current_list, now_after_choice, now_after_edit, now_after_script, frame_count, frame_of, head_due, packet_count, script_answer, size_served, start}
 
 -- the requests of a text, line by line
 abbrev pub requests_of : List ℕ → List Line
@@ -45,22 +45,22 @@ opening None width height = []
 opening (Some head) width height = y4m_line width height head.rate head.scale
 
 -- the answer to a request for frame n
-abbrev pub answer_to_frame : Now → ℕ → Result Shown Refusal → Answer
+abbrev pub answer_to_frame : SessionState → ℕ → Result Shown Refusal → Answer
 answer_to_frame now n (Ok shown) = record { reply = served_line n; frames = opening (head_due now) shown.width shown.height ++ shown_text shown }
 answer_to_frame now n (Err refusal) = reply_only (refused_line refusal)
 
 -- an edit and its result, with the answer and the new state
-abbrev pub AnswersEdit : Now → Edit (List ℕ) → Result ℕ Refusal → Answer → Now → Type 0
+abbrev pub AnswersEdit : SessionState → Edit (List ℕ) → Result ℕ Refusal → Answer → SessionState → Type 0
 AnswersEdit old edit edited answer new = (answer ≡ reply_only (edit_line edited)) × (new ≡ now_after_edit edit old edited)
 
 -- a script and its result, with the answer and the new state
-abbrev pub AnswersScript : Now → List ℕ → Result ℕ Refusal → Answer → Now → Type 0
+abbrev pub AnswersScript : SessionState → List ℕ → Result ℕ Refusal → Answer → SessionState → Type 0
 AnswersScript old text set answer new = (answer ≡ reply_only (edit_line set)) × (new ≡ now_after_script text old set)
 
 -- a line, an answer that it may have, and the state after it; a frame, a script, an edit other than a deletion and a move, and a question about
 -- macroblocks or a header may be out of memory.
 -- A question leaves the state as it is
-abbrev pub Answers : Now → Line → Answer → Now → Type 0
+abbrev pub Answers : SessionState → Line → Answer → SessionState → Type 0
 Answers old requests.Silent answer new = (answer ≡ reply_only []) × (new ≡ old)
 Answers old requests.Unknown answer new = (answer ≡ reply_only (refused_line refusals.Line)) × (new ≡ old)
 Answers old (requests.Frame n) answer new =
@@ -76,11 +76,11 @@ Answers old (requests.Ask question) answer new = (reply : List ℕ) × AnswersQu
 Answers old requests.Lost answer new = (answer ≡ reply_only (refused_line refusals.NoMemory)) × (new ≡ old)
 
 -- lines in sequence, answers that they may have, and the state after them
-abbrev pub Run : Now → List Line → List Answer → Now → Type 0
-Run old [] [] new = new ≡ old
-Run old (line ∷ lines) (answer ∷ answers) new = (mid : Now) × Answers old line answer mid × Run mid lines answers new
-Run old [] (answer ∷ answers) new = ⊥
-Run old (line ∷ lines) [] new = ⊥
+abbrev pub AnswersEach : SessionState → List Line → List Answer → SessionState → Type 0
+AnswersEach old [] [] new = new ≡ old
+AnswersEach old (line ∷ lines) (answer ∷ answers) new = (mid : SessionState) × Answers old line answer mid × AnswersEach mid lines answers new
+AnswersEach old [] (answer ∷ answers) new = ⊥
+AnswersEach old (line ∷ lines) [] new = ⊥
 
 -- all replies, and all bytes of frames
 abbrev pub replies_of : List Answer → List ℕ
@@ -90,35 +90,35 @@ abbrev pub frames_of : List Answer → List ℕ
 frames_of answers = flat_map (λ answer. answer.frames) answers
 
 -- between two moments a line was answered, and the two writers gained the answer
-pub record Serves (old : Now) (line : Line) (frames frames' replies replies' : Option (List ℕ)) (new : Now) : Type 0 where
+pub record WritesAnswer (old : SessionState) (line : Line) (frames frames' replies replies' : Option (List ℕ)) (new : SessionState) : Type 0 where
   pub answer : Answer
   pub means : Answers old line answer new
   pub shown : Appends frames frames' answer.frames
   pub said : Appends replies replies' answer.reply
 
 -- between two moments these lines were answered, and the two writers gained the answers
-pub record Runs (old : Now) (lines : List Line) (frames frames' replies replies' : Option (List ℕ)) (new : Now) : Type 0 where
+pub record WritesAnswers (old : SessionState) (lines : List Line) (frames frames' replies replies' : Option (List ℕ)) (new : SessionState) : Type 0 where
   pub answers : List Answer
-  pub means : Run old lines answers new
+  pub means : AnswersEach old lines answers new
   pub shown : Appends frames frames' (frames_of answers)
   pub said : Appends replies replies' (replies_of answers)
 
 -- between two moments a line was answered, at least up to its reply: no byte of the reply was written, or all bytes of its frame
 -- were (the reply is left open: `None`)
-abbrev pub WritesFrameFirst : (old : Now) → (line : Line) → (frames frames' replies replies' : Option (List ℕ)) → (new : Now) → Type 0
-WritesFrameFirst old line frames frames' replies replies' new = Keeps replies replies' ⊎ Serves old line frames frames' None None new
+abbrev pub WritesFrameFirst : (old : SessionState) → (line : Line) → (frames frames' replies replies' : Option (List ℕ)) → (new : SessionState) → Type 0
+WritesFrameFirst old line frames frames' replies replies' new = Keeps replies replies' ⊎ WritesAnswer old line frames frames' None None new
 
 -- between two moments these lines were answered up to a writer's error: the lines before one in whole, and that one at least up to its reply
-pub record Stops (old : Now) (lines : List Line) (frames frames' replies replies' : Option (List ℕ)) : Type 0 where
+pub record WritesUntilError (old : SessionState) (lines : List Line) (frames frames' replies replies' : Option (List ℕ)) : Type 0 where
   pub done : List Line
   pub line : Line
   pub rest : List Line
   pub whole : done ++ line ∷ rest ≡ lines
-  pub mid : Now
+  pub mid : SessionState
   pub frames_mid : Option (List ℕ)
   pub replies_mid : Option (List ℕ)
-  pub ran : Runs old done frames frames_mid replies replies_mid mid
-  pub new : Now
+  pub ran : WritesAnswers old done frames frames_mid replies replies_mid mid
+  pub new : SessionState
   pub frame_first : WritesFrameFirst mid line frames_mid frames' replies_mid replies' new
 
 -- the bytes of the sources
@@ -133,10 +133,10 @@ AreIvfs [] (file ∷ files) = ⊥
 AreIvfs (bytes ∷ more) [] = ⊥
 
 -- the requests of this text were answered over the files of these bytes
-pub record Means (tables : Tables) (sources : List (List ℕ)) (requests : List ℕ) (frames frames' replies replies' : Option (List ℕ)) (end : Now) : Type 0 where
+pub record Means (tables : Tables) (sources : List (List ℕ)) (requests : List ℕ) (frames frames' replies replies' : Option (List ℕ)) (end : SessionState) : Type 0 where
   pub files : List Ivf
   pub are : AreIvfs sources files
-  pub runs : Runs (start tables files) (requests_of requests) frames frames' replies replies' end
+  pub runs : WritesAnswers (start tables files) (requests_of requests) frames frames' replies replies' end
 
 -- the error of reading a source is exactly the error of reading its bytes, and each source before it is a file
 pub record SourceRefuses (sources : List (List ℕ)) (source : ℕ) (fault : IvfFault) : Type 0 where
@@ -153,4 +153,4 @@ abbrev pub RunStops : Tables → (sources : List (List ℕ)) → (requests : Lis
 RunStops tables sources requests frames frames' replies replies' (faults.Ivf source fault) = SourceRefuses sources source fault × Keeps frames frames' × Keeps replies replies'
 RunStops tables sources requests frames frames' replies replies' faults.NoMemory = (files : List Ivf) × AreIvfs sources files × Keeps frames frames' × Keeps replies replies'
 RunStops tables sources requests frames frames' replies replies' faults.Write =
-    (files : List Ivf) × AreIvfs sources files × Stops (start tables files) (requests_of requests) frames frames' replies replies'
+    (files : List Ivf) × AreIvfs sources files × WritesUntilError (start tables files) (requests_of requests) frames frames' replies replies'

@@ -17,7 +17,7 @@ use Rattle.request_lines.specs.declared.edit.Edit.TheVariants.{Insert, Replace, 
 use Rattle.frame_session.specs.declared.refusal.Refusal.{Refusal}
 use Rattle.frame_session.specs.declared.refusal.Refusal.TheVariants as refusals
 use Rattle.frame_session.specs.Edits.{edited, list_at}
-use Rattle.frame_session.specs.Sessions.{Now, list_of_file, shown_counts, start}
+use Rattle.frame_session.specs.Sessions.{SessionState, list_of_file, shown_counts, start}
 
 -- the packets of a source with their marks; a source that does not exist has no packets
 abbrev pub store_at : List StoreValue → ℕ → StoreValue
@@ -30,7 +30,7 @@ lists_of stores = map (λ store. store.list) stores
 -- a session: the state that its answers depend on, the packets of each source with their marks, and its cache. The lists of the
 -- stores are those of the state
 pub record SessionValue : Type 0 where
-  pub now : Now
+  pub now : SessionState
   pub stores : List StoreValue
   pub cache : CacheValue
 
@@ -64,7 +64,7 @@ abbrev pub shown_counts_of : List StoreValue → List ℕ
 shown_counts_of stores = map (λ store. length (shown_indexes (stream_of store.list))) stores
 
 -- the packet that frame n comes from, if there is such a frame: its source, and its index
-abbrev pub packet_of_frame : Now → ℕ → Option (ℕ × ℕ)
+abbrev pub packet_of_frame : SessionState → ℕ → Option (ℕ × ℕ)
 packet_of_frame now n =
     option_and_then (λ origin. option_map (λ place. (origin.source, place)) (slice_get (shown_indexes (stream_of (list_at now.lists origin.source))) origin.frame))
     (traced (shown_counts now) now.script n)

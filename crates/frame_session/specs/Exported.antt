@@ -23,14 +23,14 @@ use Rattle.frame_session.specs.declared.refusal.Refusal.{Refusal}
 use Rattle.frame_session.specs.declared.refusal.Refusal.TheVariants as refusals
 use Rattle.frame_session.specs.Edits.{list_at}
 use Rattle.frame_session.specs.IsOrNoMemory.{IsOrNoMemory}
-use Rattle.frame_session.specs.Sessions.{Now, frame_count, frame_of, outcome_of, picture_from, shown_counts}
+use Rattle.frame_session.specs.Sessions.{SessionState, frame_count, frame_of, outcome_of, picture_from, shown_counts}
 
 -- the packets of each source
-abbrev pub streams_in : Now → List (List (List ℕ))
+abbrev pub streams_in : SessionState → List (List (List ℕ))
 streams_in now = map stream_of now.lists
 
 -- frame n of the script comes from this packet, which decoding accepts with this picture, and no step changes a sample of it
-pub record IsTarget (now : Now) (n : ℕ) (target : Target) (picture : PictureSamples) : Type 0 where
+pub record IsTarget (now : SessionState) (n : ℕ) (target : Target) (picture : PictureSamples) : Type 0 where
   pub from : Origin
   pub traces : traced (shown_counts now) now.script n ≡ Some from
   pub source : from.source ≡ target.source
@@ -39,23 +39,23 @@ pub record IsTarget (now : Now) (n : ℕ) (target : Target) (picture : PictureSa
   pub decoded : IsDecoded now.tables (stream_of (list_at now.lists target.source)) target picture
 
 -- consecutive frames, the first of which is frame n
-abbrev pub AreTargets : Now → ℕ → List Target → List PictureSamples → Type 0
+abbrev pub AreTargets : SessionState → ℕ → List Target → List PictureSamples → Type 0
 AreTargets now n [] [] = Unit {0}
 AreTargets now n (target ∷ targets) (picture ∷ pictures) = IsTarget now n target picture × AreTargets now (n + 1) targets pictures
 AreTargets now n [] (picture ∷ pictures) = ⊥
 AreTargets now n (target ∷ targets) [] = ⊥
 
 -- the session as if no frame was served: frames of any size are
-abbrev pub unsized : Now → Now
+abbrev pub unsized : SessionState → SessionState
 unsized now = record now { size = None }
 
 -- a picture shows frame n of the session, whatever size was served before
-abbrev pub IsFrame : Now → ℕ → PictureSamples → Type 0
+abbrev pub IsFrame : SessionState → ℕ → PictureSamples → Type 0
 IsFrame now n picture = (shown : Shown) × (frame_of (unsized now) n ≡ Ok shown) × Shows picture shown
 
 -- packets that show exactly the frames of a session: decoding refuses none of them, they have as many shown frames, and frame n of
 -- them is frame n of the session, the same size and the same samples
-pub record IsExport (now : Now) (packets : List (List ℕ)) : Type 0 where
+pub record IsExport (now : SessionState) (packets : List (List ℕ)) : Type 0 where
   pub pictures : List PictureSamples
   pub shows : ShowsExactly now.tables packets pictures
   pub count : length pictures ≡ frame_count now
@@ -64,19 +64,19 @@ pub record IsExport (now : Now) (packets : List (List ℕ)) : Type 0 where
 -- the packets of all frames do so
 abbrev pub ScriptsAreExported : Tables → Type 0
 ScriptsAreExported tables =
-    (now : Now) (targets : List Target) (pictures : List PictureSamples) → now.tables ≡ tables → AreTargets now 0 targets pictures → length targets ≡ frame_count now
+    (now : SessionState) (targets : List Target) (pictures : List PictureSamples) → now.tables ≡ tables → AreTargets now 0 targets pictures → length targets ≡ frame_count now
     → IsExport now (exported now.tables (streams_in now) None targets)
 
 -- frame n can be exported from this packet, whatever its picture is; and so can consecutive frames, the first of which is frame n
-abbrev pub HasTarget : Now → ℕ → Target → Type 0
+abbrev pub HasTarget : SessionState → ℕ → Target → Type 0
 HasTarget now n target = (picture : PictureSamples) × IsTarget now n target picture
 
-abbrev pub HaveTargets : Now → ℕ → List Target → Type 0
+abbrev pub HaveTargets : SessionState → ℕ → List Target → Type 0
 HaveTargets now n [] = Unit {0}
 HaveTargets now n (target ∷ targets) = HasTarget now n target × HaveTargets now (n + 1) targets
 
 -- how long the packet of a frame is shown, in the units of the head of source 0
-abbrev pub units_at : Now → Target → ℕ
+abbrev pub units_at : SessionState → Target → ℕ
 units_at now target = option_map_or (λ entry. units_in now.head entry.duration) (slice_get (list_at now.lists target.source).entries target.place) 0
 
 -- the rate and scale of a head, and the size of the first frame, 0x0 if there is none
@@ -85,7 +85,7 @@ export_head head [] = record head { width = 0; height = 0 }
 export_head head (target ∷ targets) = record head { width = target.width; height = target.height }
 
 -- a file that shows exactly the frames of a session, each as long as its packet is shown
-pub record IsExportFile (now : Now) (file : Export) : Type 0 where
+pub record IsExportFile (now : SessionState) (file : Export) : Type 0 where
   pub packets : List (List ℕ)
   pub shows : IsExport now packets
   pub targets : List Target
@@ -95,12 +95,12 @@ pub record IsExportFile (now : Now) (file : Export) : Type 0 where
   pub head : file.head ≡ export_head now.head targets
 
 -- the picture of the packet from which a frame with this origin comes, before the steps of the script
-abbrev pub source_picture : Now → Option Origin → Result PictureSamples Refusal
+abbrev pub source_picture : SessionState → Option Origin → Result PictureSamples Refusal
 source_picture now None = Err refusals.NoSuchFrame
 source_picture now (Some from) = picture_from from.source (outcome_of now from.source from.frame)
 
 -- frame n can be served, but the script changes samples of it: this is the number of the first node that does
-pub record IsChanged (now : Now) (n node : ℕ) : Type 0 where
+pub record IsChanged (now : SessionState) (n node : ℕ) : Type 0 where
   pub shown : Shown
   pub served : frame_of (unsized now) n ≡ Ok shown
   pub picture : PictureSamples
@@ -108,29 +108,29 @@ pub record IsChanged (now : Now) (n node : ℕ) : Type 0 where
   pub first : slice_get (changed_nodes (picture.width, picture.height) (node_steps (shown_counts now) now.script n)) 0 ≡ Some node
 
 -- why frame n is not exported
-abbrev pub IsFrameFault : Now → ℕ → ExportFault → Type 0
+abbrev pub IsFrameFault : SessionState → ℕ → ExportFault → Type 0
 IsFrameFault now n (Frame frame refusal) = (frame ≡ n) × IsOrNoMemory (frame_of (unsized now) n) (Err refusal)
 IsFrameFault now n (Changed frame node) = (frame ≡ n) × IsChanged now n node
 IsFrameFault now n (Packets fault) = ⊥
 
 -- why the packets of frames with these targets are not written
-abbrev pub IsPackingFault : Now → List Target → ExportFault → Type 0
+abbrev pub IsPackingFault : SessionState → List Target → ExportFault → Type 0
 IsPackingFault now targets (Packets cuts.Full) = IsTooLarge (exported now.tables (streams_in now) None targets)
 IsPackingFault now targets (Packets fault) = Unit {0}
 IsPackingFault now targets _ = ⊥
 
 -- the first frames, this many, can be exported
-abbrev pub CanExport : Now → ℕ → Type 0
+abbrev pub CanExport : SessionState → ℕ → Type 0
 CanExport now count = (targets : List Target) × HaveTargets now 0 targets × (length targets ≡ count)
 
 -- the packets of all frames would be too many, or too many bytes; each frame has a packet of its own
-abbrev pub IsTooLargeExport : Now → Type 0
+abbrev pub IsTooLargeExport : SessionState → Type 0
 IsTooLargeExport now =
     (1048576 < frame_count now)
     ⊎ ((targets : List Target) × HaveTargets now 0 targets × (length targets ≡ frame_count now) × IsTooLarge (exported now.tables (streams_in now) None targets))
 
 -- why the frames of a session are not exported: all frames before the one that is reported can be
-abbrev pub IsNotExported : Now → ExportFault → Type 0
+abbrev pub IsNotExported : SessionState → ExportFault → Type 0
 IsNotExported now (Frame frame refusal) = (frame < frame_count now) × CanExport now frame × IsOrNoMemory (frame_of (unsized now) frame) (Err refusal)
 IsNotExported now (Changed frame node) = (frame < frame_count now) × CanExport now frame × IsChanged now frame node
 IsNotExported now (Packets cuts.Full) = IsTooLargeExport now

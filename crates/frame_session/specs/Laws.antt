@@ -6,8 +6,8 @@ use Rattle.frame_session.specs.declared.refusal.Refusal.{Refusal}
 use Rattle.frame_session.specs.declared.refusal.Refusal.TheVariants as refusals
 use Rattle.frame_session.specs.Questions.{is_question}
 use Rattle.frame_session.specs.Replies.{refused_line, stats_line}
-use Rattle.frame_session.specs.Sessions.{Now}
-use Rattle.frame_session.specs.Answers.{Answer, Answers, Run, reply_only}
+use Rattle.frame_session.specs.Sessions.{SessionState}
+use Rattle.frame_session.specs.Answers.{Answer, Answers, AnswersEach, reply_only}
 
 -- no reply is `refused NoMemory`
 abbrev pub HaveMemory : List Answer → Type 0
@@ -27,22 +27,22 @@ AllAlike lines answers answers' = ⊥
 -- if no reply is `refused NoMemory`, the requests have one answer each except for the numbers that `stats` reports, and
 -- the states after them differ only in the number of steps
 abbrev pub AnswersAreOne : Type 0
-AnswersAreOne = (old new new' : Now) (lines : List Line) (answers answers' : List Answer) → Run old lines answers new → Run old lines answers' new'
+AnswersAreOne = (old new new' : SessionState) (lines : List Line) (answers answers' : List Answer) → AnswersEach old lines answers new → AnswersEach old lines answers' new'
     → HaveMemory answers → HaveMemory answers' → AllAlike lines answers answers' × (new' ≡ record new { decoded = new'.decoded })
 
 -- the number that `stats` reports never falls
 abbrev pub StepsNeverFall : Type 0
-StepsNeverFall = (old new : Now) (lines : List Line) (answers : List Answer) → Run old lines answers new → old.decoded ≤ new.decoded
+StepsNeverFall = (old new : SessionState) (lines : List Line) (answers : List Answer) → AnswersEach old lines answers new → old.decoded ≤ new.decoded
 
 -- a refused line changes only the number of steps: neither packets nor ids nor the script nor the fixed size
 abbrev pub RefusedLinesChangeNothing : Type 0
-RefusedLinesChangeNothing = (old new : Now) (line : Line) (answer : Answer) (refusal : Refusal) → Answers old line answer new → answer.reply ≡ refused_line refusal
+RefusedLinesChangeNothing = (old new : SessionState) (line : Line) (answer : Answer) (refusal : Refusal) → Answers old line answer new → answer.reply ≡ refused_line refusal
     → new ≡ record old { decoded = new.decoded }
 
 -- in every session, each list of requests of which no line was lost has answers of which none is `refused NoMemory`
 abbrev pub AnswersExist : Type 0
-AnswersExist = (old : Now) (lines : List Line) → All (λ line. line ≢ Lost) lines → (answers : List Answer) × (new : Now) × Run old lines answers new × HaveMemory answers
+AnswersExist = (old : SessionState) (lines : List Line) → All (λ line. line ≢ Lost) lines → (answers : List Answer) × (new : SessionState) × AnswersEach old lines answers new × HaveMemory answers
 
 -- a question changes nothing, whatever its reply
 abbrev pub QuestionsChangeNothing : Type 0
-QuestionsChangeNothing = (old new : Now) (line : Line) (answer : Answer) → is_question line ≡ true → Answers old line answer new → new ≡ old
+QuestionsChangeNothing = (old new : SessionState) (line : Line) (answer : Answer) → is_question line ≡ true → Answers old line answer new → new ≡ old

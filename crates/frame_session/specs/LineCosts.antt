@@ -7,7 +7,7 @@ use Rattle.request_lines.specs.declared.edit.Edit.{Edit}
 use Rattle.request_lines.specs.declared.lines.Line.{Line}
 use Rattle.request_lines.specs.declared.lines.Line.TheVariants as requests
 use Rattle.frame_session.specs.declared.refusal.Refusal.{Refusal}
-use Rattle.frame_session.specs.Answers.{Answer, Answers, Means, Runs, answer_to_frame, reply_only, requests_of}
+use Rattle.frame_session.specs.Answers.{Answer, Answers, Means, WritesAnswers, answer_to_frame, reply_only, requests_of}
 use Rattle.frame_session.specs.Cached.{CacheWithout, FrameCosts, SessionValue, begun, id_removed, packet_of_frame, stores_after}
 use Rattle.frame_session.specs.Live.{LiveMeans}
 use Rattle.frame_session.specs.Replies.{edit_line}
@@ -48,7 +48,7 @@ RunCosts old (line ∷ lines) [] new = ⊥
 
 -- lines were answered, the writers gained the answers, and each line cost what it has to
 pub record RunsAtCost (old : SessionValue) (lines : List Line) (frames frames' replies replies' : Option (List ℕ)) (new : SessionValue) : Type 0 where
-  pub runs : Runs old.now lines frames frames' replies replies' new.now
+  pub runs : WritesAnswers old.now lines frames frames' replies replies' new.now
   pub costs : RunCosts old lines runs.answers new
 
 -- the requests of this text were answered over the files of these bytes, and each line cost what it has to

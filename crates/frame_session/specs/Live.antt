@@ -14,8 +14,8 @@ use Rattle.frame_session.specs.declared.live.LiveFault.{LiveFault}
 use Rattle.frame_session.specs.declared.live.LiveFault.TheVariants as faults
 use Rattle.frame_session.specs.declared.serving.RunFault.{RunFault}
 use Rattle.frame_session.specs.declared.serving.RunFault.TheVariants as runs
-use Rattle.frame_session.specs.Answers.{AreIvfs, Runs, SourceRefuses, Stops}
-use Rattle.frame_session.specs.Sessions.{Now, start}
+use Rattle.frame_session.specs.Answers.{AreIvfs, WritesAnswers, SourceRefuses, WritesUntilError}
+use Rattle.frame_session.specs.Sessions.{SessionState, start}
 
 -- the most bytes of a line, its newline not counted
 abbrev pub longest_line : ℕ
@@ -38,14 +38,14 @@ abbrev pub AreAsked : List (List ℕ) → List Line → Type 0
 AreAsked lines requests = AllZip IsAsked lines requests
 
 -- the lines of a text were answered, none of which is too long
-pub record AnswersText (old : Now) (text : List ℕ) (frames frames' replies replies' : Option (List ℕ)) (new : Now) : Type 0 where
+pub record AnswersText (old : SessionState) (text : List ℕ) (frames frames' replies replies' : Option (List ℕ)) (new : SessionState) : Type 0 where
   pub short : HasShortLines text
   pub requests : List Line
   pub asked : AreAsked (lines text) requests
-  pub runs : Runs old requests frames frames' replies replies' new
+  pub runs : WritesAnswers old requests frames frames' replies replies' new
 
 -- the reader gave a text, which is all that it had left, and the lines of the text were answered
-pub record LiveMeans (tables : Tables) (sources : List (List ℕ)) (left left' frames frames' replies replies' : Option (List ℕ)) (end : Now) : Type 0 where
+pub record LiveMeans (tables : Tables) (sources : List (List ℕ)) (left left' frames frames' replies replies' : Option (List ℕ)) (end : SessionState) : Type 0 where
   pub text : List ℕ
   pub taken : Consumes left left' text
   pub all : IfSome left (λ bytes. text ≡ bytes)
@@ -61,26 +61,26 @@ IsCutOff text part faults.Endless = (part ≡ []) × (2 ^ 64 - 1 ≤ length (lin
 IsCutOff text part fault = ⊥
 
 -- all lines that have a newline in the bytes that the reader gave were answered, and the next line was cut off
-pub record CutsOff (old : Now) (left left' frames frames' replies replies' : Option (List ℕ)) (fault : LiveFault) : Type 0 where
+pub record CutsOff (old : SessionState) (left left' frames frames' replies replies' : Option (List ℕ)) (fault : LiveFault) : Type 0 where
   pub text : List ℕ
   pub part : List ℕ
   pub taken : Consumes left left' (text ++ part)
   pub whole : IsEmptyOrEndsWith text 10
   pub cut_off : IsCutOff text part fault
-  pub new : Now
+  pub new : SessionState
   pub answers : AnswersText old text frames frames' replies replies' new
 
 -- a writer returned an error: no line was read after the one whose answer it refused
-pub record LiveRefuses (old : Now) (left left' frames frames' replies replies' : Option (List ℕ)) : Type 0 where
+pub record LiveRefuses (old : SessionState) (left left' frames frames' replies replies' : Option (List ℕ)) : Type 0 where
   pub text : List ℕ
   pub taken : Consumes left left' text
   pub requests : List Line
   pub asked : AreAsked (lines text) requests
-  pub stops : Stops old requests frames frames' replies replies'
+  pub stops : WritesUntilError old requests frames frames' replies replies'
   pub last : stops.rest ≡ []
 
 -- why the lines of a reader were not all answered
-abbrev pub LiveEnds : Now → (left left' frames frames' replies replies' : Option (List ℕ)) → LiveFault → Type 0
+abbrev pub LiveEnds : SessionState → (left left' frames frames' replies replies' : Option (List ℕ)) → LiveFault → Type 0
 LiveEnds old left left' frames frames' replies replies' faults.Write = LiveRefuses old left left' frames frames' replies replies'
 LiveEnds old left left' frames frames' replies replies' fault = CutsOff old left left' frames frames' replies replies' fault
 

@@ -15,7 +15,7 @@ use Rattle.request_lines.specs.declared.question.Question.TheVariants as questio
 use Rattle.frame_session.specs.declared.refusal.Refusal.TheVariants as refusals
 use Rattle.frame_session.specs.Origins.{origins_answer}
 use Rattle.frame_session.specs.Replies.{lines_reply, packet_line, refused_line, script_line, text_reply}
-use Rattle.frame_session.specs.Sessions.{Now, current_list}
+use Rattle.frame_session.specs.Sessions.{SessionState, current_list}
 
 -- the packet at an index of a list, if there is one
 abbrev pub packet_answer : Listing → ℕ → List ℕ
@@ -30,7 +30,7 @@ abbrev pub detail_answer : What → TableEntries → Listing → ℕ → List �
 detail_answer what tables list at = if nat_lt at (length list.entries) then text_reply (detail_text what tables list at) else refused_line refusals.Place
 
 -- the reply to a question
-abbrev pub answer_to : Now → Question → List ℕ
+abbrev pub answer_to : SessionState → Question → List ℕ
 answer_to now (questions.Packet at) = packet_answer (current_list now) at
 answer_to now (questions.Macroblocks at) = detail_answer what.Macroblocks now.tables (current_list now) at
 answer_to now (questions.Header at) = detail_answer what.Header now.tables (current_list now) at
@@ -45,11 +45,11 @@ takes_memory (questions.Header at) = true
 takes_memory question = false
 
 -- a reply that a question may have: the one to it, or that memory ran out for it
-abbrev pub AnswersQuestion : Now → Question → List ℕ → Type 0
+abbrev pub AnswersQuestion : SessionState → Question → List ℕ → Type 0
 AnswersQuestion now question reply = (reply ≡ answer_to now question) ⊎ ((takes_memory question ≡ true) × (reply ≡ refused_line refusals.NoMemory))
 
 -- the replies gained a reply that a question may have
-pub record GainsAnswer (now : Now) (question : Question) (replies replies' : Option (List ℕ)) : Type 0 where
+pub record GainsAnswer (now : SessionState) (question : Question) (replies replies' : Option (List ℕ)) : Type 0 where
   pub reply : List ℕ
   pub means : AnswersQuestion now question reply
   pub said : Appends replies replies' reply

@@ -25,7 +25,7 @@ use Rattle.frame_session.specs.Scripts.{script_reported}
 -- the state that answers depend on: the tables, the head of source 0, the packet list of each source, the current source, on
 -- which edits act, the script, the number of trailing bytes of all files, the size that the first frame served has fixed, and the
 -- number of steps made
-pub record Now : Type 0 where
+pub record SessionState : Type 0 where
   pub tables : Tables
   pub head : Head
   pub lists : List Listing
@@ -53,7 +53,7 @@ abbrev pub list_of_file : Ivf → Listing
 list_of_file file = starting_with (usual_of file.head file.packets) file.packets
 
 -- a new session over these files: one source for each
-abbrev pub start : Tables → List Ivf → Now
+abbrev pub start : Tables → List Ivf → SessionState
 start tables files = record {
   tables = tables;
   head = head_of_first files;
@@ -66,11 +66,11 @@ start tables files = record {
 }
 
 -- the packet list on which edits act
-abbrev pub current_list : Now → Listing
+abbrev pub current_list : SessionState → Listing
 current_list now = list_at now.lists now.current
 
 -- the head, as long as no frame was served: the line that opens the frames is still to be written with it
-abbrev pub head_due : Now → Option Head
+abbrev pub head_due : SessionState → Option Head
 head_due now = if is_none now.size then Some now.head else None
 
 -- the outcome of shown packet n of a list, if there is one
@@ -78,11 +78,11 @@ abbrev pub outcome_in : Tables → Listing → ℕ → Option Outcome
 outcome_in tables list n = option_and_then (λ place. slice_get (outcomes tables (stream_of list)) place) (slice_get (shown_indexes (stream_of list)) n)
 
 -- the outcome of shown packet n of a source, if there is one
-abbrev pub outcome_of : Now → ℕ → ℕ → Option Outcome
+abbrev pub outcome_of : SessionState → ℕ → ℕ → Option Outcome
 outcome_of now source n = outcome_in now.tables (list_at now.lists source) n
 
 -- the number of shown packets of each source, which is the number of its frames in a script
-abbrev pub shown_counts : Now → List ℕ
+abbrev pub shown_counts : SessionState → List ℕ
 shown_counts now = map (λ list. length (shown_indexes (stream_of list))) now.lists
 
 -- the picture of a packet, or the source, the packet and the cause that broke its stream
@@ -110,12 +110,12 @@ frame_made size steps (Err refusal) = Err refusal
 frame_made size steps (Ok picture) = fitted size (steps_shown steps (shown_in picture))
 
 -- the frame with this origin
-abbrev pub frame_from : Now → Option Origin → Result Shown Refusal
+abbrev pub frame_from : SessionState → Option Origin → Result Shown Refusal
 frame_from now None = Err refusals.NoSuchFrame
 frame_from now (Some from) = frame_made now.size from.steps (picture_from from.source (outcome_of now from.source from.frame))
 
 -- frame n of the current script over the current shown packets of the sources: its shown samples, or the first refusal
-abbrev pub frame_of : Now → ℕ → Result Shown Refusal
+abbrev pub frame_of : SessionState → ℕ → Result Shown Refusal
 frame_of now n = frame_from now (traced (shown_counts now) now.script n)
 
 -- the size of a frame that was served
@@ -129,45 +129,45 @@ size_given (Ok picture) = Some (size_of (shown_in picture))
 size_given (Err refusal) = None
 
 -- the first frame that is served fixes the size
-abbrev pub after_frame : Now → Option Size → Now
+abbrev pub after_frame : SessionState → Option Size → SessionState
 after_frame now None = now
 after_frame now (Some size) = record now { size = Some size }
 
 -- the state after a request for a frame, which may make any number of steps
-pub record IsAfterFrame (old : Now) (served : Option Size) (new : Now) : Type 0 where
+pub record IsAfterFrame (old : SessionState) (served : Option Size) (new : SessionState) : Type 0 where
   pub rest : new ≡ record (after_frame old served) { decoded = new.decoded }
   pub steps : old.decoded ≤ new.decoded
 
 -- an edit's result: the new number of packets of the current source, or the first refusal
-abbrev pub edit_answer : Now → Edit (List ℕ) → Result ℕ Refusal
+abbrev pub edit_answer : SessionState → Edit (List ℕ) → Result ℕ Refusal
 edit_answer now edit = edit_of now.tables now.lists (current_list now) edit
 
 -- the state after an edit with this result: the current source's list is the edited one; a refused edit changes nothing
-abbrev pub now_after_edit : Edit (List ℕ) → Now → Result ℕ Refusal → Now
+abbrev pub now_after_edit : Edit (List ℕ) → SessionState → Result ℕ Refusal → SessionState
 now_after_edit edit now (Ok count) = record now { lists = slice_set now.lists now.current (edited now.tables now.lists edit (current_list now)) }
 now_after_edit edit now (Err refusal) = now
 
 -- the result of choosing a source: the number of its packets, or that it does not exist
-abbrev pub choice_answer : Now → ℕ → Result ℕ Refusal
+abbrev pub choice_answer : SessionState → ℕ → Result ℕ Refusal
 choice_answer now source = if nat_lt source (length now.lists) then Ok (length (list_at now.lists source).entries) else Err refusals.Source
 
 -- the state after a source was chosen: edits act on it; a source that does not exist changes nothing
-abbrev pub now_after_choice : ℕ → Now → Now
+abbrev pub now_after_choice : ℕ → SessionState → SessionState
 now_after_choice source now = if nat_lt source (length now.lists) then record now { current = source } else now
 
 -- the result of a script: the number of packets of the current source, or the first error of its text
-abbrev pub script_answer : Now → List ℕ → Result ℕ Refusal
+abbrev pub script_answer : SessionState → List ℕ → Result ℕ Refusal
 script_answer now text = script_reported (length (current_list now).entries) (script_of (length now.lists) text)
 
 -- the state after a script with this result: a refused one leaves the one before
-abbrev pub now_after_script : List ℕ → Now → Result ℕ Refusal → Now
+abbrev pub now_after_script : List ℕ → SessionState → Result ℕ Refusal → SessionState
 now_after_script text now (Ok count) = record now { script = result_unwrap_or (script_of (length now.lists) text) [] }
 now_after_script text now (Err refusal) = now
 
 -- the number of packets of the current source
-abbrev pub packet_count : Now → ℕ
+abbrev pub packet_count : SessionState → ℕ
 packet_count now = length (current_list now).entries
 
 -- the number of frames that the script serves
-abbrev pub frame_count : Now → ℕ
+abbrev pub frame_count : SessionState → ℕ
 frame_count now = script_length (shown_counts now) now.script

@@ -8,7 +8,7 @@ use Rattle.script_nodes.specs.Shown.{steps_size}
 use Rattle.frame_session.specs.declared.refusal.Refusal.{Refusal}
 use Rattle.frame_session.specs.Edits.{list_at}
 use Rattle.frame_session.specs.Replies.{refused_line}
-use Rattle.frame_session.specs.Sessions.{Now, shown_counts}
+use Rattle.frame_session.specs.Sessions.{SessionState, shown_counts}
 
 -- the refusal is the one that the reply reports: the replies gained its line
 abbrev pub Tells : (replies replies' : Option (List ℕ)) → Option Refusal → Type 0
@@ -16,19 +16,19 @@ Tells replies replies' None = Unit {0}
 Tells replies replies' (Some refusal) = Appends replies replies' (refused_line refusal)
 
 -- the number of bytes of the packet at an index of a source, if there is one
-abbrev pub packet_len : Now → ℕ → ℕ → Option ℕ
+abbrev pub packet_len : SessionState → ℕ → ℕ → Option ℕ
 packet_len now source place = option_map length (slice_get (stream_of (list_at now.lists source)) place)
 
 -- the number of packets of a source; 0 if there is no such source
-abbrev pub packets_in : Now → ℕ → ℕ
+abbrev pub packets_in : SessionState → ℕ → ℕ
 packets_in now source = length (list_at now.lists source).entries
 
 -- the size of a frame with this origin: that of the last key packet up to its own, after the crops
-abbrev pub size_from : Now → Origin → Option (ℕ × ℕ)
+abbrev pub size_from : SessionState → Origin → Option (ℕ × ℕ)
 size_from now from =
     let list = list_at now.lists from.source in
     option_and_then (λ place. option_and_then (steps_size from.steps) (size_at (place + 1) list)) (slice_get (shown_indexes (stream_of list)) from.frame)
 
 -- the size of frame n of the current script, by the key packets and the crops
-abbrev pub stated_size : Now → ℕ → Option (ℕ × ℕ)
+abbrev pub stated_size : SessionState → ℕ → Option (ℕ × ℕ)
 stated_size now n = option_and_then (size_from now) (traced (shown_counts now) now.script n)

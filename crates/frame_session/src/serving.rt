@@ -8,7 +8,7 @@ ghost use Rattle.frame_session.specs.Sessions.{frame_count, packet_count};
 ghost use Rattle.request_lines.specs.Requests.{asked_by};
 ghost use Rattle.frame_session.specs.ProofsOnly.{IsSourceRefused};
 ghost use Rattle.frame_session.specs.Told.{Tells};
-ghost use Rattle.frame_session.specs.Answers.{AreIvfs, Means, RunStops, Runs, Serves, Stops, WritesFrameFirst, opening, requests_of, texts_of};
+ghost use Rattle.frame_session.specs.Answers.{AreIvfs, Means, RunStops, WritesAnswers, WritesAnswer, WritesUntilError, WritesFrameFirst, opening, requests_of, texts_of};
 ghost use Rattle.frame_session.specs.LineCosts.{AnswersAtCost, MeansAtCost, RunsAtCost};
 
 use crate::observer::{Observer, Unobserved};
@@ -137,7 +137,7 @@ fn serve_frame<F: Write, P: Write>(
     replies: &mut P,
     flushing: Flushing,
 ) -> Result<Option<Refusal>, WriteFault>
-    ensures serves { OnOk result (Serves session.old.now (Line.Frame n) (F.contents frames.old) (F.contents frames.new) (P.contents replies.old) (P.contents replies.new) session.new.now) }
+    ensures serves { OnOk result (WritesAnswer session.old.now (Line.Frame n) (F.contents frames.old) (F.contents frames.new) (P.contents replies.old) (P.contents replies.new) session.new.now) }
     ensures frame_first { WritesFrameFirst session.old.now (Line.Frame n) (F.contents frames.old) (F.contents frames.new) (P.contents replies.old) (P.contents replies.new) session.new.now }
     ensures costs { AnswersAtCost session.old (Line.Frame n) (F.contents frames.old) (F.contents frames.new) (P.contents replies.old) (P.contents replies.new) result session.new }
     ensures capacity { session.new.cache.capacity ≡ session.old.cache.capacity }
@@ -168,7 +168,7 @@ fn serve<F: Write, P: Write>(
     replies: &mut P,
     flushing: Flushing,
 ) -> Result<Option<Refusal>, WriteFault>
-    ensures serves { OnOk result (Serves session.old.now line.entry (F.contents frames.old) (F.contents frames.new) (P.contents replies.old) (P.contents replies.new) session.new.now) }
+    ensures serves { OnOk result (WritesAnswer session.old.now line.entry (F.contents frames.old) (F.contents frames.new) (P.contents replies.old) (P.contents replies.new) session.new.now) }
     ensures frame_first { WritesFrameFirst session.old.now line.entry (F.contents frames.old) (F.contents frames.new) (P.contents replies.old) (P.contents replies.new) session.new.now }
     ensures costs { AnswersAtCost session.old line.entry (F.contents frames.old) (F.contents frames.new) (P.contents replies.old) (P.contents replies.new) result session.new }
     ensures capacity { session.new.cache.capacity ≡ session.old.cache.capacity }
@@ -207,7 +207,7 @@ pub(crate) fn serve_line<F: Write, P: Write>(
     replies: &mut P,
     flushing: Flushing,
 ) -> Result<Option<Refusal>, WriteFault>
-    ensures serves { OnOk result (Serves session.old.now line.entry (F.contents frames.old) (F.contents frames.new) (P.contents replies.old) (P.contents replies.new) session.new.now) }
+    ensures serves { OnOk result (WritesAnswer session.old.now line.entry (F.contents frames.old) (F.contents frames.new) (P.contents replies.old) (P.contents replies.new) session.new.now) }
     ensures frame_first { WritesFrameFirst session.old.now line.entry (F.contents frames.old) (F.contents frames.new) (P.contents replies.old) (P.contents replies.new) session.new.now }
     ensures costs { AnswersAtCost session.old line.entry (F.contents frames.old) (F.contents frames.new) (P.contents replies.old) (P.contents replies.new) result session.new }
     ensures capacity { session.new.cache.capacity ≡ session.old.cache.capacity }
@@ -229,7 +229,7 @@ pub fn answer_line<F: Write, P: Write>(
     frames: &mut F,
     replies: &mut P,
 ) -> Result<Option<Refusal>, WriteFault>
-    ensures serves { OnOk result (Serves session.old.now (asked_by line.now) (F.contents frames.old) (F.contents frames.new) (P.contents replies.old) (P.contents replies.new) session.new.now) }
+    ensures serves { OnOk result (WritesAnswer session.old.now (asked_by line.now) (F.contents frames.old) (F.contents frames.new) (P.contents replies.old) (P.contents replies.new) session.new.now) }
     ensures frame_first { WritesFrameFirst session.old.now (asked_by line.now) (F.contents frames.old) (F.contents frames.new) (P.contents replies.old) (P.contents replies.new) session.new.now }
     ensures costs { AnswersAtCost session.old (asked_by line.now) (F.contents frames.old) (F.contents frames.new) (P.contents replies.old) (P.contents replies.new) result session.new }
     ensures capacity { session.new.cache.capacity ≡ session.old.cache.capacity }
@@ -248,8 +248,8 @@ pub(crate) fn serve_all<F: Write, P: Write, V: Observer>(
     flushing: Flushing,
     observer: &mut V,
 ) -> Result<(), WriteFault>
-    ensures runs { OnOk result (Runs session.old.now (requests_of requests.now) (F.contents frames.old) (F.contents frames.new) (P.contents replies.old) (P.contents replies.new) session.new.now) }
-    ensures stops { OnErr result (Stops session.old.now (requests_of requests.now) (F.contents frames.old) (F.contents frames.new) (P.contents replies.old) (P.contents replies.new)) }
+    ensures runs { OnOk result (WritesAnswers session.old.now (requests_of requests.now) (F.contents frames.old) (F.contents frames.new) (P.contents replies.old) (P.contents replies.new) session.new.now) }
+    ensures stops { OnErr result (WritesUntilError session.old.now (requests_of requests.now) (F.contents frames.old) (F.contents frames.new) (P.contents replies.old) (P.contents replies.new)) }
     ensures costs { OnOk result (RunsAtCost session.old (requests_of requests.now) (F.contents frames.old) (F.contents frames.new) (P.contents replies.old) (P.contents replies.new) session.new) }
     ensures capacity { session.new.cache.capacity ≡ session.old.cache.capacity }
 {

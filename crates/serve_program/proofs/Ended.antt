@@ -11,7 +11,7 @@ use Rattle.serve_arguments.specs.declared.fault.Fault.TheVariants.{CommandLine, 
 use Rattle.std.specs.Prelude.{IfSome, codes}
 use Rattle.vp8_tables.specs.Tables.{TableEntries}
 use Rattle.frame_session.specs.Answers.{RunStops}
-use Rattle.frame_session.specs.Sessions.{Now}
+use Rattle.frame_session.specs.Sessions.{SessionState}
 use Rattle.frame_session.specs.declared.serving.RunFault.{RunFault}
 use Rattle.frame_session.specs.declared.serving.RunFault.TheVariants as runs
 use Rattle.serve_program.specs.Endings.{AreReplied, AreStopped, IsBeforeOrAfter, IsEnded, IsExportFault, IsRefused, IsReplied, IsSaveFault, IsStopped, IsUnreplied, IsUnwritten, OverSources, fault_by_run}
@@ -42,7 +42,7 @@ pub unheld : (sources : List (List ℕ)) (stopped : Type 0) (r : Option (List �
 unheld sources stopped r fault is = rw is (Keeps-refl r)
 
 module _ (unnamed : List ℕ) (tables : Option (List ℕ)) (names : List (List ℕ)) (requests : List ℕ) where
-  module _ (left left' : Option (List ℕ)) (replies replies' : Option (List ℕ)) (Stopped : TableEntries → List (List ℕ) → Type 0) (Replied : Now → TableEntries → List (List ℕ) → Type 0) where
+  module _ (left left' : Option (List ℕ)) (replies replies' : Option (List ℕ)) (Stopped : TableEntries → List (List ℕ) → Type 0) (Replied : SessionState → TableEntries → List (List ℕ) → Type 0) where
     -- a file was not read
     pub unread_ended : (fault : FileFault) → replies' ≡ replies → Keeps replies replies' → IsInputFault tables names requests left left' fault → IsEnded unnamed tables names requests left left' replies replies' Stopped Replied (file_fault fault)
     unread_ended (files.CannotRead path) same kept why = (why, same)
@@ -79,7 +79,7 @@ module _ (unnamed : List ℕ) (tables : Option (List ℕ)) (names : List (List �
     memory_ended fault kept is = rw is (inl kept)
 
     -- all requests were answered, and the packets not saved, or the frames not exported
-    pub after_ended : (entries : TableEntries) (sources : List (List ℕ)) (end : Now) (fault : Fault) → AreNamed unnamed names sources → Replied end entries sources → IsSaveFault fault ⊎ IsExportFault end fault → IsEnded unnamed tables names requests left left' replies replies' Stopped Replied fault
+    pub after_ended : (entries : TableEntries) (sources : List (List ℕ)) (end : SessionState) (fault : Fault) → AreNamed unnamed names sources → Replied end entries sources → IsSaveFault fault ⊎ IsExportFault end fault → IsEnded unnamed tables names requests left left' replies replies' Stopped Replied fault
     after_ended entries sources end CommandLine named replied (inl why) = absurd why
     after_ended entries sources end CommandLine named replied (inr why) = absurd why
     after_ended entries sources end (NamedTwice same) named replied (inl why) = absurd why
@@ -105,6 +105,6 @@ module _ (unnamed : List ℕ) (tables : Option (List ℕ)) (names : List (List �
       unreplied_ended left left' replies replies' (AreStopped requests left replies replies') (AreReplied requests left replies replies') entries sources (IsStopped entries sources lines replies replies') fault named (λ stopped. inr (entries, sources, named, (lines, input, stopped))) why
 
   -- they were, and the packets were not saved, or the frames not exported
-  pub finish_ended : (left left' replies replies' : Option (List ℕ)) (entries : TableEntries) (sources : List (List ℕ)) (lines : List ℕ) (end : Now) (fault : Fault) → AreNamed unnamed names sources → (requests ≡ codes "-" → IfSome left (λ bytes. lines ≡ bytes)) → IsReplied entries sources lines replies replies' end → IsSaveFault fault ⊎ IsExportFault end fault → IsEnded unnamed tables names requests left left' replies replies' (AreStopped requests left replies replies') (AreReplied requests left replies replies') fault
+  pub finish_ended : (left left' replies replies' : Option (List ℕ)) (entries : TableEntries) (sources : List (List ℕ)) (lines : List ℕ) (end : SessionState) (fault : Fault) → AreNamed unnamed names sources → (requests ≡ codes "-" → IfSome left (λ bytes. lines ≡ bytes)) → IsReplied entries sources lines replies replies' end → IsSaveFault fault ⊎ IsExportFault end fault → IsEnded unnamed tables names requests left left' replies replies' (AreStopped requests left replies replies') (AreReplied requests left replies replies') fault
   finish_ended left left' replies replies' entries sources lines end fault named input replied why =
       after_ended left left' replies replies' (AreStopped requests left replies replies') (AreReplied requests left replies replies') entries sources end fault named (lines, input, replied) why

@@ -4,13 +4,13 @@ use Rattle.std.specs.Io.KnownBytes.{Keeps}
 use Rattle.std.proofs.KnownBytes.{Appends-kept}
 use Rattle.vp8_tables.specs.Tables.{TableEntries}
 use Rattle.frame_session.specs.Answers.{Means, frames_of, replies_of}
-use Rattle.frame_session.specs.Sessions.{Now}
+use Rattle.frame_session.specs.Sessions.{SessionState}
 use Rattle.serve_arguments.specs.declared.fault.Fault.{Fault}
 use Rattle.serve_arguments.specs.declared.fault.Fault.TheVariants.{CannotWrite}
 use Rattle.serve_program.specs.Endings.{IsRefused}
 
 -- the answers remain the same if the writers keep their bytes
-pub flushed : (tables : TableEntries) (sources : List (List ℕ)) (requests : List ℕ) (f f' f'' r r' r'' : Option (List ℕ)) (end : Now) → Means tables sources requests f f' r r' end → Keeps f' f'' → Keeps r' r'' → Means tables sources requests f f'' r r'' end
+pub flushed : (tables : TableEntries) (sources : List (List ℕ)) (requests : List ℕ) (f f' f'' r r' r'' : Option (List ℕ)) (end : SessionState) → Means tables sources requests f f' r r' end → Keeps f' f'' → Keeps r' r'' → Means tables sources requests f f'' r r'' end
 flushed tables sources requests f f' f'' r r' r'' end m kept kept' = record {
   files = m.files;
   are = m.are;
@@ -23,5 +23,5 @@ flushed tables sources requests f f' f'' r r' r'' end m kept kept' = record {
 }
 
 -- a writer was not flushed after all answers
-pub unflushed : (tables : TableEntries) (sources : List (List ℕ)) (requests : List ℕ) (f f' f'' r r' r'' : Option (List ℕ)) (end : Now) (fault : Fault) → fault ≡ CannotWrite → Means tables sources requests f f' r r' end → Keeps f' f'' → Keeps r' r'' → IsRefused tables sources requests f f'' r r'' fault
+pub unflushed : (tables : TableEntries) (sources : List (List ℕ)) (requests : List ℕ) (f f' f'' r r' r'' : Option (List ℕ)) (end : SessionState) (fault : Fault) → fault ≡ CannotWrite → Means tables sources requests f f' r r' end → Keeps f' f'' → Keeps r' r'' → IsRefused tables sources requests f f'' r r'' fault
 unflushed tables sources requests f f' f'' r r' r'' end fault is m kept kept' = rw is (inr (end, flushed tables sources requests f f' f'' r r' r'' end m kept kept'))

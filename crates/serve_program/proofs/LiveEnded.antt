@@ -12,7 +12,7 @@ use Rattle.serve_arguments.specs.declared.fault.Fault.TheVariants.{CommandLine, 
 use Rattle.frame_session.specs.declared.live.LiveFault.{LiveFault}
 use Rattle.frame_session.specs.declared.live.LiveFault.TheVariants as lives
 use Rattle.frame_session.specs.Live.{LiveStops}
-use Rattle.frame_session.specs.Sessions.{Now}
+use Rattle.frame_session.specs.Sessions.{SessionState}
 use Rattle.serve_program.specs.Endings.{AreLiveReplied, AreLiveStopped, IsEnded, IsExportFault, IsInput, IsInterrupted, IsLiveEnded, IsLiveFault, IsLiveRefused, IsSaveFault, IsUnopened, fault_by_live}
 use Rattle.serve_program.proofs.Ended.{after_ended, save_ended, unread_ended, unreplied_ended}
 
@@ -71,7 +71,7 @@ module _ (unnamed : List ℕ) (named : Option (List ℕ)) (names : List (List �
   unopened_ended NoMemory why = absurd why
 
   -- the requests were not answered, the packets not saved, or the frames not exported
-  pub live_ended : (fault : Fault) (tables : TableEntries) (sources : List (List ℕ)) → AreNamed unnamed names sources → IsLiveRefused tables sources requests left replies replies' fault ⊎ (IsSaveFault fault × Keeps replies replies') ⊎ ((end : Now) × AreLiveReplied requests left replies replies' end tables sources × (IsSaveFault fault ⊎ IsExportFault end fault)) → IsLiveEnded unnamed named names requests left left' replies replies' fault
+  pub live_ended : (fault : Fault) (tables : TableEntries) (sources : List (List ℕ)) → AreNamed unnamed names sources → IsLiveRefused tables sources requests left replies replies' fault ⊎ (IsSaveFault fault × Keeps replies replies') ⊎ ((end : SessionState) × AreLiveReplied requests left replies replies' end tables sources × (IsSaveFault fault ⊎ IsExportFault end fault)) → IsLiveEnded unnamed named names requests left left' replies replies' fault
   live_ended fault tables sources are (inl (inl refused)) =
       inl (unreplied_ended unnamed named names requests left left' replies replies' (AreLiveStopped requests left replies replies') (AreLiveReplied requests left replies replies') tables sources (AreLiveStopped requests left replies replies' tables sources) fault are (λ stopped. inr (tables, sources, are, stopped)) refused)
   live_ended fault tables sources are (inl (inr (inl shut))) = inl (unopened_ended fault shut)

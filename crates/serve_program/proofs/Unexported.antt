@@ -3,7 +3,7 @@ use Rattle.std.proofs.Common.{◌≡◌, ◌<◌, ◌≤◌, ℕ, Bool, false, t
 use Rattle.frame_session.specs.ExportSizes.{saved_bytes}
 use Rattle.frame_session.specs.Exported.{IsExportFile, IsNotExported}
 use Rattle.frame_session.specs.declared.export.Export.{Export}
-use Rattle.frame_session.specs.Sessions.{Now}
+use Rattle.frame_session.specs.Sessions.{SessionState}
 use Rattle.frame_session.specs.declared.refusal.Refusal.{Refusal}
 use Rattle.frame_session.specs.declared.refusal.Refusal.TheVariants as refusals
 use Rattle.frame_session.specs.declared.session.exports.ExportFault.{ExportFault}
@@ -15,7 +15,7 @@ use Rattle.serve_arguments.specs.declared.fault.Fault.{Fault}
 use Rattle.serve_arguments.specs.declared.fault.Fault.TheVariants.{NotExported}
 use Rattle.serve_program.specs.Endings.{IsAfterExport, IsExportFault, fault_by_export}
 
-by_fault : (end : Now) (fault : ExportFault) → IsNotExported end fault → IsExportFault end (fault_by_export fault)
+by_fault : (end : SessionState) (fault : ExportFault) → IsNotExported end fault → IsExportFault end (fault_by_export fault)
 by_fault end (exports.Frame frame (refusals.Packet source place cause)) why = inl (exports.Frame frame (refusals.Packet source place cause), why, refl)
 by_fault end (exports.Frame frame refusals.CropOutside) why = inl (exports.Frame frame refusals.CropOutside, why, refl)
 by_fault end (exports.Frame frame _) why = tt
@@ -26,20 +26,20 @@ by_fault end (exports.Packets cuts.Size) why = inl (exports.Packets cuts.Size, w
 by_fault end (exports.Packets cuts.TooLarge) why = inl (exports.Packets cuts.TooLarge, why, refl)
 by_fault end (exports.Packets cuts.NoMemory) why = tt
 
-pub export_refused : (end : Now) (why : ExportFault) (fault : Fault) → fault ≡ fault_by_export why → IsNotExported end why → IsExportFault end fault
+pub export_refused : (end : SessionState) (why : ExportFault) (fault : Fault) → fault ≡ fault_by_export why → IsNotExported end why → IsExportFault end fault
 export_refused end why fault is refused = subst (IsExportFault end) (sym is) (by_fault end why refused)
 
 -- the file is too long
-pub too_long : (end : Now) (file : Export) (pads : Bool) (size : ℕ) → IsExportFile end file → size ≡ saved_bytes pads file.packets → 1073741824 < size → IsExportFault end (NotExported unexported.Full)
+pub too_long : (end : SessionState) (file : Export) (pads : Bool) (size : ℕ) → IsExportFile end file → size ≡ saved_bytes pads file.packets → 1073741824 < size → IsExportFault end (NotExported unexported.Full)
 too_long end file pads size is same long = inr (refl, record { file = file; is = is; pads = pads; long = subst (λ (n : ℕ). 1073741824 < n) same long })
 
 -- ---- the session after an export
 
-pub after_asked : (end new : Now) → new ≡ record end { decoded = new.decoded } → end.decoded ≤ new.decoded → IsAfterExport true end new
+pub after_asked : (end new : SessionState) → new ≡ record end { decoded = new.decoded } → end.decoded ≤ new.decoded → IsAfterExport true end new
 after_asked end new rest steps = record { rest = rest; steps = steps; unasked = λ e. cc }
 
-pub after_unasked : (is_asked : Bool) (end : Now) → IsAfterExport is_asked end end
+pub after_unasked : (is_asked : Bool) (end : SessionState) → IsAfterExport is_asked end end
 after_unasked is_asked end = record { rest = refl; steps = omega arith; unasked = λ e. refl }
 
-pub after_some : (is_asked : Bool) (end new : Now) → is_asked ≡ true → IsAfterExport true end new → IsAfterExport is_asked end new
+pub after_some : (is_asked : Bool) (end new : SessionState) → is_asked ≡ true → IsAfterExport true end new → IsAfterExport is_asked end new
 after_some is_asked end new is after = subst (λ (b : Bool). IsAfterExport b end new) (sym is) after

@@ -16,7 +16,7 @@ use Rattle.frame_session.specs.Answers.{AreIvfs, Means, RunStops, SourceRefuses}
 use Rattle.frame_session.specs.ExportSizes.{saved_bytes}
 use Rattle.frame_session.specs.Exported.{IsExportFile, IsNotExported}
 use Rattle.frame_session.specs.Live.{CutsOff, LiveMeans, LiveRefuses}
-use Rattle.frame_session.specs.Sessions.{Now, start}
+use Rattle.frame_session.specs.Sessions.{SessionState, start}
 use Rattle.frame_session.specs.declared.export.Export.{Export}
 use Rattle.frame_session.specs.declared.refusal.Refusal.{Refusal}
 use Rattle.frame_session.specs.declared.refusal.Refusal.TheVariants as refusals
@@ -49,7 +49,7 @@ fault_by_run runs.Write = CannotWrite
 fault_by_run runs.NoMemory = NoMemory
 
 -- the requests were answered over the files of these bytes with these replies; it is not known where the frames went
-abbrev pub IsReplied : (tables : TableEntries) → (sources : List (List ℕ)) → (requests : List ℕ) → (replies replies' : Option (List ℕ)) → Now → Type 0
+abbrev pub IsReplied : (tables : TableEntries) → (sources : List (List ℕ)) → (requests : List ℕ) → (replies replies' : Option (List ℕ)) → SessionState → Type 0
 IsReplied tables sources requests replies replies' end =
     (frames : Option (List ℕ)) × (frames' : Option (List ℕ)) × Means tables sources requests frames frames' replies replies' end
 
@@ -59,11 +59,11 @@ saved_packets pads restamps head list =
     if restamps then restamped pads head list.entries else (if pads then padded_packets_of list else packets_of list)
 
 -- the file of the packets of source 0 at the end
-abbrev pub saved_text : Bool → Bool → Now → List ℕ
+abbrev pub saved_text : Bool → Bool → SessionState → List ℕ
 saved_text pads restamps end = written_text end.head (saved_packets pads restamps end.head (list_at end.lists 0))
 
 -- the session after the export that is asked for: only the number of steps made may have grown, and nothing if none is asked for
-pub record IsAfterExport (is_asked : Bool) (end new : Now) : Type 0 where
+pub record IsAfterExport (is_asked : Bool) (end new : SessionState) : Type 0 where
   pub rest : new ≡ record end { decoded = new.decoded }
   pub steps : end.decoded ≤ new.decoded
   pub unasked : is_asked ≡ false → new ≡ end
@@ -93,18 +93,18 @@ fault_by_export (exports.Changed frame node) = NotExported (unexported.Changed f
 fault_by_export (exports.Packets fault) = fault_by_cut fault
 
 -- the file of an export is too long, padded or not
-pub record IsTooLong (end : Now) : Type 0 where
+pub record IsTooLong (end : SessionState) : Type 0 where
   pub file : Export
   pub is : IsExportFile end file
   pub pads : Bool
   pub long : 1073741824 < saved_bytes pads file.packets
 
 -- the frames of a session are not exported for this reason: it is that of the export, or its file is too long
-abbrev pub IsRefusedExport : Now → Unexported → Type 0
+abbrev pub IsRefusedExport : SessionState → Unexported → Type 0
 IsRefusedExport end why = ((fault : ExportFault) × IsNotExported end fault × (fault_by_export fault ≡ NotExported why)) ⊎ ((why ≡ unexported.Full) × IsTooLong end)
 
 -- why nothing was exported
-abbrev pub IsExportFault : Now → Fault → Type 0
+abbrev pub IsExportFault : SessionState → Fault → Type 0
 IsExportFault end (NotExported why) = IsRefusedExport end why
 IsExportFault end NoMemory = Unit {0}
 IsExportFault end _ = ⊥
@@ -114,14 +114,14 @@ abbrev pub spare_text : ℕ → List ℕ
 spare_text spare = if spare == 0 then [] else codes "spare " ++ decimal spare ++ 10 ∷ []
 
 -- the requests with this name were answered over the files of these bytes: those that are not named are the rest of the input
-abbrev pub AreReplied : (requests : List ℕ) → (left replies replies' : Option (List ℕ)) → Now → (tables : TableEntries) → (sources : List (List ℕ)) → Type 0
+abbrev pub AreReplied : (requests : List ℕ) → (left replies replies' : Option (List ℕ)) → SessionState → (tables : TableEntries) → (sources : List (List ℕ)) → Type 0
 AreReplied requests left replies replies' end tables sources =
     (lines : List ℕ) × (requests ≡ codes "-" → IfSome left (λ bytes. lines ≡ bytes)) × IsReplied tables sources lines replies replies' end
 
 -- they were, and then the frames of the session were exported, if that is asked for
-abbrev pub AreAnswered : (requests : List ℕ) → (left replies replies' : Option (List ℕ)) → (is_asked : Bool) → Now → (tables : TableEntries) → (sources : List (List ℕ)) → Type 0
+abbrev pub AreAnswered : (requests : List ℕ) → (left replies replies' : Option (List ℕ)) → (is_asked : Bool) → SessionState → (tables : TableEntries) → (sources : List (List ℕ)) → Type 0
 AreAnswered requests left replies replies' is_asked new tables sources =
-    (end : Now) × AreReplied requests left replies replies' end tables sources × IsAfterExport is_asked end new
+    (end : SessionState) × AreReplied requests left replies replies' end tables sources × IsAfterExport is_asked end new
 
 -- the bytes of IN, which is source 0
 abbrev pub stream_in : List (List ℕ) → List ℕ
@@ -138,18 +138,18 @@ pub record IsServed (unnamed : List ℕ) (names : List (List ℕ)) (has_tables :
   pub cached : AreStates capacity (stream_in sources) states
 
 -- all requests were answered over the sources with these names, and then the frames of the session were not exported for this reason
-pub record IsUnexported (unnamed : List ℕ) (names : List (List ℕ)) (Replied : Now → TableEntries → List (List ℕ) → Type 0) (why : Unexported) : Type 0 where
+pub record IsUnexported (unnamed : List ℕ) (names : List (List ℕ)) (Replied : SessionState → TableEntries → List (List ℕ) → Type 0) (why : Unexported) : Type 0 where
   pub tables : TableEntries
   pub sources : List (List ℕ)
   pub named : AreNamed unnamed names sources
-  pub end : Now
+  pub end : SessionState
   pub replied : Replied end tables sources
   pub refused : IsRefusedExport end why
 
 -- a writer returned an error: the answers were written up to one of them, no reply before its whole frame; or all were written, and were not flushed
 abbrev pub IsUnwritten : (tables : TableEntries) → (sources : List (List ℕ)) → (requests : List ℕ) → (frames frames' replies replies' : Option (List ℕ)) → Type 0
 IsUnwritten tables sources requests frames frames' replies replies' =
-    RunStops tables sources requests frames frames' replies replies' runs.Write ⊎ ((end : Now) × Means tables sources requests frames frames' replies replies' end)
+    RunStops tables sources requests frames frames' replies replies' runs.Write ⊎ ((end : SessionState) × Means tables sources requests frames frames' replies replies' end)
 
 -- why the requests were not all answered over the files of these bytes: except for a writer's error, nothing was written
 abbrev pub IsRefused : (tables : TableEntries) → (sources : List (List ℕ)) → (requests : List ℕ) → (frames frames' replies replies' : Option (List ℕ)) → Fault → Type 0
@@ -179,13 +179,13 @@ abbrev pub OverSources : (unnamed : List ℕ) → (names : List (List ℕ)) → 
 OverSources unnamed names Holds = (tables : TableEntries) × (sources : List (List ℕ)) × AreNamed unnamed names sources × Holds tables sources
 
 -- no reply was written, or all requests were answered
-abbrev pub IsBeforeOrAfter : (unnamed : List ℕ) → (names : List (List ℕ)) → (replies replies' : Option (List ℕ)) → (Replied : Now → TableEntries → List (List ℕ) → Type 0) → Type 0
-IsBeforeOrAfter unnamed names replies replies' Replied = Keeps replies replies' ⊎ OverSources unnamed names (λ tables sources. (end : Now) × Replied end tables sources)
+abbrev pub IsBeforeOrAfter : (unnamed : List ℕ) → (names : List (List ℕ)) → (replies replies' : Option (List ℕ)) → (Replied : SessionState → TableEntries → List (List ℕ) → Type 0) → Type 0
+IsBeforeOrAfter unnamed names replies replies' Replied = Keeps replies replies' ⊎ OverSources unnamed names (λ tables sources. (end : SessionState) × Replied end tables sources)
 
 -- why the program exits without doing all that it was asked, in the order of its parts: a reading error comes before the first reply, a reading error of
 -- the tables or a source before the first byte of the requests is read, and an error in a source's bytes before the first reply. Memory runs
 -- out before the first reply, or after the last one, as the frames are exported or the packets saved. A writer's error comes then too, or stops the answers
-abbrev pub IsEnded : (unnamed : List ℕ) → (tables : Option (List ℕ)) → (names : List (List ℕ)) → (requests : List ℕ) → (left left' replies replies' : Option (List ℕ)) → (Stopped : TableEntries → List (List ℕ) → Type 0) → (Replied : Now → TableEntries → List (List ℕ) → Type 0) → Fault → Type 0
+abbrev pub IsEnded : (unnamed : List ℕ) → (tables : Option (List ℕ)) → (names : List (List ℕ)) → (requests : List ℕ) → (left left' replies replies' : Option (List ℕ)) → (Stopped : TableEntries → List (List ℕ) → Type 0) → (Replied : SessionState → TableEntries → List (List ℕ) → Type 0) → Fault → Type 0
 IsEnded unnamed tables names requests left left' replies replies' Stopped Replied (CannotRead path) = IsUnread tables names requests left left' path.now × (replies' ≡ replies)
 IsEnded unnamed tables names requests left left' replies replies' Stopped Replied (TooLong path) = IsUnread tables names requests left left' path.now × (replies' ≡ replies)
 IsEnded unnamed tables names requests left left' replies replies' Stopped Replied Tables = IsSome tables × (left' ≡ left) × (replies' ≡ replies)
@@ -204,21 +204,21 @@ abbrev pub IsInput : (requests : List ℕ) → (left given : Option (List ℕ)) 
 IsInput requests left given = requests ≡ codes "-" → given ≡ left
 
 -- all lines that the reader gave were answered over the files of these bytes with these replies; it is not known where the frames went
-pub record IsLiveReplied (tables : TableEntries) (sources : List (List ℕ)) (given replies replies' : Option (List ℕ)) (end : Now) : Type 0 where
+pub record IsLiveReplied (tables : TableEntries) (sources : List (List ℕ)) (given replies replies' : Option (List ℕ)) (end : SessionState) : Type 0 where
   pub given' : Option (List ℕ)
   pub frames : Option (List ℕ)
   pub frames' : Option (List ℕ)
   pub means : LiveMeans tables sources given given' frames frames' replies replies' end
 
 -- the lines of the requests with this name were answered over the files of these bytes
-abbrev pub AreLiveReplied : (requests : List ℕ) → (left replies replies' : Option (List ℕ)) → Now → (tables : TableEntries) → (sources : List (List ℕ)) → Type 0
+abbrev pub AreLiveReplied : (requests : List ℕ) → (left replies replies' : Option (List ℕ)) → SessionState → (tables : TableEntries) → (sources : List (List ℕ)) → Type 0
 AreLiveReplied requests left replies replies' end tables sources =
     (given : Option (List ℕ)) × IsInput requests left given × IsLiveReplied tables sources given replies replies' end
 
 -- they were, and then the frames of the session were exported, if that is asked for
-abbrev pub AreLiveAnswered : (requests : List ℕ) → (left replies replies' : Option (List ℕ)) → (is_asked : Bool) → Now → (tables : TableEntries) → (sources : List (List ℕ)) → Type 0
+abbrev pub AreLiveAnswered : (requests : List ℕ) → (left replies replies' : Option (List ℕ)) → (is_asked : Bool) → SessionState → (tables : TableEntries) → (sources : List (List ℕ)) → Type 0
 AreLiveAnswered requests left replies replies' is_asked new tables sources =
-    (end : Now) × AreLiveReplied requests left replies replies' end tables sources × IsAfterExport is_asked end new
+    (end : SessionState) × AreLiveReplied requests left replies replies' end tables sources × IsAfterExport is_asked end new
 
 -- the lines before one that the reader did not give whole were answered over the files of these bytes with these replies
 pub record IsInterrupted (tables : TableEntries) (sources : List (List ℕ)) (given replies replies' : Option (List ℕ)) (fault : LiveFault) : Type 0 where

@@ -4,7 +4,7 @@ ghost use Rattle.std.specs.Io.Buffered.{writer_buffer};
 ghost use Rattle.std.specs.Io.KnownBytes.{Appends};
 ghost use Rattle.std.specs.Rc.{rc_slice_items};
 ghost use Rattle.frame_session.specs.Answers.{Means};
-ghost use Rattle.frame_session.specs.Sessions.{Now};
+ghost use Rattle.frame_session.specs.Sessions.{SessionState};
 ghost use Rattle.serve_arguments.specs.CachedStates.{AreStates};
 ghost use Rattle.serve_arguments.specs.Capacities.{IsGiven};
 ghost use Rattle.serve_arguments.specs.CommandLines.{source_names};
@@ -207,7 +207,7 @@ fn answer_inputs<R: Files + AllocGlobal, O: Write, E: Write>(
     requires capacity { IsGiven line.now.capacity }
     requires paths { length line.now.more.items ≤ 7 }
     requires named { AreNamed EMPTY (source_names line.now) (map (λ bytes. bytes.items) inputs.files.sources.items) }
-    ensures replied { IfOk result (λ session. (end : Now) × IsReplied inputs.files.tables (map (λ bytes. bytes.items) inputs.files.sources.items) inputs.requests.items (O.contents output.old) (O.contents output.new) end × IsAfterExport (is_some line.now.words.exported) end session.now) }
+    ensures replied { IfOk result (λ session. (end : SessionState) × IsReplied inputs.files.tables (map (λ bytes. bytes.items) inputs.files.sources.items) inputs.requests.items (O.contents output.old) (O.contents output.new) end × IsAfterExport (is_some line.now.words.exported) end session.now) }
     ensures capacity { IfOk result (λ session. AreStates line.now.capacity (stream_in (map (λ bytes. bytes.items) inputs.files.sources.items)) session.cache.capacity) }
     ensures ended { IfErr result (λ fault. (left : Option (List ℕ)) → (left' : Option (List ℕ)) → (line.now.words.requests.now ≡ codes "-" → IfSome left (λ bytes. inputs.requests.items ≡ bytes)) → IsEnded EMPTY (option_map (λ path. path.now) line.now.words.tables) (source_names line.now) line.now.words.requests.now left left' (O.contents output.old) (O.contents output.new) (AreStopped line.now.words.requests.now left (O.contents output.old) (O.contents output.new)) (AreReplied line.now.words.requests.now left (O.contents output.old) (O.contents output.new)) fault) }
 {

@@ -7,11 +7,11 @@ use Rattle.stream_files.specs.Texts.{written_text}
 use Rattle.packet_edits.specs.Saved.{packets_of, padded_packets_of}
 use Rattle.request_lines.specs.Requests.{asked_by}
 use Rattle.frame_header.specs.declared.cause.Cause.{Cause}
-use Rattle.frame_session.specs.Answers.{Serves}
+use Rattle.frame_session.specs.Answers.{WritesAnswer}
 use Rattle.frame_session.specs.Cached.{SessionValue}
 use Rattle.frame_session.specs.Edits.{list_at}
 use Rattle.frame_session.specs.IsOrNoMemory.{IsFrameOrNoMemory}
-use Rattle.frame_session.specs.Sessions.{IsAfterFrame, Now, frame_of, size_given}
+use Rattle.frame_session.specs.Sessions.{IsAfterFrame, SessionState, frame_of, size_given}
 use Rattle.frame_session.specs.Told.{Tells}
 use Rattle.frame_session.specs.declared.refusal.Refusal.{Refusal}
 use Rattle.frame_session.specs.declared.refusal.Refusal.TheVariants as refusals
@@ -76,7 +76,7 @@ pub record IsKept (count : ℕ) (asked reply : List ℕ) (kept : RefusedLine) : 
 -- a request line was answered over a session: its reply is the text that is left, and the bytes of frames that it wrote are given to nobody; the line
 -- is kept if it was refused
 pub record IsAnswered (old : Engine) (line : List ℕ) (new : Engine) : Type 0 where
-  pub serves : Serves old.session.now (asked_by line) None None (Some []) (Some new.text.items) new.session.now
+  pub serves : WritesAnswer old.session.now (asked_by line) None None (Some []) (Some new.text.items) new.session.now
   pub heads : new.heads ≡ old.heads
   pub number : new.answered ≡ min (old.answered + 1) (2 ^ 64 - 1)
   pub kept : IfSome new.refused (IsKept new.answered line new.text.items)
@@ -93,7 +93,7 @@ pub record IsExplained (old new : Engine) : Type 0 where
   pub reason : IsReason old old.refused new.text.items
 
 -- the file of the packets of source 0
-abbrev pub saved_file : Bool → Now → List ℕ
+abbrev pub saved_file : Bool → SessionState → List ℕ
 saved_file padded now = written_text now.head ((if padded then padded_packets_of (list_at now.lists 0) else packets_of (list_at now.lists 0)))
 
 -- it is the text that is left, and nothing else changed

@@ -5,7 +5,7 @@ use Rattle.packet_edits.specs.Saved.{padded_if}
 use Rattle.frame_header.specs.declared.cause.Cause.{Cause}
 use Rattle.frame_session.specs.ExportSizes.{saved_bytes}
 use Rattle.frame_session.specs.Exported.{IsExportFile, IsNotExported}
-use Rattle.frame_session.specs.Sessions.{Now}
+use Rattle.frame_session.specs.Sessions.{SessionState}
 use Rattle.frame_session.specs.declared.export.Export.{Export}
 use Rattle.frame_session.specs.declared.refusal.Refusal.{Refusal}
 use Rattle.frame_session.specs.declared.refusal.Refusal.TheVariants as refusals
@@ -20,7 +20,7 @@ abbrev pub exported_text : Bool → Export → List ℕ
 exported_text pads export = written_text export.head (map (padded_if pads) export.packets)
 
 -- an export that shows the frames of a session, whose file is not longer than a file may be that is read again
-pub record IsExportOf (now : Now) (pads : Bool) (export : Export) : Type 0 where
+pub record IsExportOf (now : SessionState) (pads : Bool) (export : Export) : Type 0 where
   pub is : IsExportFile now export
   pub fits : saved_bytes pads export.packets ≤ 1073741824
 
@@ -36,7 +36,7 @@ Reports (Changed frame node) number reported = (number ≡ 33) × (reported.fram
 Reports (Packets fault) number reported = number ≡ number_of_cut_fault fault
 
 -- why the frames of a session are not exported: the reason of the session, or a file that is too long
-abbrev pub IsUnexported : Now → Bool → ℕ → Unexported → Type 0
+abbrev pub IsUnexported : SessionState → Bool → ℕ → Unexported → Type 0
 IsUnexported now pads number reported =
     ((fault : ExportFault) × IsNotExported now fault × Reports fault number reported)
     ⊎ ((export : Export) × IsExportFile now export × (1073741824 < saved_bytes pads export.packets) × (number ≡ 35))

@@ -1,6 +1,6 @@
 use Rattle.std.proofs.Common.{◌≡◌, List, ◌++◌, length}
 use Rattle.request_lines.specs.declared.lines.Line.{Line}
-use Rattle.frame_session.specs.Answers.{Runs, requests_of}
+use Rattle.frame_session.specs.Answers.{WritesAnswers, requests_of}
 use Rattle.frame_session.specs.LineCosts.{RunCosts}
 use Rattle.frame_session.proofs.serving.serve_all.Given as goal
 
@@ -8,7 +8,7 @@ abbrev pub invariant-lines : goal.invariant-lines
 invariant-lines g l = record {
   done : List Line;
   whole : done ++ requests_of l.rest ≡ requests_of l.fn.requests;
-  ran : Runs l.fn.session.now done (g.F.Write.contents l.fn.frames) (g.F.Write.contents l.frames) (g.P.Write.contents l.fn.replies) (g.P.Write.contents l.replies) l.session.now;
+  ran : WritesAnswers l.fn.session.now done (g.F.Write.contents l.fn.frames) (g.F.Write.contents l.frames) (g.P.Write.contents l.fn.replies) (g.P.Write.contents l.replies) l.session.now;
   costs : RunCosts l.fn.session done ran.answers l.session;
   capacity : l.session.cache.capacity ≡ l.fn.session.cache.capacity;
 }

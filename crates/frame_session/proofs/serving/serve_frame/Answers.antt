@@ -3,7 +3,7 @@ use Rattle.std.specs.Io.KnownBytes.{Appends}
 use Rattle.std.proofs.lemmas.Result.{on_ok_weaker}
 use Rattle.request_lines.specs.declared.lines.Line.TheVariants.{Frame}
 use Rattle.frame_session.specs.Replies.{refused_line}
-use Rattle.frame_session.specs.Answers.{Serves}
+use Rattle.frame_session.specs.Answers.{WritesAnswer}
 use Rattle.frame_session.proofs.AtCost.{frame_at_cost, refused_at_cost}
 use Rattle.frame_session.proofs.Served.{frame_and_reply, frame_or_no_reply, serves_refused}
 use Rattle.frame_session.proofs.serving.serve_frame.Goals as goal
@@ -13,7 +13,7 @@ returns-in-Err-clause-serves g c =
     let f = g.F.Write.contents c.args.frames.now in
     let r = g.P.Write.contents c.args.replies.now in
     let r' = g.P.Write.contents c.write_refused.new.w in
-    let served : Appends r r' (refused_line c.in-Err.refusal) → Serves c.args.session.now.now (Frame c.args.n) f f r r' c.frame.new.self.now =
+    let served : Appends r r' (refused_line c.in-Err.refusal) → WritesAnswer c.args.session.now.now (Frame c.args.n) f f r r' c.frame.new.self.now =
     serves_refused c.args.session.now.now f f r r' c.args.n c.in-Err.refusal c.frame.new.self.now c.in-Err.ensures.returned c.in-Err.ensures.after in
     on_ok_weaker c.write_refused.result served c.write_refused.ensures.wrote
 

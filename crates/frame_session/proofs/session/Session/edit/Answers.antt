@@ -1,14 +1,14 @@
 use Rattle.std.proofs.Common.{◌++◌, ℕ, List, drop, length, take, rules, ap, ◌∙◌}
 use Rattle.packet_edits.specs.Marks.{StoreValue}
 use Rattle.frame_session.specs.Cached.{SessionValue, lists_of, stores_after}
-use Rattle.frame_session.specs.Sessions.{Now, now_after_edit}
+use Rattle.frame_session.specs.Sessions.{SessionState, now_after_edit}
 use Rattle.frame_session.proofs.Stores.{edit_leaves, take_front}
 use Rattle.frame_session.proofs.session.Session.edit.Goals as goal
 
 pub returns-clause-after : goal.returns-clause-after
 returns-clause-after c =
     let s = c.self.inside in
-    let old : Now = record { tables = s.tables; head = s.head; lists = lists_of s.stores.items; current = s.current; script = s.script; spare = s.spare; size = s.size; decoded = s.cache.decoded } in
+    let old : SessionState = record { tables = s.tables; head = s.head; lists = lists_of s.stores.items; current = s.current; script = s.script; spare = s.spare; size = s.size; decoded = s.cache.decoded } in
     let rest = drop (length c.edit_cached.new.stores) s.stores.items in
     let made : List StoreValue = take s.stores.len (c.edit_cached.new.stores ++ rest) in
     ap (λ (d : ℕ). record old { lists = lists_of made; decoded = d }) c.edit_cached.ensures.steps

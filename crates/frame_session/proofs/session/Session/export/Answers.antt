@@ -4,14 +4,14 @@ use Rattle.lossless_cuts.specs.Plans.{exported}
 use Rattle.stream_files.specs.declared.ivf.Head.{Head}
 use Rattle.packet_times.specs.Stamps.{stamped}
 use Rattle.frame_session.specs.Exported.{HaveTargets, IsExport, export_head, streams_in, units_at}
-use Rattle.frame_session.specs.Sessions.{Now, frame_count}
+use Rattle.frame_session.specs.Sessions.{SessionState, frame_count}
 use Rattle.frame_session.proofs.ExportedFrames.{export_is, packing_fault, stamped_length}
 use Rattle.frame_session.proofs.session.Session.export.Goals as goal
 
 pub returns-clause-file : goal.returns-clause-file
 returns-clause-file c =
-    let old : Now = c.args.self.now.now in
-    let new : Now = c.export_targets.new.self.now in
+    let old : SessionState = c.args.self.now.now in
+    let new : SessionState = c.export_targets.new.self.now in
     let targets : List Target = c.in_ok-targets.targets.items in
     let bytes : List (List ℕ) = c.in_ok-bytes.bytes.items in
     let made : bytes ≡ exported new.tables (streams_in new) None targets = c.in_ok-bytes.ensures.value ∙ ap (λ (ts : List Target). exported new.tables (streams_in new) None ts) c.deref.ensures.value in
@@ -23,15 +23,15 @@ returns-clause-file c =
       all = c.in_ok-targets.ensures.count ∙ c.frames-count.ensures;
       stamps =
           c.in_ok-packets.ensures.file ∙ ap (λ (ts : List Target). stamped 0 (map (units_at new) ts) bytes) c.deref-2.ensures.value
-          ∙ ap (λ (now : Now). stamped 0 (map (units_at now) targets) bytes) c.in_ok-targets.ensures.after;
+          ∙ ap (λ (now : SessionState). stamped 0 (map (units_at now) targets) bytes) c.in_ok-targets.ensures.after;
       head =
           c.export_head-head.ensures ∙ ap (λ (ts : List Target). export_head new.head ts) c.deref-3.ensures.value
-          ∙ ap (λ (now : Now). export_head now.head targets) c.in_ok-targets.ensures.after;
+          ∙ ap (λ (now : SessionState). export_head now.head targets) c.in_ok-targets.ensures.after;
     }
 
 pub returns-in_err-bytes-clause-fault : goal.returns-in_err-bytes-clause-fault
 returns-in_err-bytes-clause-fault c =
-    let old : Now = c.args.self.now.now in
+    let old : SessionState = c.args.self.now.now in
     let targets : List Target = c.deref.result.now in
     let have : HaveTargets old 0 targets = subst (HaveTargets old 0) (sym c.deref.ensures.value) c.in_ok-targets.ensures.targets in
     let all : length targets ≡ frame_count old = ap length c.deref.ensures.value ∙ c.in_ok-targets.ensures.count ∙ c.frames-count.ensures in

@@ -2,7 +2,7 @@ use Rattle.std.proofs.Common.{◌≡◌, ◌+◌, ◌<◌, ℕ, List, length, re
 use Rattle.std.proofs.lemmas.List.{length_push}
 use Rattle.lossless_cuts.specs.declared.targets.Target.{Target}
 use Rattle.frame_session.specs.Exported.{HasTarget, HaveTargets}
-use Rattle.frame_session.specs.Sessions.{Now, frame_count}
+use Rattle.frame_session.specs.Sessions.{SessionState, frame_count}
 use Rattle.frame_session.proofs.ExportedFrames.{frame_fault, have_more, steps_only, target_before}
 use Rattle.frame_session.proofs.session.Session.export_targets.Goals as goal
 
@@ -17,7 +17,7 @@ frames-init c = record {
 
 pub frames-preserved : goal.frames-preserved
 frames-preserved c =
-    let old : Now = c.args.self.now.now in
+    let old : SessionState = c.args.self.now.now in
     let target : Target = c.in_ok-target.target in
     let at : c.frames.n ≡ 0 + length c.frames.targets.items = omega (arith, c.frames.invariant.count) in
     let here : HasTarget old (0 + length c.frames.targets.items) target = subst (λ (m : ℕ). HasTarget old m target) at (target_before old c.frames.self.now c.frames.n target c.frames.invariant.same c.in_ok-target.ensures.target) in

@@ -8,13 +8,13 @@ use Rattle.script_nodes.specs.Shown.{Size, shown_in, steps_shown}
 use Rattle.script_nodes.specs.declared.node_steps.NodeStep.{NodeStep}
 use Rattle.script_nodes.proofs.Applied.{shown_answered}
 use Rattle.frame_session.specs.Cached.{SessionValue}
-use Rattle.frame_session.specs.Sessions.{Now, shown_counts}
+use Rattle.frame_session.specs.Sessions.{SessionState, shown_counts}
 use Rattle.frame_session.proofs.ExportedFrames.{changed_if, frame_cut_off, frame_is, none_changes, target_is}
 use Rattle.frame_session.proofs.session.Session.origin_of.Goals as goal
 
 pub returns-clause-target : goal.returns-clause-target
 returns-clause-target c = λ none.
-    let now : Now = c.args.self.now.now in
+    let now : SessionState = c.args.self.now.now in
     let target : Target = record { source = c.in-Some.source; place = c.in-Some-shown_place.place; width = c.width-width.result; height = c.height-height.result } in
     let size : Size = (c.width-width.result, c.height-height.result) in
     let T : SessionValue → Type 0 = λ v. traced c.shown_counts-counts.result.items v.now.script c.args.n ≡ Some (origin_of c.in-Some.source c.in-Some.frame c.in-Some.trace) in
@@ -33,7 +33,7 @@ returns-clause-target c = λ none.
 
 pub returns-clause-changed : goal.returns-clause-changed
 returns-clause-changed c =
-    let now : Now = c.args.self.now.now in
+    let now : SessionState = c.args.self.now.now in
     let size : Size = (c.width-width.result, c.height-height.result) in
     let T : SessionValue → Type 0 = λ v. traced c.shown_counts-counts.result.items v.now.script c.args.n ≡ Some (origin_of c.in-Some.source c.in-Some.frame c.in-Some.trace) in
     let from : T c.args.self.now = subst T c.self.view_is (ap (λ (k : List ℕ). traced k c.self.inside.script c.args.n) (sym c.deref.ensures.0) ∙ c.in-Some.ensures.some) in
@@ -56,7 +56,7 @@ returns-clause-changed c =
 
 pub returns-then-is_err-clause-refused : goal.returns-then-is_err-clause-refused
 returns-then-is_err-clause-refused c =
-    let now : Now = c.args.self.now.now in
+    let now : SessionState = c.args.self.now.now in
     let T : SessionValue → Type 0 = λ v. traced c.shown_counts-counts.result.items v.now.script c.args.n ≡ Some (origin_of c.in-Some.source c.in-Some.frame c.in-Some.trace) in
     let from : T c.args.self.now = subst T c.self.view_is (ap (λ (k : List ℕ). traced k c.self.inside.script c.args.n) (sym c.deref.ensures.0) ∙ c.in-Some.ensures.some) in
     let traces : traced (shown_counts c.args.self.now.now) c.args.self.now.now.script c.args.n ≡ Some (origin_of c.in-Some.source c.in-Some.frame c.in-Some.trace) = ap (λ (k : List ℕ). traced k c.args.self.now.now.script c.args.n) (sym c.shown_counts-counts.ensures.value) ∙ from in
