@@ -18,7 +18,7 @@ use Rattle.packet_forge.specs.Packets.{blank_of}
 use Rattle.pixel_planes.specs.Pictures.{PictureSamples}
 use Rattle.state_cache.specs.declared.outcomes.Kept.{Kept}
 use Rattle.state_cache.specs.declared.outcomes.Broken.{Broken}
-use Rattle.state_cache.specs.declared.outcomes.ReachFault.TheVariants.{Refused, NoMemory}
+use Rattle.state_cache.specs.declared.outcomes.ReachFault.TheVariants.{Refused, NoMemory, TooManyShares}
 use Rattle.state_cache.specs.Costs.{Costs, IsIdOf}
 use Rattle.state_cache.specs.Decoding.{Outcome}
 use Rattle.state_cache.specs.declared.outcomes.PacketKey.{PacketKey}
@@ -160,6 +160,9 @@ module _ (tables : Tables) where
       may_lack : (want : Outcome) → MayRunOutOfMemory (picture_from source (Some want))
       may_lack (Ok decoded) = tt
       may_lack (Err broken) = tt
+
+  pub unshared_given : (source : ℕ) (o : Option Outcome) → (want : Outcome) × (o ≡ Some want) × ReachAnswers want (Err TooManyShares) → IsOrNoMemory {A = PictureSamples} (picture_from source o) (Err refusals.NoMemory)
+  unshared_given source o reached = subst (λ (p : Option Outcome). MayRunOutOfMemory (picture_from source p)) (sym (reached.1 ∙ ap Some reached.2.1)) tt
 
   -- an edit of one source, in terms of that source
   pub record IsSourceSound (store : StoreValue) (kept : View) : Type 0 where

@@ -24,7 +24,7 @@ use vp8_tables::Tables;
 
 /// The picture of the packet at index `place` of a source. Nothing of another source changes, except that
 /// its cached outcomes may be dropped.
-#[tactic(auto, using(crate::proofs::Sound::reached_sound, crate::proofs::Sound::picture_given, crate::proofs::Sound::break_given, crate::proofs::Sound::nothing_given))]
+#[tactic(auto, using(crate::proofs::Sound::reached_sound, crate::proofs::Sound::picture_given, crate::proofs::Sound::break_given, crate::proofs::Sound::nothing_given, crate::proofs::Sound::unshared_given))]
 pub(crate) fn picture_at(
     tables: &Tables,
     stores: &mut [Store],
@@ -55,6 +55,7 @@ pub(crate) fn picture_at(
             cause: broken.cause,
         }),
         Err(ReachFault::NoMemory) => Err(Refusal::NoMemory),
+        Err(ReachFault::TooManyShares) => Err(Refusal::NoMemory),
     }
 }
 

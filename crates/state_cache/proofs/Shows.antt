@@ -1,5 +1,6 @@
 -- The results of a store's calls for the packet at an index.
 use Rattle.std.proofs.Common.{◌≡◌, ℕ, zero, suc, ◌-◌, ◌<◌, Bool, true, false, cond, None, List, [], ◌∷◌, Option, Some, option_map, option_and_then, is_some, length, map, slice_get, refl, sym, ap, ◌∙◌, arith}
+use Rattle.std.specs.Option.{option_map_or}
 use Rattle.frame_header.specs.Tags.{has_key_tag}
 use Rattle.packet_edits.specs.FlagCounts.{flag_at}
 use Rattle.packet_edits.specs.Sizes.{key_tag_at}
@@ -61,6 +62,12 @@ pub kept_answered : (es : List Entry) (ms : List Bool) (kept : View) (i r : ℕ)
 kept_answered es ms kept i r k h step_result e =
     let s = shows es ms i h in
     ap (λ (o : Option MarkedPacket). option_and_then (λ (packet : MarkedPacket). kept packet.id) o) s.is ∙ ap kept (sym (id_shown es ms i s.packet r s.is step_result)) ∙ e
+
+-- nothing is cached at an index for whose id nothing is
+pub none_answered : (es : List Entry) (ms : List Bool) (kept : View) (i r : ℕ) → i < length es → option_map (λ (e : Entry). e.id) (slice_get es i) ≡ Some r → kept r ≡ None → cached_at (marked_packets_of es ms) kept i ≡ false
+none_answered es ms kept i r h step_result e =
+    let s = shows es ms i h in
+    ap (λ (o : Option MarkedPacket). option_map_or (λ (packet : MarkedPacket). is_some (kept packet.id)) o false) s.is ∙ ap (λ (n : ℕ). is_some (kept n)) (sym (id_shown es ms i s.packet r s.is step_result)) ∙ ap is_some e
 
 pub outcome_told : (es : List Entry) (ms : List Bool) (kept : View) (i r : ℕ) → 0 < i → i < length es → key_at (marked_packets_of es ms) i ≡ false → option_map (λ (e : Entry). e.id) (slice_get es (i - 1)) ≡ Some r → kept r ≡ outcome_from (marked_packets_of es ms) kept i
 outcome_told es ms kept zero r some h k step_result = absurd (omega (arith, some))

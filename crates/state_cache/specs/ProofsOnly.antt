@@ -12,7 +12,7 @@ use Rattle.packet_edits.specs.Shown.{stream_of}
 use Rattle.state_cache.specs.declared.outcomes.Kept.{Kept}
 use Rattle.state_cache.specs.declared.outcomes.PacketKey.{PacketKey}
 use Rattle.state_cache.specs.declared.outcomes.ReachFault.{ReachFault}
-use Rattle.state_cache.specs.declared.outcomes.ReachFault.TheVariants.{Refused, NoMemory}
+use Rattle.state_cache.specs.declared.outcomes.ReachFault.TheVariants.{Refused, NoMemory, TooManyShares}
 use Rattle.state_cache.specs.Costs.{AreUnsettled, HasRoom, IsIdOf, IsOneRun, IsSettled}
 use Rattle.state_cache.specs.Decoding.{outcomes}
 use Rattle.state_cache.specs.declared.savings.Saving.{Saving}
@@ -44,6 +44,7 @@ abbrev pub AnswersAt : ℕ → Result (State × PictureSamples) Cause → Result
 AnswersAt place want (Ok kept) = want ≡ Ok (step_result kept)
 AnswersAt place want (Err (Refused broken)) = (want ≡ Err broken.cause) × (broken.place ≡ place)
 AnswersAt place want (Err NoMemory) = Unit {0}
+AnswersAt place want (Err TooManyShares) = ⊥
 
 -- the answer is the answer of the step of the packet at an index
 abbrev pub IterationAnswers : TableEntries → List MarkedPacket → View → ℕ → Result Kept ReachFault → Type 0
@@ -53,12 +54,14 @@ IterationAnswers tables packets kept place result = (packet : MarkedPacket) × (
 abbrev pub Reports : TableEntries → Listing → ℕ → ReachFault → Type 0
 Reports tables list place (Refused broken) = slice_get (outcomes tables (stream_of list)) place ≡ Some (Err broken)
 Reports tables list place NoMemory = Unit {0}
+Reports tables list place TooManyShares = ⊥
 
--- the answer is the outcome cached at an index, or that there was no memory
+-- the answer is the outcome cached at an index, or that none is cached there, or that it could not be shared
 abbrev pub CachedAnswers : List MarkedPacket → View → ℕ → Result Kept ReachFault → Type 0
 CachedAnswers packets kept place (Ok outcome) = outcome_at packets kept place ≡ Some outcome
 CachedAnswers packets kept place (Err (Refused broken)) = ⊥
-CachedAnswers packets kept place (Err NoMemory) = Unit {0}
+CachedAnswers packets kept place (Err NoMemory) = cached_at packets kept place ≡ false
+CachedAnswers packets kept place (Err TooManyShares) = Unit {0}
 
 -- the index after the last cached one of a run, from `first` up to `place`
 pub record IsAfterCached (packets : List MarkedPacket) (kept : View) (first place next : ℕ) : Type 0 where

@@ -8,7 +8,7 @@ use Rattle.packet_edits.specs.Shown.{stream_of}
 use Rattle.state_cache.specs.declared.outcomes.Kept.{Kept}
 use Rattle.state_cache.specs.declared.outcomes.PacketKey.{PacketKey}
 use Rattle.state_cache.specs.declared.outcomes.ReachFault.{ReachFault}
-use Rattle.state_cache.specs.declared.outcomes.ReachFault.TheVariants.{Refused, NoMemory}
+use Rattle.state_cache.specs.declared.outcomes.ReachFault.TheVariants.{Refused, NoMemory, TooManyShares}
 use Rattle.state_cache.specs.Decoding.{Outcome, outcomes}
 use Rattle.state_cache.specs.Views.{Drops, MarkedPacket, View, is_usable, key_at, cached_in, outcome_at, step_result}
 
@@ -64,12 +64,13 @@ pub record IsNext (packets : List MarkedPacket) (kept : View) (place next : ℕ)
   pub no_key : (p : ℕ) → next < p → p ≤ place → key_at packets p ≡ false
   pub greatest : (p : ℕ) → next ≤ p → p ≤ place → is_usable packets kept p ≡ false
 
--- the answer is this outcome, or that there was no memory
+-- the answer is this outcome, or that there was no memory, or that it is good and could not be shared
 abbrev pub ReachAnswers : Outcome → Result Kept ReachFault → Type 0
 ReachAnswers want (Ok kept) = want ≡ Ok (step_result kept)
 ReachAnswers want (Err (Refused broken)) = want ≡ Err broken
 ReachAnswers want (Err NoMemory) = Unit {0}
+ReachAnswers want (Err TooManyShares) = (kept : Kept) × (want ≡ Ok (step_result kept))
 
--- the answer is the outcome of decoding at an index, or that there was no memory
+-- the answer is the outcome of decoding at an index, or one of these two faults
 abbrev pub Reaches : TableEntries → Listing → ℕ → Result Kept ReachFault → Type 0
 Reaches tables list place result = (want : Outcome) × (slice_get (outcomes tables (stream_of list)) place ≡ Some want) × ReachAnswers want result

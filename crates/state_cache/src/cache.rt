@@ -7,6 +7,7 @@ ghost use Rattle.reference_frames.specs.Steps.{StepAnswers};
 ghost use Rattle.reference_frames.specs.States.{StateValue};
 ghost use Rattle.state_cache.specs.Costs.{Costs, most_steps};
 ghost use Rattle.state_cache.specs.Evictions.{Evicts};
+ghost use Rattle.state_cache.specs.Faults.{is_share_fault};
 ghost use Rattle.state_cache.specs.Reaching.{Begins, IsNext, Converged, OthersDrop, OthersStay, Reaches, passed_marks, view_of};
 ghost use Rattle.state_cache.specs.ProofsOnly.{next_of, outcome_from, Advances, IsAfterCached, IsWithout, AnswersAt, CachedAnswers, IterationAnswers, Reports};
 ghost use Rattle.state_cache.specs.Walks.{IsPut, IsIteration, IsWalk, IsWalkStep, ConvergesWithSame, entries_with};
@@ -97,9 +98,10 @@ impl Cache {
     /// outcomes of any source may be dropped. No outcome of another source changes.
     ///
     /// `Refused` if the stream is broken there, with the index and the cause of the break;
-    /// `NoMemory` if memory or a share was refused first. In every case the packets are unchanged,
-    /// the cache stays valid and has no fewer outcomes. A refused step changes only the number of
-    /// steps.
+    /// `NoMemory` if a step was refused memory first; `TooManyShares` if the outcome is cached, as at
+    /// a usable index, but a part of it is shared as often as can be counted. In every case the
+    /// packets are unchanged, the cache stays valid and has no fewer outcomes. A refused step changes
+    /// only the number of steps.
     pub fn reach(
         &mut self,
         tables: &Tables,
@@ -110,6 +112,7 @@ impl Cache {
         requires place { place < length store.old.list.entries }
         requires coherent { IsCoherent tables.now (marked_packets store.old) (view_of source self.old) }
         ensures reaches { Reaches tables.now store.old.list place result }
+        ensures fault { IfErr result (λ fault. is_usable (marked_packets store.new) (view_of source self.new) place ≡ is_share_fault fault) }
         ensures list { store.new.list ≡ store.old.list }
         ensures coherent { IsCoherent tables.now (marked_packets store.new) (view_of source self.new) }
         ensures others { OthersDrop source self.old self.new }
@@ -127,7 +130,7 @@ impl Cache {
         self.answer(source, store, place)
     }
 
-    /// The cached outcome of the packet at `place`, which is usable. It counts as used.
+    /// The cached outcome of the packet at `place`. It counts as used. `NoMemory` if none is cached.
     fn answer(&mut self, source: usize, store: &Store, place: usize) -> Result<Kept, ReachFault>
         requires { place < length store.now.list.entries }
         ensures kept { CachedAnswers (marked_packets store.now) (view_of source self.old) place result }
@@ -142,7 +145,7 @@ impl Cache {
         self.savings.touch(index);
         match kept.again() {
             Ok(kept) => Ok(kept),
-            Err(_) => Err(ReachFault::NoMemory),
+            Err(_) => Err(ReachFault::TooManyShares),
         }
     }
 

@@ -22,6 +22,9 @@ pub enum ReachFault {
     /// Memory was refused.
     #[error("memory was refused")]
     NoMemory,
+    /// The outcome is cached, but a part of it is shared as often as can be counted.
+    #[error("the outcome is shared too often")]
+    TooManyShares,
 }
 
 impl ReachFault {
@@ -32,6 +35,7 @@ impl ReachFault {
         match self {
             ReachFault::Refused(_) => "Refused",
             ReachFault::NoMemory => "NoMemory",
+            ReachFault::TooManyShares => "TooManyShares",
         }
     }
 }

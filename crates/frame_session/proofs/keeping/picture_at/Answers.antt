@@ -11,6 +11,10 @@ pub returns-in-Err-Refused-clause-lists : goal.returns-in-Err-Refused-clause-lis
 returns-in-Err-Refused-clause-lists c =
     lists_stay c.args.stores.now c.args.source c.reach.new.store (c.in-Err-Refused.ensures.list ∙ ap (λ (s : StoreValue). s.list) (found c.args.stores.now c.args.source c.index-stores-source.result c.requires.source))
 
+pub returns-in-Err-TooManyShares-clause-lists : goal.returns-in-Err-TooManyShares-clause-lists
+returns-in-Err-TooManyShares-clause-lists c =
+    lists_stay c.args.stores.now c.args.source c.reach.new.store (c.in-Err-TooManyShares.ensures.list ∙ ap (λ (s : StoreValue). s.list) (found c.args.stores.now c.args.source c.index-stores-source.result c.requires.source))
+
 pub returns-in-Err-NoMemory-clause-lists : goal.returns-in-Err-NoMemory-clause-lists
 returns-in-Err-NoMemory-clause-lists c =
     lists_stay c.args.stores.now c.args.source c.reach.new.store (c.in-Err-NoMemory.ensures.list ∙ ap (λ (s : StoreValue). s.list) (found c.args.stores.now c.args.source c.index-stores-source.result c.requires.source))

@@ -1,11 +1,16 @@
-use Rattle.std.proofs.Common.{◌<◌, ◌≤◌, ◌∙◌, Err, false, length, refl, subst, sym, arith, rules}
-use Rattle.std.specs.Prelude.{is_ok}
+use Rattle.std.proofs.Common.{◌≡◌, List, ◌<◌, ◌≤◌, ◌∙◌, Err, false, length, refl, subst, sym, arith, rules}
+use Rattle.std.specs.Prelude.{IfErr, is_ok}
 use Rattle.packet_edits.specs.Edits.{Listing}
+use Rattle.packet_edits.specs.Marks.{StoreValue}
+use Rattle.state_cache.specs.declared.outcomes.Kept.{Kept}
+use Rattle.state_cache.specs.declared.outcomes.PacketKey.{PacketKey}
+use Rattle.state_cache.specs.declared.outcomes.ReachFault.{ReachFault}
 use Rattle.state_cache.specs.Costs.{Costs}
 use Rattle.state_cache.specs.Reaching.{CacheValue, Reaches, view_of}
-use Rattle.state_cache.specs.Views.{IsCoherent, marked_packets}
+use Rattle.state_cache.specs.Faults.{is_share_fault}
+use Rattle.state_cache.specs.Views.{IsCoherent, cached_in, is_usable, marked_packets}
 use Rattle.state_cache.specs.Walks.{IsWalk}
-use Rattle.state_cache.proofs.Reached.{length_seens, reaches_answer, reaches_fault}
+use Rattle.state_cache.proofs.Reached.{answer_fault, length_seens, not_reached, reaches_answer, reaches_fault}
 use Rattle.state_cache.proofs.Settled.{first_unsettled}
 use Rattle.state_cache.proofs.Walked.{walk_begins, walk_ends, walk_more, walk_refused}
 use Rattle.state_cache.proofs.WalkSteps.{walk_arrives, walk_others, walk_refused as refused_walk, walking_begins, walking_more}
@@ -59,6 +64,21 @@ returns-clause-reaches c =
     let up : c.args.place < c.loop-next.next = search (rules, arith) in
     subst (λ (l : Listing). Reaches c.args.tables.now l c.args.place c.answer.result) inv.list
     (reaches_answer c.args.tables.now c.loop-next.store.list c.loop-next.store.marks (view_of c.args.source c.loop-next.self) inv.coherent c.args.place c.answer.result within (inv.next.arrived up) c.answer.ensures.kept)
+
+pub returns-in-Err-clause-fault : goal.returns-in-Err-clause-fault
+returns-in-Err-clause-fault c =
+    let l = c.loop-next in
+    let low : l.next ≤ c.args.place = search (rules, arith) in
+    subst (λ (s : StoreValue). is_usable (marked_packets s) (view_of c.args.source c.advance.new.self) c.args.place ≡ is_share_fault c.in-Err.fault) (sym c.in-Err.ensures.refused.0)
+    (subst (λ (es : List (PacketKey × Kept)). is_usable (marked_packets l.store) (cached_in es c.args.source) c.args.place ≡ is_share_fault c.in-Err.fault) (sym c.in-Err.ensures.refused.1)
+    (not_reached c.args.tables.now l.store.list (marked_packets l.store) (view_of c.args.source l.self) c.args.place l.next c.in-Err.fault low l.invariant.next c.in-Err.ensures.step_result))
+
+pub returns-clause-fault : goal.returns-clause-fault
+returns-clause-fault c =
+    let l = c.loop-next in
+    let up : c.args.place < l.next = search (rules, arith) in
+    subst (λ (v : CacheValue). IfErr c.answer.result (λ (fault : ReachFault). is_usable (marked_packets l.store) (view_of c.args.source v) c.args.place ≡ is_share_fault fault)) (sym c.answer.ensures.same)
+    (answer_fault (marked_packets l.store) (view_of c.args.source l.self) c.args.place c.answer.result (l.invariant.next.arrived up) c.answer.ensures.kept)
 
 pub returns-clause-costs : goal.returns-clause-costs
 returns-clause-costs c =
