@@ -10,6 +10,7 @@ use Rattle.std.proofs.KnownBytes.{Appends-trans, Consumes-nil, Consumes-trans}
 use Rattle.vp8_tables.specs.declared.tables.Tables.{Tables}
 use Rattle.stream_files.specs.declared.ivf.Ivf.{Ivf}
 use Rattle.request_lines.specs.declared.lines.Line.{Line}
+use Rattle.state_cache.specs.declared.capacity.Capacity.{Capacity}
 use Rattle.frame_session.specs.declared.live.LiveFault.{LiveFault}
 use Rattle.frame_session.specs.declared.live.LiveFault.TheVariants as faults
 use Rattle.frame_session.specs.Sessions.{SessionState}
@@ -266,7 +267,7 @@ read_all (Some xs) None text taken end = absurd taken
 read_all (Some xs) (Some ys) text taken end = sym (taken ∙ ap (λ rest. text ++ rest) end ∙ append-nil text)
 
 -- a run of live lines from its first session
-pub live_means_at_cost : (tables : Tables) (capacity : ℕ) (sources : List (List ℕ)) (a b f f' r r' : Option (List ℕ)) (files : List Ivf) (first end : SessionValue) → AreIvfs sources files → first ≡ begun tables capacity files → RunsText 0 first end a b f f' r r' false → LiveMeansAtCost tables capacity sources a b f f' r r' end
+pub live_means_at_cost : (tables : Tables) (capacity : Capacity) (sources : List (List ℕ)) (a b f f' r r' : Option (List ℕ)) (files : List Ivf) (first end : SessionValue) → AreIvfs sources files → first ≡ begun tables capacity files → RunsText 0 first end a b f f' r r' false → LiveMeansAtCost tables capacity sources a b f f' r r' end
 live_means_at_cost tables capacity sources a b f f' r r' files first end are is ran =
     let so : RunsText 0 (begun tables capacity files) end a b f f' r r' false = subst (λ (v : SessionValue). RunsText 0 v end a b f f' r r' false) is ran in
     record {

@@ -1,5 +1,5 @@
 -- The results of the parts of a run.
-use Rattle.std.specs.Prelude.{◌≡◌, ◌<◌, ◌≤◌, ◌⊎◌, Bool, false, ℕ, ◌==◌, List, [], ◌∷◌, ◌++◌, map, Option, None, IfSome, IsSome, codes, slice_index_or, if◌then◌else◌}
+use Rattle.std.specs.Prelude.{◌≡◌, ◌<◌, ◌≤◌, ◌⊎◌, Bool, false, ℕ, ◌==◌, List, [], ◌∷◌, ◌++◌, map, Option, None, IfSome, IsSome, codes, if◌then◌else◌}
 use Rattle.std.specs.Fmt.{decimal}
 use Rattle.std.specs.Io.KnownBytes.{Keeps}
 use Rattle.vp8_tables.specs.Rfc.{rfc_entries}
@@ -12,6 +12,7 @@ use Rattle.packet_edits.specs.Saved.{packets_of, padded_if, padded_packets_of, r
 use Rattle.frame_session.specs.Edits.{list_at}
 use Rattle.std.specs.Borrow.{Bor}
 use Rattle.stream_files.specs.declared.ivf.Ivf.{Ivf}
+use Rattle.frame_session.specs.Cached.{Capacity as Cached, of_bytes, of_states}
 use Rattle.frame_session.specs.Answers.{AreIvfs, Means, RunStops, SourceRefuses}
 use Rattle.frame_session.specs.ExportSizes.{saved_bytes}
 use Rattle.frame_session.specs.Exported.{IsExportFile, IsNotExported}
@@ -28,9 +29,9 @@ use Rattle.frame_session.specs.declared.live.LiveFault.{LiveFault}
 use Rattle.frame_session.specs.declared.live.LiveFault.TheVariants as lives
 use Rattle.frame_session.specs.declared.serving.RunFault.{RunFault}
 use Rattle.frame_session.specs.declared.serving.RunFault.TheVariants as runs
-use Rattle.serve_arguments.specs.CachedStates.{AreStates}
 use Rattle.serve_arguments.specs.Readings.{AreNamed, IsUnread}
 use Rattle.serve_arguments.specs.declared.capacities.Capacity.{Capacity}
+use Rattle.serve_arguments.specs.declared.capacities.Capacity.TheVariants.{States, Bytes}
 use Rattle.serve_arguments.specs.declared.exports.NotExported.{NotExported as Unexported}
 use Rattle.serve_arguments.specs.declared.exports.NotExported.TheVariants as unexported
 use Rattle.serve_arguments.specs.declared.fault.Fault.{Fault}
@@ -123,19 +124,20 @@ abbrev pub AreAnswered : (requests : List ℕ) → (left replies replies' : Opti
 AreAnswered requests left replies replies' is_asked new tables sources =
     (end : SessionState) × AreReplied requests left replies replies' end tables sources × IsAfterExport is_asked end new
 
--- the bytes of IN, which is source 0
-abbrev pub stream_in : List (List ℕ) → List ℕ
-stream_in sources = slice_index_or sources 0 []
+-- the capacity of the cache of a session by that of a command line
+abbrev pub cached_by : Capacity → Cached
+cached_by (States count) = of_states count
+cached_by (Bytes bytes) = of_bytes bytes
 
 -- requests were answered over the sources with these names: a source that is not named has the bytes `unnamed`, and without a file of tables the tables
--- are those of RFC 6386. At most as many states were cached as the capacity says for IN
-pub record IsServed (unnamed : List ℕ) (names : List (List ℕ)) (has_tables : Bool) (capacity : Capacity) (states : ℕ) (Replied : TableEntries → List (List ℕ) → Type 0) : Type 0 where
+-- are those of RFC 6386. The cache had the capacity of the command line
+pub record IsServed (unnamed : List ℕ) (names : List (List ℕ)) (has_tables : Bool) (capacity : Capacity) (cached : Cached) (Replied : TableEntries → List (List ℕ) → Type 0) : Type 0 where
   pub tables : TableEntries
   pub sources : List (List ℕ)
   pub replied : Replied tables sources
   pub named : AreNamed unnamed names sources
   pub rfc : has_tables ≡ false → tables ≡ rfc_entries
-  pub cached : AreStates capacity (stream_in sources) states
+  pub cached_is : cached ≡ cached_by capacity
 
 -- all requests were answered over the sources with these names, and then the frames of the session were not exported for this reason
 pub record IsUnexported (unnamed : List ℕ) (names : List (List ℕ)) (Replied : SessionState → TableEntries → List (List ℕ) → Type 0) (why : Unexported) : Type 0 where

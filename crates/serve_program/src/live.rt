@@ -3,15 +3,14 @@ ghost use Rattle.std.specs.Prelude.{◌≡◌, ◌≤◌, ◌⊎◌, IfErr, IfOk
 ghost use Rattle.std.specs.Io.KnownBytes.{Keeps};
 ghost use Rattle.std.specs.Rc.{rc_slice_items};
 ghost use Rattle.frame_session.specs.Sessions.{SessionState};
-ghost use Rattle.serve_arguments.specs.CachedStates.{AreStates};
 ghost use Rattle.serve_arguments.specs.Capacities.{IsGiven};
 ghost use Rattle.serve_arguments.specs.CommandLines.{source_names};
-ghost use Rattle.serve_program.specs.Endings.{AreLiveAnswered, AreLiveReplied, IsAfterExport, IsExportFault, IsLiveEnded, IsLiveFault, IsLiveRefused, IsLiveReplied, IsSaveFault, IsServed, stream_in};
+ghost use Rattle.serve_program.specs.Endings.{AreLiveAnswered, AreLiveReplied, IsAfterExport, IsExportFault, IsLiveEnded, IsLiveFault, IsLiveRefused, IsLiveReplied, IsSaveFault, IsServed, cached_by};
 
 use crate::exports::with_export;
 use crate::messages::Messages;
 use crate::program::{BYTES_AT_ONCE, finish, taken_by};
-use crate::runs::{live_fault, settings_over, shared};
+use crate::runs::{live_fault, settings_with, shared};
 use crate::saving::{Saves, begin_saves};
 use frame_session::{LiveFault, Session, Settings, run_live_over};
 use output_files::Counted;
@@ -34,7 +33,7 @@ fn run_to_path<R: Files + AllocGlobal, I: BufRead, P: Write, E: Write>(
     replies: &mut P,
     messages: &mut Messages<'_, E>,
 ) -> Result<Session, LiveFault>
-    requires capacity { (1 ≤ settings.capacity) × (settings.capacity ≤ 4096) }
+    requires capacity { (1 ≤ settings.capacity.states) × (settings.capacity.states ≤ 4096) }
     requires sources { (1 ≤ length sources.now) × (length sources.now ≤ 8) }
     ensures replied { IfOk result (λ session. IsLiveReplied settings.tables (map rc_slice_items sources.now) (I.remaining requests.old) (P.contents replies.old) (P.contents replies.new) session.now) }
     ensures capacity { IfOk result (λ session. session.cache.capacity ≡ settings.capacity) }
@@ -87,7 +86,7 @@ fn run_over<R: Files + AllocGlobal, I: Read, P: Write, E: Write>(
     replies: &mut P,
     messages: &mut Messages<'_, E>,
 ) -> Result<Session, LiveFault>
-    requires capacity { (1 ≤ settings.capacity) × (settings.capacity ≤ 4096) }
+    requires capacity { (1 ≤ settings.capacity.states) × (settings.capacity.states ≤ 4096) }
     requires sources { (1 ≤ length sources.now) × (length sources.now ≤ 8) }
     ensures replied { IfOk result (λ session. IsLiveReplied settings.tables (map rc_slice_items sources.now) (I.remaining reader.old) (P.contents replies.old) (P.contents replies.new) session.now) }
     ensures capacity { IfOk result (λ session. session.cache.capacity ≡ settings.capacity) }
@@ -116,7 +115,7 @@ fn run_requests<'a, R: Files + AllocGlobal, I: Read, P: Write, E: Write>(
     replies: &mut P,
     messages: &mut Messages<'_, E>,
 ) -> Result<Session, Fault<'a>>
-    requires capacity { (1 ≤ settings.capacity) × (settings.capacity ≤ 4096) }
+    requires capacity { (1 ≤ settings.capacity.states) × (settings.capacity.states ≤ 4096) }
     requires sources { (1 ≤ length sources.now) × (length sources.now ≤ 8) }
     ensures replied { IfOk result (λ session. AreLiveReplied line.now.words.requests.now (I.remaining input.old) (P.contents replies.old) (P.contents replies.new) session.now settings.tables (map rc_slice_items sources.now)) }
     ensures capacity { IfOk result (λ session. session.cache.capacity ≡ settings.capacity) }
@@ -175,12 +174,12 @@ fn answer_files<'a, R: Files + AllocGlobal, I: Read, O: Write, E: Write>(
     requires capacity { IsGiven line.now.capacity }
     requires sources { (1 ≤ length files.sources.items) × (length files.sources.items ≤ 8) }
     ensures replied { IfOk result (λ session. AreLiveAnswered line.now.words.requests.now (I.remaining input.old) (O.contents output.old) (O.contents output.new) (is_some line.now.words.exported) session.now files.tables (map (λ bytes. bytes.items) files.sources.items)) }
-    ensures capacity { IfOk result (λ session. AreStates line.now.capacity (stream_in (map (λ bytes. bytes.items) files.sources.items)) session.cache.capacity) }
+    ensures capacity { IfOk result (λ session. session.cache.capacity ≡ cached_by line.now.capacity) }
     ensures refused { IfErr result (λ fault. IsLiveRefused files.tables (map (λ bytes. bytes.items) files.sources.items) line.now.words.requests.now (I.remaining input.old) (O.contents output.old) (O.contents output.new) fault ⊎ (IsSaveFault fault × Keeps (O.contents output.old) (O.contents output.new)) ⊎ ((end : SessionState) × AreLiveReplied line.now.words.requests.now (I.remaining input.old) (O.contents output.old) (O.contents output.new) end files.tables (map (λ bytes. bytes.items) files.sources.items) × (IsSaveFault fault ⊎ IsExportFault end fault))) }
 {
     let FilesRead { tables, sources } = files;
     let sources = shared(rt.alloc(), sources)?;
-    let settings = settings_over(rt.alloc(), tables, line.capacity, sources.as_slice())?;
+    let settings = settings_with(tables, line.capacity);
     let saves = begin_saves(rt, line.words, messages)?;
     let answered = run_requests(
         rt,

@@ -5,17 +5,16 @@ ghost use Rattle.std.specs.Io.KnownBytes.{Appends};
 ghost use Rattle.std.specs.Rc.{rc_slice_items};
 ghost use Rattle.frame_session.specs.Answers.{Means};
 ghost use Rattle.frame_session.specs.Sessions.{SessionState};
-ghost use Rattle.serve_arguments.specs.CachedStates.{AreStates};
 ghost use Rattle.serve_arguments.specs.Capacities.{IsGiven};
 ghost use Rattle.serve_arguments.specs.CommandLines.{source_names};
 ghost use Rattle.serve_arguments.specs.Readings.{AreNamed};
-ghost use Rattle.serve_program.specs.Endings.{AreAnswered, AreReplied, AreStopped, IsAfterExport, IsEnded, IsExportFault, IsRefused, IsReplied, IsSaveFault, IsServed, IsStopped, IsUnreplied, spare_text, stream_in};
+ghost use Rattle.serve_program.specs.Endings.{AreAnswered, AreReplied, AreStopped, IsAfterExport, IsEnded, IsExportFault, IsRefused, IsReplied, IsSaveFault, IsServed, IsStopped, IsUnreplied, spare_text, cached_by};
 
 use crate::explain::{explain_end, explain_export, explain_fault, is_asked};
 use crate::exports::{Answered, with_export};
 use crate::live::answer_live;
 use crate::messages::Messages;
-use crate::runs::{run_fault, settings_over, shared};
+use crate::runs::{run_fault, settings_with, shared};
 use crate::saving::{Saves, begin_saves, finish_saves};
 use frame_session::{Observer, Session, Settings, run_over};
 use output_files::{Counted, Taken};
@@ -46,7 +45,7 @@ pub fn run_to<B: FileBytes, F: Write, P: Write, V: Observer>(
     replies: &mut P,
     observer: &mut V,
 ) -> Result<Session, Fault<'static>>
-    requires capacity { (1 ≤ settings.capacity) × (settings.capacity ≤ 4096) }
+    requires capacity { (1 ≤ settings.capacity.states) × (settings.capacity.states ≤ 4096) }
     requires sources { (1 ≤ length sources.now) × (length sources.now ≤ 8) }
     ensures answered { IfOk result (λ session. Means settings.tables (map B.bytes sources.now) requests.now (F.contents frames.old) (F.contents frames.new) (P.contents replies.old) (P.contents replies.new) session.now) }
     ensures capacity { IfOk result (λ session. session.cache.capacity ≡ settings.capacity) }
@@ -78,7 +77,7 @@ fn run_to_path<R: Files + AllocGlobal, P: Write, E: Write>(
     replies: &mut P,
     messages: &mut Messages<'_, E>,
 ) -> Result<Session, Fault<'static>>
-    requires capacity { (1 ≤ settings.capacity) × (settings.capacity ≤ 4096) }
+    requires capacity { (1 ≤ settings.capacity.states) × (settings.capacity.states ≤ 4096) }
     requires sources { (1 ≤ length sources.now) × (length sources.now ≤ 8) }
     ensures replied { IfOk result (λ session. IsReplied settings.tables (map rc_slice_items sources.now) requests.now (P.contents replies.old) (P.contents replies.new) session.now) }
     ensures capacity { IfOk result (λ session. session.cache.capacity ≡ settings.capacity) }
@@ -208,13 +207,13 @@ fn answer_inputs<R: Files + AllocGlobal, O: Write, E: Write>(
     requires paths { length line.now.more.items ≤ 7 }
     requires named { AreNamed EMPTY (source_names line.now) (map (λ bytes. bytes.items) inputs.files.sources.items) }
     ensures replied { IfOk result (λ session. (end : SessionState) × IsReplied inputs.files.tables (map (λ bytes. bytes.items) inputs.files.sources.items) inputs.requests.items (O.contents output.old) (O.contents output.new) end × IsAfterExport (is_some line.now.words.exported) end session.now) }
-    ensures capacity { IfOk result (λ session. AreStates line.now.capacity (stream_in (map (λ bytes. bytes.items) inputs.files.sources.items)) session.cache.capacity) }
+    ensures capacity { IfOk result (λ session. session.cache.capacity ≡ cached_by line.now.capacity) }
     ensures ended { IfErr result (λ fault. (left : Option (List ℕ)) → (left' : Option (List ℕ)) → (line.now.words.requests.now ≡ codes "-" → IfSome left (λ bytes. inputs.requests.items ≡ bytes)) → IsEnded EMPTY (option_map (λ path. path.now) line.now.words.tables) (source_names line.now) line.now.words.requests.now left left' (O.contents output.old) (O.contents output.new) (AreStopped line.now.words.requests.now left (O.contents output.old) (O.contents output.new)) (AreReplied line.now.words.requests.now left (O.contents output.old) (O.contents output.new)) fault) }
 {
     let Inputs { files, requests } = inputs;
     let FilesRead { tables, sources } = files;
     let sources = shared(rt.alloc(), sources)?;
-    let settings = settings_over(rt.alloc(), tables, line.capacity, sources.as_slice())?;
+    let settings = settings_with(tables, line.capacity);
     let session = run_to_path(
         rt,
         settings,
