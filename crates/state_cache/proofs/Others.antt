@@ -1,5 +1,5 @@
 -- The victim among the outcomes other than the newest one.
-use Rattle.std.proofs.Common.{◌≡◌, ℕ, zero, suc, ◌+◌, ◌-◌, ◌*◌, ◌<◌, ◌≤◌, ◌⊎◌, inl, inr, List, [], ◌∷◌, Option, Some, None, IfSome, IsSome, drop, length, slice_get, slice_range, take, refl, sym, ap, subst, ◌∙◌, arith}
+use Rattle.std.proofs.Common.{◌≡◌, ℕ, zero, suc, ◌+◌, ◌-◌, ◌<◌, ◌≤◌, ◌⊎◌, inl, inr, List, [], ◌∷◌, Option, Some, None, IfSome, drop, slice_get, slice_range, take, refl, sym, ap, subst, ◌∙◌, arith}
 use Rattle.state_cache.specs.declared.savings.Saving.{Saving}
 use Rattle.state_cache.specs.Evictions.{IsOtherVictim, IsVictim, SavesLess, age, saved}
 use Rattle.state_cache.specs.ProofsOnly.{IsLeastBetween, Lesser}

@@ -1,5 +1,5 @@
 -- The bytes of cached outcomes, and outcomes that are dropped because of a limit in bytes.
-use Rattle.std.proofs.Common.{◌≡◌, ℕ, zero, suc, ◌+◌, ◌-◌, ◌<◌, ◌≤◌, ◌⊎◌, inl, inr, Bool, true, false, cond, List, [], ◌∷◌, Option, Some, None, IsSome, is_some, option_map, length, slice_get, if◌then◌else◌, refl, sym, ap, subst, ◌∙◌, arith}
+use Rattle.std.proofs.Common.{◌≡◌, ℕ, ◌+◌, ◌-◌, ◌<◌, ◌≤◌, ◌⊎◌, inl, inr, Bool, true, false, cond, List, [], ◌∷◌, Option, Some, None, is_some, option_map, length, slice_get, if◌then◌else◌, refl, sym, ap, subst, ◌∙◌, arith}
 use Rattle.std.specs.Bool.{Decides}
 use Rattle.std.specs.List.{IsDistinct, position, swap_remove}
 use Rattle.std.specs.Map.{keys_of, lookup}
@@ -129,6 +129,25 @@ module _ (es : List Stored) (k : PacketKey) (newest n : ℕ) (e : Stored) (disti
   pub other_key : (n ≡ newest → ⊥) → same_key e.0 k ≡ false
   other_key other = keys_apart e.0 k (λ same. apart_case other same (up_to_or_behind newest n))
 
+  -- and the entry at the index of a key has this key
+  at_key : n ≡ newest → k ≡ e.0
+  at_key same = own ∙ ap (λ (m : ℕ). get_or (keys_of es) m k) (sym same) ∙ its
+
+not_cached : (o : Option Kept) → false ≡ is_some o → o ≡ None
+not_cached None h = refl
+not_cached (Some v) h = cc
+
+none_either : (k q : PacketKey) (es : List Stored) (b : Bool) → same_key k q ≡ b → lookup (same_key k) es ≡ None → lookup (same_key q) es ≡ cond b None (lookup (same_key q) es)
+none_either k q es true same none = ap (λ (x : PacketKey). lookup (same_key x) es) (sym (same_is_equal k q same)) ∙ none
+none_either k q es false same none = refl
+
+-- the outcome of a key is removed, if there is one
+pub without_key : (k : PacketKey) (es fs : List Stored) (found : Option ℕ) → IsDistinct same_key (keys_of es) → found ≡ position (same_key k) (keys_of es) → is_some found ≡ is_some (lookup (same_key k) es) → IsWithout found es fs
+    → (q : PacketKey) → lookup (same_key q) fs ≡ cond (same_key k q) None (lookup (same_key q) es)
+without_key k es fs None distinct found some w q = ap (λ (gs : List Stored). lookup (same_key q) gs) w ∙ none_either k q es (same_key k q) refl (not_cached (lookup (same_key k) es) some)
+without_key k es fs (Some n) distinct found some w q =
+    w.2 q ∙ ap (λ (x : PacketKey). cond (same_key x q) None (lookup (same_key q) es)) (sym (at_key es k n n w.0 distinct found w.1 refl))
+
 -- nothing is dropped, or one other outcome, or more
 pub shed_none : (k : PacketKey) (es fs : List Stored) → fs ≡ es → IsShed k es fs
 shed_none k es fs same = record {
@@ -162,3 +181,11 @@ without_other k newest (Some n) es fs distinct found other w = shed_one k es fs 
 -- the newest one stays
 pub newest_stays : (k : PacketKey) (bytes : ℕ) (es fs : List Stored) → IsShed k es fs → IsNewest k bytes es → IsNewest k bytes fs
 newest_stays k bytes es fs s n = (n.0, s.kept ∙ n.1, n.2)
+
+-- what another outcome takes is counted among the others
+pub others_less : (k : PacketKey) (bytes others gone : ℕ) (es fs : List Stored) → IsShed k es fs → IsNewest k bytes es → others + bytes ≡ cached_bytes es → cached_bytes fs + gone ≡ cached_bytes es → gone ≤ others
+others_less k bytes others gone es fs s n counted sum =
+    let there = newest_stays k bytes es fs s n in
+    let mine = found_bytes k fs there.0 there.1 in
+    let is = there.2 in
+    omega (arith, mine, is, counted, sum)

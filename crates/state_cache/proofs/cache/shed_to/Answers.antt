@@ -1,6 +1,6 @@
-use Rattle.std.proofs.Common.{◌≡◌, ◌+◌, ◌<◌, ◌≤◌, ◌∙◌, arith, rules, length, refl, ap}
+use Rattle.std.proofs.Common.{◌≡◌, ℕ, ◌+◌, ◌<◌, ◌≤◌, ◌∙◌, arith, rules, length, refl, ap}
 use Rattle.state_cache.specs.Bytes.{cached_bytes}
-use Rattle.state_cache.proofs.Shed.{found_bytes, newest_stays, shed_more, shed_none, single_bytes}
+use Rattle.state_cache.proofs.Shed.{newest_stays, others_less, shed_more, shed_none, single_bytes}
 use Rattle.state_cache.proofs.cache.shed_to.Goals as goal
 use Rattle.state_cache.proofs.cache.shed_to.Goals.{then-loop-savings-test+else-is_over, else-loop-savings-test}
 
@@ -16,14 +16,9 @@ pub overflow_sub-others : goal.overflow_sub-others
 overflow_sub-others c =
     let k = c.args.newest.key in
     let inv = c.loop-savings.invariant in
-    let left = c.drop_other-dropped.new.kept.entries in
-    let newest = newest_stays k c.args.newest.bytes c.loop-savings.kept.entries left c.drop_other-dropped.ensures.shed (newest_stays k c.args.newest.bytes c.args.kept.now.entries c.loop-savings.kept.entries inv.shed c.requires.newest) in
-    let mine = found_bytes k left newest.0 newest.1 in
-    let is = newest.2 in
-    let counted = inv.counted in
-    let sum = c.drop_other-dropped.ensures.bytes in
-    let gone = c.bytes_in-others.ensures.value in
-    omega (arith, mine, is, counted, sum, gone)
+    others_less k c.args.newest.bytes c.loop-savings.others c.bytes_in-others.result c.loop-savings.kept.entries c.drop_other-dropped.new.kept.entries c.drop_other-dropped.ensures.shed
+    (newest_stays k c.args.newest.bytes c.args.kept.now.entries c.loop-savings.kept.entries inv.shed c.requires.newest) inv.counted
+    (ap (λ (n : ℕ). cached_bytes c.drop_other-dropped.new.kept.entries + n) c.bytes_in-others.ensures.value ∙ c.drop_other-dropped.ensures.bytes)
 
 pub loop-savings-preserved : goal.loop-savings-preserved
 loop-savings-preserved c =
@@ -33,7 +28,10 @@ loop-savings-preserved c =
     let counted = inv.counted in
     let sum = c.drop_other-dropped.ensures.bytes in
     let gone = c.bytes_in-others.ensures.value in
-    let low : c.bytes_in-others.result ≤ c.loop-savings.others = overflow_sub-others c in
+    let low : c.bytes_in-others.result ≤ c.loop-savings.others =
+    others_less k c.args.newest.bytes c.loop-savings.others c.bytes_in-others.result c.loop-savings.kept.entries left c.drop_other-dropped.ensures.shed
+    (newest_stays k c.args.newest.bytes c.args.kept.now.entries c.loop-savings.kept.entries inv.shed c.requires.newest) inv.counted
+    (ap (λ (n : ℕ). cached_bytes left + n) c.bytes_in-others.ensures.value ∙ sum) in
     let over = c.is_over.ensures.0 c.if-is_over.true in
     record {
       shed = shed_more k c.args.kept.now.entries c.loop-savings.kept.entries left inv.shed c.drop_other-dropped.ensures.shed;

@@ -55,7 +55,7 @@ returns-in-Err-clause-costs c =
     let low : c.loop-next.next ≤ c.args.place = search (rules, arith) in
     walk_refused c.args.tables.now c.args.source c.args.store.now c.loop-next.store c.args.self.now c.loop-next.self c.args.place c.loop-next.next inv.so_far low inv.list c.advance.new.store c.advance.new.self
     (first_unsettled c.args.tables.now (marked_packets c.loop-next.store) (view_of c.args.source c.loop-next.self) c.args.place c.loop-next.next inv.next (omega (arith, within, long)))
-    c.advance.ensures.counted c.in-Err.ensures.refused.1 c.advance.ensures.capacity c.prove_few-2.ensures.bounded c.prove_few-2.ensures.within
+    c.advance.ensures.counted c.in-Err.ensures.refused.1 c.advance.ensures.capacity c.prove_few-in-Err.ensures.bounded c.prove_few-in-Err.ensures.within
 
 pub returns-clause-reaches : goal.returns-clause-reaches
 returns-clause-reaches c =

@@ -1,4 +1,4 @@
-use Rattle.std.proofs.Common.{◌≡◌, ◌<◌, ◌-◌, ◌∙◌, ℕ, List, ap, arith, drop, map, slice_range, subst, take}
+use Rattle.std.proofs.Common.{◌<◌, ◌-◌, ◌∙◌, ℕ, List, ap, arith, drop, slice_range, subst, take}
 use Rattle.std.proofs.lemmas.List.{drop-map, take-map}
 use Rattle.state_cache.specs.declared.savings.Saving.{Saving}
 use Rattle.state_cache.specs.Evictions.{IsVictim, last_use, saved}
