@@ -4,13 +4,13 @@ use Rattle.frame_session.proofs.LiveRuns.{live_means_at_cost}
 use Rattle.frame_session.proofs.Sources.{are_as_many, are_few}
 use Rattle.frame_session.proofs.live.run_live_over.Goals as goal
 
-pub new-requires-clause-sources : goal.new-requires-clause-sources
-new-requires-clause-sources g c =
+pub within-requires-clause-sources : goal.within-requires-clause-sources
+within-requires-clause-sources g c =
     let long : length c.in_ok-files.files.items ≡ length c.args.ivfs.now = are_as_many (map g.B.FileBytes.bytes c.args.ivfs.now) c.in_ok-files.files.items c.in_ok-files.ensures.are ∙ length-map c.args.ivfs.now _ in
     (omega (arith, long, c.requires.sources.0), omega (arith, long, c.requires.sources.1))
 
-pub new-requires-clause-few : goal.new-requires-clause-few
-new-requires-clause-few g c = are_few (map g.B.FileBytes.bytes c.args.ivfs.now) c.in_ok-files.files.items c.in_ok-files.ensures.are
+pub within-requires-clause-few : goal.within-requires-clause-few
+within-requires-clause-few g c = are_few (map g.B.FileBytes.bytes c.args.ivfs.now) c.in_ok-files.files.items c.in_ok-files.ensures.are
 
 pub returns-clause-costs : goal.returns-clause-costs
 returns-clause-costs g c =
