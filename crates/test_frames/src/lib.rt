@@ -16,6 +16,7 @@ mod filters;
 mod frames;
 #[cfg(test)]
 mod inter;
+#[cfg(test)]
 mod limits;
 #[cfg(test)]
 mod modes;
