@@ -1,3 +1,4 @@
 pub mod Endings
+pub mod Noted
 pub mod Frames
 pub mod Reports

@@ -6,11 +6,12 @@ ghost use Rattle.frame_session.specs.Sessions.{SessionState};
 ghost use Rattle.serve_arguments.specs.CachedStates.{AreStates};
 ghost use Rattle.serve_arguments.specs.Capacities.{IsGiven};
 ghost use Rattle.serve_arguments.specs.CommandLines.{source_names};
-ghost use Rattle.serve_program.specs.Endings.{AreLiveAnswered, AreLiveReplied, IsAfterExport, IsExportFault, IsLiveEnded, IsLiveFault, IsLiveRefused, IsLiveReplied, IsSaveFault, IsServed, stream_in};
+ghost use Rattle.serve_program.specs.Endings.{AreLiveAnswered, AreLiveReplied, IsAfterExport, IsExportFault, IsLiveEnded, IsLiveFault, IsLiveRefused, IsLiveReplied, IsSaveFault, IsServed, OverSources, stream_in};
+ghost use Rattle.serve_program.specs.Noted.{AreLiveNoted, IsLiveNoted};
 
 use crate::exports::with_export;
 use crate::messages::Messages;
-use crate::program::{BYTES_AT_ONCE, finish, taken_by};
+use crate::program::{BYTES_AT_ONCE, Served, finish, taken_by};
 use crate::runs::{live_fault, settings_over, shared};
 use crate::saving::{Saves, begin_saves};
 use frame_session::{LiveFault, Session, Settings, run_live_over};
@@ -37,6 +38,7 @@ fn run_to_path<R: Files + AllocGlobal, I: BufRead, P: Write, E: Write>(
     requires capacity { (1 ≤ settings.capacity) × (settings.capacity ≤ 4096) }
     requires sources { (1 ≤ length sources.now) × (length sources.now ≤ 8) }
     ensures replied { IfOk result (λ session. IsLiveReplied settings.tables (map rc_slice_items sources.now) (I.remaining requests.old) (P.contents replies.old) (P.contents replies.new) session.now) }
+    ensures noted { IfOk result (λ session. IsLiveNoted settings.tables (map rc_slice_items sources.now) (I.remaining requests.old) (P.contents replies.old) (P.contents replies.new) messages.old.has_refused messages.new.has_refused) }
     ensures capacity { IfOk result (λ session. session.cache.capacity ≡ settings.capacity) }
     ensures fault { IfErr result (IsLiveFault settings.tables (map rc_slice_items sources.now) (I.remaining requests.old) (P.contents replies.old) (P.contents replies.new)) }
 {
@@ -90,6 +92,7 @@ fn run_over<R: Files + AllocGlobal, I: Read, P: Write, E: Write>(
     requires capacity { (1 ≤ settings.capacity) × (settings.capacity ≤ 4096) }
     requires sources { (1 ≤ length sources.now) × (length sources.now ≤ 8) }
     ensures replied { IfOk result (λ session. IsLiveReplied settings.tables (map rc_slice_items sources.now) (I.remaining reader.old) (P.contents replies.old) (P.contents replies.new) session.now) }
+    ensures noted { IfOk result (λ session. IsLiveNoted settings.tables (map rc_slice_items sources.now) (I.remaining reader.old) (P.contents replies.old) (P.contents replies.new) messages.old.has_refused messages.new.has_refused) }
     ensures capacity { IfOk result (λ session. session.cache.capacity ≡ settings.capacity) }
     ensures fault { IfErr result (IsLiveFault settings.tables (map rc_slice_items sources.now) (I.remaining reader.old) (P.contents replies.old) (P.contents replies.new)) }
 {
@@ -119,6 +122,7 @@ fn run_requests<'a, R: Files + AllocGlobal, I: Read, P: Write, E: Write>(
     requires capacity { (1 ≤ settings.capacity) × (settings.capacity ≤ 4096) }
     requires sources { (1 ≤ length sources.now) × (length sources.now ≤ 8) }
     ensures replied { IfOk result (λ session. AreLiveReplied line.now.words.requests.now (I.remaining input.old) (P.contents replies.old) (P.contents replies.new) session.now settings.tables (map rc_slice_items sources.now)) }
+    ensures noted { IfOk result (λ session. AreLiveNoted line.now.words.requests.now (I.remaining input.old) (P.contents replies.old) (P.contents replies.new) messages.old.has_refused messages.new.has_refused settings.tables (map rc_slice_items sources.now)) }
     ensures capacity { IfOk result (λ session. session.cache.capacity ≡ settings.capacity) }
     ensures refused { IfErr result (IsLiveRefused settings.tables (map rc_slice_items sources.now) line.now.words.requests.now (I.remaining input.old) (P.contents replies.old) (P.contents replies.new)) }
 {
@@ -163,7 +167,6 @@ fn finish_live<R: Files + AllocGlobal, E: Write>(
 
 /// Answers the request lines over the files that were read, as they come, exports the frames and saves the packets of source 0 if that is asked for:
 /// the new files are made before the first line is read.
-/// Returns the session after that.
 fn answer_files<'a, R: Files + AllocGlobal, I: Read, O: Write, E: Write>(
     rt: &R,
     line: &Accepted<'a>,
@@ -171,11 +174,12 @@ fn answer_files<'a, R: Files + AllocGlobal, I: Read, O: Write, E: Write>(
     input: &mut I,
     output: &mut O,
     messages: &mut Messages<'_, E>,
-) -> Result<Session, Fault<'a>>
+) -> Result<Served, Fault<'a>>
     requires capacity { IsGiven line.now.capacity }
     requires sources { (1 ≤ length files.sources.items) × (length files.sources.items ≤ 8) }
-    ensures replied { IfOk result (λ session. AreLiveAnswered line.now.words.requests.now (I.remaining input.old) (O.contents output.old) (O.contents output.new) (is_some line.now.words.exported) session.now files.tables (map (λ bytes. bytes.items) files.sources.items)) }
-    ensures capacity { IfOk result (λ session. AreStates line.now.capacity (stream_in (map (λ bytes. bytes.items) files.sources.items)) session.cache.capacity) }
+    ensures replied { IfOk result (λ served. AreLiveAnswered line.now.words.requests.now (I.remaining input.old) (O.contents output.old) (O.contents output.new) (is_some line.now.words.exported) served.session.now files.tables (map (λ bytes. bytes.items) files.sources.items)) }
+    ensures noted { IfOk result (λ served. AreLiveNoted line.now.words.requests.now (I.remaining input.old) (O.contents output.old) (O.contents output.new) messages.old.has_refused served.has_refused files.tables (map (λ bytes. bytes.items) files.sources.items)) }
+    ensures capacity { IfOk result (λ served. AreStates line.now.capacity (stream_in (map (λ bytes. bytes.items) files.sources.items)) served.session.cache.capacity) }
     ensures refused { IfErr result (λ fault. IsLiveRefused files.tables (map (λ bytes. bytes.items) files.sources.items) line.now.words.requests.now (I.remaining input.old) (O.contents output.old) (O.contents output.new) fault ⊎ (IsSaveFault fault × Keeps (O.contents output.old) (O.contents output.new)) ⊎ ((end : SessionState) × AreLiveReplied line.now.words.requests.now (I.remaining input.old) (O.contents output.old) (O.contents output.new) end files.tables (map (λ bytes. bytes.items) files.sources.items) × (IsSaveFault fault ⊎ IsExportFault end fault))) }
 {
     let FilesRead { tables, sources } = files;
@@ -191,8 +195,15 @@ fn answer_files<'a, R: Files + AllocGlobal, I: Read, O: Write, E: Write>(
         output,
         messages,
     );
+    let has_refused = messages.has_refused();
     match answered {
-        Ok(session) => finish_live(rt, session, line, sources.as_slice(), saves, messages),
+        Ok(session) => {
+            let session = finish_live(rt, session, line, sources.as_slice(), saves, messages)?;
+            Ok(Served {
+                session,
+                has_refused,
+            })
+        }
         Err(fault) => {
             saves.abandon();
             Err(fault)
@@ -200,17 +211,18 @@ fn answer_files<'a, R: Files + AllocGlobal, I: Read, O: Write, E: Write>(
     }
 }
 
-/// Does what an accepted command line with `--live` asks for. Returns the session after the last line.
+/// Does what an accepted command line with `--live` asks for.
 pub fn answer_live<'a, R: Files + AllocGlobal, I: Read, O: Write, E: Write>(
     rt: &R,
     line: &Accepted<'a>,
     input: &mut I,
     output: &mut O,
     messages: &mut Messages<'_, E>,
-) -> Result<Session, Fault<'a>>
+) -> Result<Served, Fault<'a>>
     requires capacity { IsGiven line.now.capacity }
     requires paths { length line.now.more.items ≤ 7 }
-    ensures served { IfOk result (λ session. IsServed EMPTY (source_names line.now) (is_some line.now.words.tables) line.now.capacity session.cache.capacity (AreLiveAnswered line.now.words.requests.now (I.remaining input.old) (O.contents output.old) (O.contents output.new) (is_some line.now.words.exported) session.now)) }
+    ensures served { IfOk result (λ served. IsServed EMPTY (source_names line.now) (is_some line.now.words.tables) line.now.capacity served.session.cache.capacity (AreLiveAnswered line.now.words.requests.now (I.remaining input.old) (O.contents output.old) (O.contents output.new) (is_some line.now.words.exported) served.session.now)) }
+    ensures noted { IfOk result (λ served. OverSources EMPTY (source_names line.now) (AreLiveNoted line.now.words.requests.now (I.remaining input.old) (O.contents output.old) (O.contents output.new) messages.old.has_refused served.has_refused)) }
     ensures ended { IfErr result (IsLiveEnded EMPTY (option_map (λ path. path.now) line.now.words.tables) (source_names line.now) line.now.words.requests.now (I.remaining input.old) (I.remaining input.new) (O.contents output.old) (O.contents output.new)) }
 {
     let files = read_files(rt, line)?;

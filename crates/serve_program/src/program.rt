@@ -1,15 +1,19 @@
 // The program over a reader and two writers.
-ghost use Rattle.std.specs.Prelude.{◌≡◌, ◌≤◌, ◌⊎◌, ℕ, [], IfOk, IfErr, IfSome, List, None, OnOk, Option, codes, is_some, length, map, option_map};
+ghost use Rattle.std.specs.Prelude.{◌≡◌, ◌≤◌, ◌⊎◌, ℕ, [], true, IfOk, IfErr, IfSome, List, None, OnOk, Option, codes, is_some, length, map, nat_eq, option_map};
+ghost use Rattle.std.specs.Cmp.Lexicographic.{pointwise};
+ghost use Rattle.std.specs.List.{list_any};
 ghost use Rattle.std.specs.Io.Buffered.{writer_buffer};
 ghost use Rattle.std.specs.Io.KnownBytes.{Appends};
 ghost use Rattle.std.specs.Rc.{rc_slice_items};
 ghost use Rattle.frame_session.specs.Answers.{Means};
+ghost use Rattle.frame_session.specs.Noted.{MeansNoted};
 ghost use Rattle.frame_session.specs.Sessions.{SessionState};
 ghost use Rattle.serve_arguments.specs.CachedStates.{AreStates};
 ghost use Rattle.serve_arguments.specs.Capacities.{IsGiven};
 ghost use Rattle.serve_arguments.specs.CommandLines.{source_names};
 ghost use Rattle.serve_arguments.specs.Readings.{AreNamed};
-ghost use Rattle.serve_program.specs.Endings.{AreAnswered, AreReplied, AreStopped, IsAfterExport, IsEnded, IsExportFault, IsRefused, IsReplied, IsSaveFault, IsServed, IsStopped, IsUnreplied, spare_text, stream_in};
+ghost use Rattle.serve_program.specs.Endings.{AreAnswered, AreReplied, AreStopped, IsAfterExport, IsEnded, IsExportFault, IsRefused, IsReplied, IsSaveFault, IsServed, IsStopped, IsUnreplied, OverSources, spare_text, stream_in};
+ghost use Rattle.serve_program.specs.Noted.{AreNoted, IsNoted, status_after};
 
 use crate::explain::{explain_end, explain_export, explain_fault, is_asked};
 use crate::exports::{Answered, with_export};
@@ -49,6 +53,7 @@ pub fn run_to<B: FileBytes, F: Write, P: Write, V: Observer>(
     requires capacity { (1 ≤ settings.capacity) × (settings.capacity ≤ 4096) }
     requires sources { (1 ≤ length sources.now) × (length sources.now ≤ 8) }
     ensures answered { IfOk result (λ session. Means settings.tables (map B.bytes sources.now) requests.now (F.contents frames.old) (F.contents frames.new) (P.contents replies.old) (P.contents replies.new) session.now) }
+    ensures noted { IfOk result (λ session. MeansNoted settings.tables (map B.bytes sources.now) requests.now (F.contents frames.old) (F.contents frames.new) (P.contents replies.old) (P.contents replies.new) session.now (V.has_refused observer.old) (V.has_refused observer.new)) }
     ensures capacity { IfOk result (λ session. session.cache.capacity ≡ settings.capacity) }
     ensures refused { IfErr result (IsRefused settings.tables (map B.bytes sources.now) requests.now (F.contents frames.old) (F.contents frames.new) (P.contents replies.old) (P.contents replies.new)) }
 {
@@ -81,6 +86,7 @@ fn run_to_path<R: Files + AllocGlobal, P: Write, E: Write>(
     requires capacity { (1 ≤ settings.capacity) × (settings.capacity ≤ 4096) }
     requires sources { (1 ≤ length sources.now) × (length sources.now ≤ 8) }
     ensures replied { IfOk result (λ session. IsReplied settings.tables (map rc_slice_items sources.now) requests.now (P.contents replies.old) (P.contents replies.new) session.now) }
+    ensures noted { IfOk result (λ session. IsNoted settings.tables (map rc_slice_items sources.now) requests.now (P.contents replies.old) (P.contents replies.new) messages.old.has_refused messages.new.has_refused) }
     ensures capacity { IfOk result (λ session. session.cache.capacity ≡ settings.capacity) }
     ensures refused { IfErr result (IsUnreplied (map rc_slice_items sources.now) (IsStopped settings.tables (map rc_slice_items sources.now) requests.now (P.contents replies.old) (P.contents replies.new)) (P.contents replies.old) (P.contents replies.new)) }
 {
@@ -194,8 +200,14 @@ fn finish_batch<R: Files + AllocGlobal, E: Write>(
     finish(rt, done, line, sources, saves, messages)
 }
 
-/// Answers the requests over what was read, exports the frames and saves the packets of source 0 if that is asked for. Returns the session after
-/// that.
+/// What was asked is done: the session after that, and whether a request for a frame was refused.
+#[derive(Drop)]
+pub struct Served {
+    pub session: Session,
+    pub has_refused: bool,
+}
+
+/// Answers the requests over what was read, exports the frames and saves the packets of source 0 if that is asked for.
 #[tactic(auto, using(crate::proofs::Ended::run_ended, crate::proofs::Ended::memory_ended, crate::proofs::Ended::finish_ended))]
 fn answer_inputs<R: Files + AllocGlobal, O: Write, E: Write>(
     rt: &R,
@@ -203,12 +215,13 @@ fn answer_inputs<R: Files + AllocGlobal, O: Write, E: Write>(
     inputs: Inputs,
     output: &mut O,
     messages: &mut Messages<'_, E>,
-) -> Result<Session, Fault<'static>>
+) -> Result<Served, Fault<'static>>
     requires capacity { IsGiven line.now.capacity }
     requires paths { length line.now.more.items ≤ 7 }
     requires named { AreNamed EMPTY (source_names line.now) (map (λ bytes. bytes.items) inputs.files.sources.items) }
-    ensures replied { IfOk result (λ session. (end : SessionState) × IsReplied inputs.files.tables (map (λ bytes. bytes.items) inputs.files.sources.items) inputs.requests.items (O.contents output.old) (O.contents output.new) end × IsAfterExport (is_some line.now.words.exported) end session.now) }
-    ensures capacity { IfOk result (λ session. AreStates line.now.capacity (stream_in (map (λ bytes. bytes.items) inputs.files.sources.items)) session.cache.capacity) }
+    ensures noted { IfOk result (λ served. IsNoted inputs.files.tables (map (λ bytes. bytes.items) inputs.files.sources.items) inputs.requests.items (O.contents output.old) (O.contents output.new) messages.old.has_refused served.has_refused) }
+    ensures replied { IfOk result (λ served. (end : SessionState) × IsReplied inputs.files.tables (map (λ bytes. bytes.items) inputs.files.sources.items) inputs.requests.items (O.contents output.old) (O.contents output.new) end × IsAfterExport (is_some line.now.words.exported) end served.session.now) }
+    ensures capacity { IfOk result (λ served. AreStates line.now.capacity (stream_in (map (λ bytes. bytes.items) inputs.files.sources.items)) served.session.cache.capacity) }
     ensures ended { IfErr result (λ fault. (left : Option (List ℕ)) → (left' : Option (List ℕ)) → (line.now.words.requests.now ≡ codes "-" → IfSome left (λ bytes. inputs.requests.items ≡ bytes)) → IsEnded EMPTY (option_map (λ path. path.now) line.now.words.tables) (source_names line.now) line.now.words.requests.now left left' (O.contents output.old) (O.contents output.new) (AreStopped line.now.words.requests.now left (O.contents output.old) (O.contents output.new)) (AreReplied line.now.words.requests.now left (O.contents output.old) (O.contents output.new)) fault) }
 {
     let Inputs { files, requests } = inputs;
@@ -224,10 +237,15 @@ fn answer_inputs<R: Files + AllocGlobal, O: Write, E: Write>(
         output,
         messages,
     )?;
-    finish_batch(rt, session, line, sources.as_slice(), messages)
+    let has_refused = messages.has_refused();
+    let session = finish_batch(rt, session, line, sources.as_slice(), messages)?;
+    Ok(Served {
+        session,
+        has_refused,
+    })
 }
 
-/// Does what an accepted command line asks for. Returns the session after the last request.
+/// Does what an accepted command line asks for.
 #[tactic(auto, using(crate::proofs::Ended::unread_ended))]
 fn answer<'a, R: Files + AllocGlobal, I: Read, O: Write, E: Write>(
     rt: &R,
@@ -235,10 +253,11 @@ fn answer<'a, R: Files + AllocGlobal, I: Read, O: Write, E: Write>(
     input: &mut I,
     output: &mut O,
     messages: &mut Messages<'_, E>,
-) -> Result<Session, Fault<'a>>
+) -> Result<Served, Fault<'a>>
     requires capacity { IsGiven line.now.capacity }
     requires paths { length line.now.more.items ≤ 7 }
-    ensures served { IfOk result (λ session. IsServed EMPTY (source_names line.now) (is_some line.now.words.tables) line.now.capacity session.cache.capacity (AreAnswered line.now.words.requests.now (I.remaining input.old) (O.contents output.old) (O.contents output.new) (is_some line.now.words.exported) session.now)) }
+    ensures served { IfOk result (λ served. IsServed EMPTY (source_names line.now) (is_some line.now.words.tables) line.now.capacity served.session.cache.capacity (AreAnswered line.now.words.requests.now (I.remaining input.old) (O.contents output.old) (O.contents output.new) (is_some line.now.words.exported) served.session.now)) }
+    ensures noted { IfOk result (λ served. OverSources EMPTY (source_names line.now) (AreNoted line.now.words.requests.now (I.remaining input.old) (O.contents output.old) (O.contents output.new) messages.old.has_refused served.has_refused)) }
     ensures ended { IfErr result (IsEnded EMPTY (option_map (λ path. path.now) line.now.words.tables) (source_names line.now) line.now.words.requests.now (I.remaining input.old) (I.remaining input.new) (O.contents output.old) (O.contents output.new) (AreStopped line.now.words.requests.now (I.remaining input.old) (O.contents output.old) (O.contents output.new)) (AreReplied line.now.words.requests.now (I.remaining input.old) (O.contents output.old) (O.contents output.new))) }
 {
     let inputs = read_inputs(rt, line, input)?;
@@ -252,6 +271,21 @@ fn flush_replies<O: Write + Drop>(output: &mut BufWriter<O>) -> Result<(), Fault
     output.flush().map_err(|_| Fault::CannotWrite)
 }
 
+/// Whether the option `--fail-refused` is among the arguments.
+fn names_fail_refused<S: AsStr>(words: &[S]) -> bool
+    ensures { result ≡ list_any (λ word. pointwise nat_eq (S.text word) (codes "--fail-refused")) words.now }
+{
+    words.iter().any(|word| word.as_str() == "--fail-refused")
+}
+
+/// The exit status after all requests were answered.
+fn status_after(fails_refused: bool, has_refused: bool) -> u8
+    ensures value { result ≡ status_after fails_refused has_refused }
+    ensures either { (result ≡ 0) ⊎ (result ≡ 3) }
+{
+    if fails_refused && has_refused { 3 } else { 0 }
+}
+
 /// Does what a command line asks for, flushes the replies, and returns the exit status.
 fn answer_line<'a, R: Files + AllocGlobal, S: AsStr, I: Read, O: Write + Drop, E: Write>(
     rt: &R,
@@ -260,9 +294,12 @@ fn answer_line<'a, R: Files + AllocGlobal, S: AsStr, I: Read, O: Write + Drop, E
     output: &mut BufWriter<O>,
     messages: &mut Messages<'_, E>,
 ) -> Result<u8, Fault<'a>>
-    ensures status { IfOk result (λ status. status ≡ 0) }
+    ensures status { IfOk result (λ status. (status ≡ 0) ⊎ (status ≡ 3)) }
+    ensures asked { IfOk result (λ status. status ≡ 3 → list_any (λ word. pointwise nat_eq (S.text word) (codes "--fail-refused")) words.now ≡ true) }
     ensures flushed { OnOk result (writer_buffer output.new ≡ []) }
 {
+    // No contract says which argument sets the flag of an option, so the argument itself is looked for too.
+    let is_named = names_fail_refused(words);
     let words = match parse(rt.alloc(), words) {
         Ok(words) => words,
         Err(error) => {
@@ -272,18 +309,22 @@ fn answer_line<'a, R: Files + AllocGlobal, S: AsStr, I: Read, O: Write + Drop, E
     };
     let line = words.accept(rt.alloc())?;
     check_places(rt, &line)?;
-    if line.words.is_live {
-        answer_live(rt, &line, input, output, messages)?;
+    let served = if line.words.is_live {
+        answer_live(rt, &line, input, output, messages)?
     } else {
-        answer(rt, &line, input, output, messages)?;
-    }
+        answer(rt, &line, input, output, messages)?
+    };
     flush_replies(output)?;
-    Ok(0)
+    if !is_named {
+        return Ok(0);
+    }
+    Ok(status_after(line.words.fails_refused, served.has_refused))
 }
 
 /// Runs the program on a command line, whose first argument is the program's name, and returns its exit
-/// status: 0 if every request was answered, also by a refusal, and for help and the version; 2 for a
-/// mistake on the command line; 1 for every other error. At 0 nothing is left in the buffer of `output`.
+/// status: 0 if every request was answered, also by a refusal, and for help and the version; with `--fail-refused` 3 instead of 0 if a
+/// request for a frame was refused; 2 for a mistake on the command line; 1 for every other error. At 0 and 3 nothing is left in the
+/// buffer of `output`.
 ///
 /// All files are read whole, up to 1,073,741,824 bytes each, before the file for the frames is created: the
 /// tables, IN, the files of `--sources` in their order, the requests. The packets of source 0 are saved after the last
@@ -301,8 +342,10 @@ pub fn serve<R: Files + AllocGlobal, S: AsStr, I: Read, O: Write + Drop, E: Writ
     output: &mut BufWriter<O>,
     errors: &mut E,
 ) -> u8
-    ensures status { result ≤ 2 }
+    ensures status { result ≤ 3 }
     ensures flushed { result ≡ 0 → writer_buffer output.new ≡ [] }
+    ensures failed { result ≡ 3 → writer_buffer output.new ≡ [] }
+    ensures asked { result ≡ 3 → list_any (λ word. pointwise nat_eq (S.text word) (codes "--fail-refused")) words.now ≡ true }
 {
     let mut messages = Messages::new(errors, is_asked(words));
     let answer = answer_line(rt, words, input, output, &mut messages);

@@ -238,6 +238,7 @@ fn names_explain(rt: HostRuntime) {
     expect_named(&rt, &["vp8serve", "--pad"], 2, told);
     expect_named(&rt, &["vp8serve", "no.ivf"], 1, told);
     expect_named(&rt, &["vp8serve", "--help"], 0, "");
+    expect_named(&rt, &["vp8serve", "--fail-refused"], 3, "");
     expect_named(&rt, &["vp8serve", "--pad", "--explain"], 2, "");
 }
 

@@ -52,6 +52,7 @@ Options:
       --pad                 With --save or --export: a byte 00 after packets that other players do not show
       --restamp             With --save: new time stamps, without the gaps and jumps of edits
       --live                Answer each request line as it comes, before the next is read
+      --fail-refused        Exit with status 3 if a request for a frame was refused
       --explain             Explain refusals and errors on standard error
   -h, --help                Print help
   -V, --version             Print version

@@ -241,6 +241,46 @@ fn tells_an_export_that_fails(rt: HostRuntime) {
     clear(&rt, "kept.ivf");
 }
 
+/// With `--fail-refused` the exit status is 3 if a frame was refused, and files are saved all the same.
+#[test]
+fn fails_if_a_frame_is_refused(rt: HostRuntime) {
+    put(&rt, "failing.ivf", ONE);
+    let requests = "frame 1\nframe 0\n";
+    let replies = "refused NoSuchFrame\nserved 0\n";
+    for (line, status) in [
+        ("vp8serve failing.ivf --save failed.ivf", 0),
+        ("vp8serve failing.ivf --save failed.ivf --live", 0),
+        ("vp8serve failing.ivf --save failed.ivf --fail-refused", 3),
+        (
+            "vp8serve failing.ivf --save failed.ivf --fail-refused --live",
+            3,
+        ),
+    ] {
+        put(&rt, "failed.ivf", NONE);
+        expect(&rt, line, requests, replies, "", status);
+        check(&rt, "failed.ivf", ONE);
+    }
+    clear(&rt, "failing.ivf failed.ivf");
+}
+
+/// Only a refused request for a frame is a failure: not a refused edit, question or line that is not a request.
+#[test]
+fn only_refused_frames_fail(rt: HostRuntime) {
+    let requests =
+        "delete 0\nframe\nuse 9\npacket 0\norigins 1 1\nscript x\nblank 0 16 16\nframe 0\n";
+    let replies =
+        "refused Place\nrefused Line\nrefused Source\nrefused Place\nrefused NoSuchFrame\nrefused Syntax\nok 1\nserved 0\n";
+    expect(&rt, "vp8serve --fail-refused", requests, replies, "", 0);
+    expect(
+        &rt,
+        "vp8serve --fail-refused --live",
+        requests,
+        replies,
+        "",
+        0,
+    );
+}
+
 /// A save that fails is reported after the replies, and then trailing bytes are not reported.
 #[test]
 fn tells_a_save_that_fails(rt: HostRuntime) {
