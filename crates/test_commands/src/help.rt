@@ -1,9 +1,9 @@
 // Help and the version.
 use crate::expected::expect;
 use list_program::answer;
+use program_parts::NamedFiles;
 use std::io::BufWriter;
 use std::process::Abort;
-use std::rt::Files;
 use stream_checks::Unwatched;
 
 const HELP: &str = "\
@@ -251,7 +251,7 @@ Options:
 ";
 
 /// Checks what vp8list prints for the words of a command line that reads no file.
-fn expect_list<R: Abort + Files + AllocGlobal>(rt: &R, words: &[&str], text: &str) {
+fn expect_list<R: Abort + NamedFiles + AllocGlobal>(rt: &R, words: &[&str], text: &str) {
     let mut output = Vec::new(rt.alloc());
     let mut errors = Vec::new(rt.alloc());
     let mut input = b"".as_slice();

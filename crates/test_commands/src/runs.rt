@@ -3,9 +3,10 @@ use crate::expected::{
     Broken, CODED, NONE, ONE, OPENING, check, clear, expect, push_frame, put, run_line,
 };
 use frame_session::{RunFault, run};
+use output_files::SavedFiles;
+use program_parts::NamedFiles;
 use std::alloc::Global;
 use std::process::Abort;
-use std::rt::Files;
 use std::test::Fail;
 use stream_files::EMPTY;
 use vp8_tables::Tables;
@@ -310,7 +311,7 @@ fn takes_numbers_of_cached_states(rt: HostRuntime) {
 }
 
 /// The frame of `CODED`, as written with these tables.
-fn frame_with(alloc: Global, tables: Tables) -> Result<Vec<u8>, RunFault> {
+pub fn frame_with(alloc: Global, tables: Tables) -> Result<Vec<u8>, RunFault> {
     let mut frames = Vec::new(alloc);
     let mut replies = Vec::new(alloc);
     run(
@@ -326,7 +327,10 @@ fn frame_with(alloc: Global, tables: Tables) -> Result<Vec<u8>, RunFault> {
 }
 
 /// Serves the frame of `CODED` with tables whose entries are all the same, and returns it.
-fn coded_frame<R: Abort + Files + AllocGlobal>(rt: &R, entry: u8) -> Result<Vec<u8>, Fail> {
+fn coded_frame<R: Abort + NamedFiles + SavedFiles + AllocGlobal>(
+    rt: &R,
+    entry: u8,
+) -> Result<Vec<u8>, Fail> {
     let frame = frame_with(rt.alloc(), Tables::read(&[entry; 3012])?)?;
     put(rt, "entries.bin", &[entry; 3012]);
     let line = "vp8serve coded.ivf - coded.y4m --tables entries.bin";

@@ -1,6 +1,8 @@
 // Readers and writers that fail.
 use crate::expected::{Broken, ONE, OPENING, run_line};
 use frame_session::{LiveFault, Settings, Unobserved, run_live};
+use output_files::SavedFiles;
+use program_parts::NamedFiles;
 use serve_program::{Fault, run_to};
 use std::cell::Cell;
 use std::io::{self, BufWriter, Read, Write};
@@ -11,7 +13,7 @@ use stream_files::EMPTY;
 use vp8_tables::Tables;
 
 /// Checks the message of a run whose replies go to this writer.
-fn expect_failing<R: Abort + Files + AllocGlobal, I: Read, O: Write>(
+fn expect_failing<R: Abort + NamedFiles + SavedFiles + AllocGlobal, I: Read, O: Write>(
     rt: &R,
     line: &str,
     requests: &mut I,
