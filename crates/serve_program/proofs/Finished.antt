@@ -1,5 +1,5 @@
 -- Answers whose writers are flushed after them, a file that gained the frames, and what is saved.
-use Rattle.std.proofs.Common.{◌≡◌, ◌≢◌, ◌∙◌, ℕ, List, [], ◌++◌, Option, Some, None, Bool, true, false, refl, sym, ap, append-nil}
+use Rattle.std.proofs.Common.{◌≡◌, ◌≢◌, ◌∙◌, ℕ, List, [], ◌++◌, Option, Some, None, Bool, true, false, refl, sym, ap, subst, append-nil}
 use Rattle.std.proofs.lemmas.Bool.{false≢true}
 use Rattle.std.specs.Borrow.{Bor}
 use Rattle.std.specs.Prelude.{IfSome, MatchBool, codes, is_some}
@@ -9,6 +9,7 @@ use Rattle.vp8_tables.specs.Tables.{TableEntries}
 use Rattle.frame_session.specs.Answers.{Means, frames_of, replies_of}
 use Rattle.frame_session.specs.Exported.{IsExportFile}
 use Rattle.frame_session.specs.Live.{LiveMeans}
+use Rattle.frame_session.specs.Noted.{LiveMeansNoted}
 use Rattle.frame_session.specs.Sessions.{SessionState}
 use Rattle.frame_session.specs.declared.export.Export.{Export}
 use Rattle.serve_arguments.specs.CommandLines.{IsAccepted}
@@ -16,9 +17,10 @@ use Rattle.serve_arguments.specs.Locations.{ArePlaced, AreSeparate}
 use Rattle.serve_arguments.specs.declared.words.Accepted.{Accepted}
 use Rattle.serve_arguments.specs.declared.words.Words.{Words}
 use Rattle.serve_program.specs.Done.{IsDone, IsServedAs}
-use Rattle.serve_program.specs.Endings.{AreLiveReplied, AreReplied, Gained, IsLiveReplied, IsOut, IsReplied, IsServed, RunFiles}
+use Rattle.serve_program.specs.Endings.{AreLiveReplied, AreReplied, Gained, IsLiveReplied, IsOut, IsReplied, IsServed, OverSources, RunFiles}
+use Rattle.serve_program.specs.Noted.{AreLiveNoted, AreNoted, IsLiveNoted, IsNoted, IsNotedAs}
 use Rattle.serve_program.specs.Saved.{ArePacketsSaved, AreFramesSaved, AreSaved, IsAfterExport, IsExportSaved, SavedAt, exported_text}
-use Rattle.serve_program.proofs.Flushed.{flushed}
+use Rattle.serve_program.proofs.Flushed.{flushed, flushed_noted}
 
 appends_from : (a b c : Option (List ℕ)) (bs : List ℕ) → Keeps a b → Appends b c bs → Appends a c bs
 appends_from None b c bs kept grown = tt
@@ -114,6 +116,36 @@ live_replied_kept out tables sources given r r' r'' end replied kept = record {
   means = live_around tables sources given replied.given' replied.frames replied.frames replied.frames' replied.frames' r r' r'' end (Keeps-refl replied.frames) replied.means (Keeps-refl replied.frames') kept;
 }
 
+noted_kept : (tables : TableEntries) (sources : List (List ℕ)) (requests : List ℕ) (r r' r'' : Option (List ℕ)) (seen seen' : Bool) → IsNoted tables sources requests r r' seen seen' → Keeps r' r'' → IsNoted tables sources requests r r'' seen seen'
+noted_kept tables sources requests r r' r'' seen seen' noted kept = record {
+  frames = noted.frames;
+  frames' = noted.frames';
+  end = noted.end;
+  means = flushed_noted tables sources requests noted.frames noted.frames' noted.frames' r r' r'' noted.end seen seen' noted.means (Keeps-refl noted.frames') kept;
+}
+
+live_noted_kept : (tables : TableEntries) (sources : List (List ℕ)) (given r r' r'' : Option (List ℕ)) (seen seen' : Bool) → IsLiveNoted tables sources given r r' seen seen' → Keeps r' r'' → IsLiveNoted tables sources given r r'' seen seen'
+live_noted_kept tables sources given r r' r'' seen seen' noted kept = record {
+  given' = noted.given';
+  frames = noted.frames;
+  frames' = noted.frames';
+  end = noted.end;
+  means = record {
+    means = live_around tables sources given noted.given' noted.frames noted.frames noted.frames' noted.frames' r r' r'' noted.end (Keeps-refl noted.frames) noted.means.means (Keeps-refl noted.frames') kept;
+    noted = noted.means.noted;
+  };
+}
+
+module _ (run : RunFiles) (line : Accepted) (left r r' r'' : Option (List ℕ)) (seen seen' : Bool) (kept : Keeps r' r'') where
+  over_with : (Holds Holds' : TableEntries → List (List ℕ) → Type 0) → ((tables : TableEntries) (sources : List (List ℕ)) → Holds tables sources → Holds' tables sources) → OverSources run line Holds → OverSources run line Holds'
+  over_with Holds Holds' so over = (over.0, over.1, over.2, so over.0 over.1 over.3)
+
+  noted_as_kept : (live : Bool) → MatchBool live (OverSources run line (AreLiveNoted run line left r r' seen seen')) (OverSources run line (AreNoted run line left r r' seen seen')) → MatchBool live (OverSources run line (AreLiveNoted run line left r r'' seen seen')) (OverSources run line (AreNoted run line left r r'' seen seen'))
+  noted_as_kept true noted =
+      over_with (AreLiveNoted run line left r r' seen seen') (AreLiveNoted run line left r r'' seen seen') (λ tables sources n. record { given = n.given; input = n.input; noted = live_noted_kept tables sources n.given r r' r'' seen seen' n.noted kept }) noted
+  noted_as_kept false noted =
+      over_with (AreNoted run line left r r' seen seen') (AreNoted run line left r r'' seen seen') (λ tables sources n. record { lines = n.lines; are = n.are; noted = noted_kept tables sources n.lines r r' r'' seen seen' n.noted kept }) noted
+
 module _ (run : RunFiles) (line : Accepted) (states : ℕ) (new : SessionState) where
   served_with : (Replied Replied' : SessionState → TableEntries → List (List ℕ) → Type 0) → ((end : SessionState) (tables : TableEntries) (sources : List (List ℕ)) → Replied end tables sources → Replied' end tables sources) → IsServed run line states Replied new → IsServed run line states Replied' new
   served_with Replied Replied' so served = record {
@@ -137,8 +169,16 @@ module _ (run : RunFiles) (line : Accepted) (states : ℕ) (new : SessionState) 
     served_kept true served = live_kept served
     served_kept false served = batch_kept served
 
-    pub done : (words : Words) → IsAccepted words line → ArePlaced line AreSeparate → IsServedAs run line states left r r' new → IsDone run words left r r''
-    done words accepted placed served = record { line = line; accepted = accepted; placed = placed; states = states; new = new; served = served_kept line.words.is_live served }
+    pub done : (words : Words) (seen seen' : Bool) → seen ≡ false → IsAccepted words line → ArePlaced line AreSeparate → IsServedAs run line states left r r' new → IsNotedAs run line left r r' seen seen' → IsDone run words left r r'' seen'
+    done words seen seen' fresh accepted placed served noted = record {
+      line = line;
+      accepted = accepted;
+      placed = placed;
+      states = states;
+      new = new;
+      served = served_kept line.words.is_live served;
+      noted = subst (λ (b : Bool). IsNotedAs run line left r r'' b seen') fresh (noted_as_kept run line left r r' r'' seen seen' kept line.words.is_live noted);
+    }
 
 -- ---- what is saved
 

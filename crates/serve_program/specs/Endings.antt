@@ -6,6 +6,7 @@ use Rattle.vp8_tables.specs.Tables.{TableEntries}
 use Rattle.program_parts.specs.Readings.{AreNoTables, Known}
 use Rattle.std.specs.Borrow.{Bor}
 use Rattle.stream_files.specs.declared.ivf.Ivf.{Ivf}
+use Rattle.stream_files.specs.declared.ivf.IvfFault.{IvfFault}
 use Rattle.stream_files.specs.declared.ivf.TheConstants.{EMPTY}
 use Rattle.frame_session.specs.Answers.{AreIvfs, Means, RunStops, SourceRefuses}
 use Rattle.frame_session.specs.ExportSizes.{saved_bytes}
@@ -122,9 +123,13 @@ stream_in sources = slice_index_or sources 0 []
 abbrev pub IsOver : RunFiles → Accepted → TableEntries → List (List ℕ) → Type 0
 IsOver files line tables sources = AreRead files.contents (tables_name line) (source_names line) tables sources
 
+-- what is said of tables and the bytes of sources
+abbrev pub OfSources : Type 1
+OfSources = TableEntries → List (List ℕ) → Type 0
+
 -- all requests of a command line were answered over its sources and tables, with at most as many states cached as the capacity says for IN, and then what
 -- it asks for was saved
-pub record IsServed (files : RunFiles) (line : Accepted) (states : ℕ) (Replied : SessionState → TableEntries → List (List ℕ) → Type 0) (new : SessionState) : Type 0 where
+pub record IsServed (files : RunFiles) (line : Accepted) (states : ℕ) (Replied : SessionState → OfSources) (new : SessionState) : Type 0 where
   pub tables : TableEntries
   pub sources : List (List ℕ)
   pub over : IsOver files line tables sources
@@ -134,11 +139,11 @@ pub record IsServed (files : RunFiles) (line : Accepted) (states : ℕ) (Replied
   pub cached : AreStates line.capacity (stream_in sources) states
 
 -- some tables, and bytes of the sources
-abbrev pub OverSources : RunFiles → Accepted → (TableEntries → List (List ℕ) → Type 0) → Type 0
+abbrev pub OverSources : RunFiles → Accepted → OfSources → Type 0
 OverSources files line Holds = (tables : TableEntries) × (sources : List (List ℕ)) × IsOver files line tables sources × Holds tables sources
 
 -- all requests were answered, and then the frames of the session were not exported for this reason
-abbrev pub IsUnexported : RunFiles → Accepted → (Replied : SessionState → TableEntries → List (List ℕ) → Type 0) → Unexported → Type 0
+abbrev pub IsUnexported : RunFiles → Accepted → (Replied : SessionState → OfSources) → Unexported → Type 0
 IsUnexported files line Replied why = OverSources files line (λ tables sources. (end : SessionState) × Replied end tables sources × IsRefusedExport end why)
 
 -- a writer returned an error: the answers were written up to one of them, no reply before its whole frame; or all were written, and were not flushed
@@ -170,20 +175,29 @@ AreStopped files line left replies replies' tables sources =
     (lines : List ℕ) × AreRequests files.contents line.words.requests.now left lines × IsStopped tables sources lines replies replies'
 
 -- no reply was written, or all requests were answered
-abbrev pub IsBeforeOrAfter : RunFiles → Accepted → (replies replies' : Option (List ℕ)) → (Replied : SessionState → TableEntries → List (List ℕ) → Type 0) → Type 0
+abbrev pub IsBeforeOrAfter : RunFiles → Accepted → (replies replies' : Option (List ℕ)) → (Replied : SessionState → OfSources) → Type 0
 IsBeforeOrAfter files line replies replies' Replied = Keeps replies replies' ⊎ OverSources files line (λ tables sources. (end : SessionState) × Replied end tables sources)
+
+-- a file with this name could not be read, and no reply was written
+abbrev pub IsUnreadFile : RunFiles → Accepted → (left left' replies replies' : Option (List ℕ)) → (name : List ℕ) → Type 0
+IsUnreadFile files line left left' replies replies' name = IsUnread files.contents (tables_name line) (source_names line) line.words.requests.now left left' name × (replies' ≡ replies)
+
+-- it has too many bytes
+abbrev pub IsLongFile : RunFiles → Accepted → (left left' replies replies' : Option (List ℕ)) → (name : List ℕ) → Type 0
+IsLongFile files line left left' replies replies' name = IsOverlong files.contents (tables_name line) (source_names line) line.words.requests.now left left' name × (replies' ≡ replies)
+
+-- the bytes of a source are not a file of packets, and no reply was written
+abbrev pub IsNoStream : RunFiles → Accepted → (replies replies' : Option (List ℕ)) → (source : ℕ) → IvfFault → Type 0
+IsNoStream files line replies replies' source fault = OverSources files line (λ tables sources. SourceRefuses sources source fault × Keeps replies replies')
 
 -- why the program exits without doing all that it was asked, in the order of its parts: a reading error comes before the first reply, a reading error of
 -- the tables or a source before the first byte of the requests is read, and an error in a source's bytes before the first reply. Memory runs
 -- out before the first reply, or after the last one, as the frames are exported or the packets saved. A writer's error comes then too, or stops the answers
-abbrev pub IsEnded : RunFiles → Accepted → (left left' replies replies' : Option (List ℕ)) → (Stopped : TableEntries → List (List ℕ) → Type 0) → (Replied : SessionState → TableEntries → List (List ℕ) → Type 0) → Fault → Type 0
-IsEnded files line left left' replies replies' Stopped Replied (CannotRead path) =
-    IsUnread files.contents (tables_name line) (source_names line) line.words.requests.now left left' path.now × (replies' ≡ replies)
-IsEnded files line left left' replies replies' Stopped Replied (TooLong path) =
-    IsOverlong files.contents (tables_name line) (source_names line) line.words.requests.now left left' path.now × (replies' ≡ replies)
+abbrev pub IsEnded : RunFiles → Accepted → (left left' replies replies' : Option (List ℕ)) → (Stopped : OfSources) → (Replied : SessionState → OfSources) → Fault → Type 0
+IsEnded files line left left' replies replies' Stopped Replied (CannotRead path) = IsUnreadFile files line left left' replies replies' path.now
+IsEnded files line left left' replies replies' Stopped Replied (TooLong path) = IsLongFile files line left left' replies replies' path.now
 IsEnded files line left left' replies replies' Stopped Replied Tables = AreNoTables files.contents.known (tables_name line) × (left' ≡ left) × (replies' ≡ replies)
-IsEnded files line left left' replies replies' Stopped Replied (Input source fault) =
-    OverSources files line (λ tables sources. SourceRefuses sources source fault × Keeps replies replies')
+IsEnded files line left left' replies replies' Stopped Replied (Input source fault) = IsNoStream files line replies replies' source fault
 IsEnded files line left left' replies replies' Stopped Replied (NotExported why) = IsUnexported files line Replied why
 IsEnded files line left left' replies replies' Stopped Replied CannotWrite = IsBeforeOrAfter files line replies replies' Replied ⊎ OverSources files line Stopped
 IsEnded files line left left' replies replies' Stopped Replied NoMemory = IsBeforeOrAfter files line replies replies' Replied

@@ -5,22 +5,13 @@ ghost use Rattle.std.specs.Rc.{rc_slice_items};
 ghost use Rattle.frame_session.specs.Sessions.{SessionState};
 ghost use Rattle.serve_arguments.specs.CachedStates.{AreStates};
 ghost use Rattle.serve_arguments.specs.Capacities.{IsGiven};
-<<<<<<< HEAD
-ghost use Rattle.serve_arguments.specs.CommandLines.{source_names};
-ghost use Rattle.serve_program.specs.Endings.{AreLiveAnswered, AreLiveReplied, IsAfterExport, IsExportFault, IsLiveEnded, IsLiveFault, IsLiveRefused, IsLiveReplied, IsSaveFault, IsServed, OverSources, stream_in};
+ghost use Rattle.serve_program.specs.Endings.{AreLiveReplied, IsExportFault, IsLiveEnded, IsLiveFault, IsLiveRefused, IsLiveReplied, IsOut, IsSaveFault, IsServed, OverSources, run_files, stream_in};
 ghost use Rattle.serve_program.specs.Noted.{AreLiveNoted, IsLiveNoted};
-
-use crate::exports::with_export;
-use crate::messages::Messages;
-use crate::program::{BYTES_AT_ONCE, Served, finish, taken_by};
-=======
-ghost use Rattle.serve_program.specs.Endings.{AreLiveReplied, IsExportFault, IsLiveEnded, IsLiveFault, IsLiveRefused, IsLiveReplied, IsOut, IsSaveFault, IsServed, run_files, stream_in};
 ghost use Rattle.serve_program.specs.Saved.{AreSaved};
 
 use crate::exports::with_export;
 use crate::messages::Messages;
-use crate::program::{BYTES_AT_ONCE, finish, flush_buffer, taken_by};
->>>>>>> d89afdb9 (Draft: files that a contract sees)
+use crate::program::{BYTES_AT_ONCE, Served, finish, flush_buffer, taken_by};
 use crate::runs::{live_fault, settings_over, shared};
 use crate::saving::{Saves, abandon_saves, begin_saves};
 use frame_session::{LiveFault, Session, Settings, run_live_over};
@@ -43,12 +34,8 @@ fn run_to_path<R: NamedFiles + AllocGlobal, I: BufRead, P: Write, E: Write>(
 ) -> Result<Session, LiveFault>
     requires capacity { (1 ≤ settings.capacity) × (settings.capacity ≤ 4096) }
     requires sources { (1 ≤ length sources.now) × (length sources.now ≤ 8) }
-<<<<<<< HEAD
-    ensures replied { IfOk result (λ session. IsLiveReplied settings.tables (map rc_slice_items sources.now) (I.remaining requests.old) (P.contents replies.old) (P.contents replies.new) session.now) }
-    ensures noted { IfOk result (λ session. IsLiveNoted settings.tables (map rc_slice_items sources.now) (I.remaining requests.old) (P.contents replies.old) (P.contents replies.new) messages.old.has_refused messages.new.has_refused) }
-=======
     ensures replied { IfOk result (λ session. IsLiveReplied (IsOut R.Made.contents (R.is_made_at rt.now) path.now) settings.tables (map rc_slice_items sources.now) (I.remaining requests.old) (P.contents replies.old) (P.contents replies.new) session.now) }
->>>>>>> d89afdb9 (Draft: files that a contract sees)
+    ensures noted { IfOk result (λ session. IsLiveNoted settings.tables (map rc_slice_items sources.now) (I.remaining requests.old) (P.contents replies.old) (P.contents replies.new) messages.old.has_refused messages.new.has_refused) }
     ensures capacity { IfOk result (λ session. session.cache.capacity ≡ settings.capacity) }
     ensures fault { IfErr result (IsLiveFault settings.tables (map rc_slice_items sources.now) (I.remaining requests.old) (P.contents replies.old) (P.contents replies.new)) }
 {
@@ -107,12 +94,8 @@ fn run_over<R: NamedFiles + AllocGlobal, I: Read, P: Write, E: Write>(
 ) -> Result<Session, LiveFault>
     requires capacity { (1 ≤ settings.capacity) × (settings.capacity ≤ 4096) }
     requires sources { (1 ≤ length sources.now) × (length sources.now ≤ 8) }
-<<<<<<< HEAD
-    ensures replied { IfOk result (λ session. IsLiveReplied settings.tables (map rc_slice_items sources.now) (I.remaining reader.old) (P.contents replies.old) (P.contents replies.new) session.now) }
-    ensures noted { IfOk result (λ session. IsLiveNoted settings.tables (map rc_slice_items sources.now) (I.remaining reader.old) (P.contents replies.old) (P.contents replies.new) messages.old.has_refused messages.new.has_refused) }
-=======
     ensures replied { IfOk result (λ session. IsLiveReplied (IsOut R.Made.contents (R.is_made_at rt.now) path.now) settings.tables (map rc_slice_items sources.now) (I.remaining reader.old) (P.contents replies.old) (P.contents replies.new) session.now) }
->>>>>>> d89afdb9 (Draft: files that a contract sees)
+    ensures noted { IfOk result (λ session. IsLiveNoted settings.tables (map rc_slice_items sources.now) (I.remaining reader.old) (P.contents replies.old) (P.contents replies.new) messages.old.has_refused messages.new.has_refused) }
     ensures capacity { IfOk result (λ session. session.cache.capacity ≡ settings.capacity) }
     ensures fault { IfErr result (IsLiveFault settings.tables (map rc_slice_items sources.now) (I.remaining reader.old) (P.contents replies.old) (P.contents replies.new)) }
 {
@@ -141,12 +124,8 @@ fn run_requests<'a, R: NamedFiles + SavedFiles + AllocGlobal, I: Read, P: Write,
 ) -> Result<Session, Fault<'a>>
     requires capacity { (1 ≤ settings.capacity) × (settings.capacity ≤ 4096) }
     requires sources { (1 ≤ length sources.now) × (length sources.now ≤ 8) }
-<<<<<<< HEAD
-    ensures replied { IfOk result (λ session. AreLiveReplied line.now.words.requests.now (I.remaining input.old) (P.contents replies.old) (P.contents replies.new) session.now settings.tables (map rc_slice_items sources.now)) }
-    ensures noted { IfOk result (λ session. AreLiveNoted line.now.words.requests.now (I.remaining input.old) (P.contents replies.old) (P.contents replies.new) messages.old.has_refused messages.new.has_refused settings.tables (map rc_slice_items sources.now)) }
-=======
     ensures replied { IfOk result (λ session. AreLiveReplied (run_files (R.bytes_at rt.now) R.Made.contents (R.is_made_at rt.now) (R.is_saved_at rt.now)) line.now (I.remaining input.old) (P.contents replies.old) (P.contents replies.new) session.now settings.tables (map rc_slice_items sources.now)) }
->>>>>>> d89afdb9 (Draft: files that a contract sees)
+    ensures noted { IfOk result (λ session. AreLiveNoted (run_files (R.bytes_at rt.now) R.Made.contents (R.is_made_at rt.now) (R.is_saved_at rt.now)) line.now (I.remaining input.old) (P.contents replies.old) (P.contents replies.new) messages.old.has_refused messages.new.has_refused settings.tables (map rc_slice_items sources.now)) }
     ensures capacity { IfOk result (λ session. session.cache.capacity ≡ settings.capacity) }
     ensures refused { IfErr result (IsLiveRefused (run_files (R.bytes_at rt.now) R.Made.contents (R.is_made_at rt.now) (R.is_saved_at rt.now)) line.now settings.tables (map rc_slice_items sources.now) (I.remaining input.old) (P.contents replies.old) (P.contents replies.new)) }
 {
@@ -194,12 +173,7 @@ fn finish_live<R: SavedFiles + AllocGlobal, E: Write>(
 
 /// Answers the request lines over the files that were read, as they come, exports the frames and saves the packets of source 0 if that is asked for:
 /// the new files are made before the first line is read.
-<<<<<<< HEAD
-fn answer_files<'a, R: Files + AllocGlobal, I: Read, O: Write, E: Write>(
-=======
-/// Returns the session after that.
 fn answer_files<'a, R: NamedFiles + SavedFiles + AllocGlobal, I: Read, O: Write, E: Write>(
->>>>>>> d89afdb9 (Draft: files that a contract sees)
     rt: &R,
     line: &Accepted<'a>,
     files: FilesRead,
@@ -209,16 +183,10 @@ fn answer_files<'a, R: NamedFiles + SavedFiles + AllocGlobal, I: Read, O: Write,
 ) -> Result<Served, Fault<'a>>
     requires capacity { IsGiven line.now.capacity }
     requires sources { (1 ≤ length files.sources.items) × (length files.sources.items ≤ 8) }
-<<<<<<< HEAD
-    ensures replied { IfOk result (λ served. AreLiveAnswered line.now.words.requests.now (I.remaining input.old) (O.contents output.old) (O.contents output.new) (is_some line.now.words.exported) served.session.now files.tables (map (λ bytes. bytes.items) files.sources.items)) }
-    ensures noted { IfOk result (λ served. AreLiveNoted line.now.words.requests.now (I.remaining input.old) (O.contents output.old) (O.contents output.new) messages.old.has_refused served.has_refused files.tables (map (λ bytes. bytes.items) files.sources.items)) }
+    ensures replied { IfOk result (λ served. (end : SessionState) × AreLiveReplied (run_files (R.bytes_at rt.now) R.Made.contents (R.is_made_at rt.now) (R.is_saved_at rt.now)) line.now (I.remaining input.old) (O.contents output.old) (O.contents output.new) end files.tables (map (λ bytes. bytes.items) files.sources.items) × AreSaved (R.is_saved_at rt.now) line.now.words end served.session.now) }
+    ensures noted { IfOk result (λ served. AreLiveNoted (run_files (R.bytes_at rt.now) R.Made.contents (R.is_made_at rt.now) (R.is_saved_at rt.now)) line.now (I.remaining input.old) (O.contents output.old) (O.contents output.new) messages.old.has_refused served.has_refused files.tables (map (λ bytes. bytes.items) files.sources.items)) }
     ensures capacity { IfOk result (λ served. AreStates line.now.capacity (stream_in (map (λ bytes. bytes.items) files.sources.items)) served.session.cache.capacity) }
-    ensures refused { IfErr result (λ fault. IsLiveRefused files.tables (map (λ bytes. bytes.items) files.sources.items) line.now.words.requests.now (I.remaining input.old) (O.contents output.old) (O.contents output.new) fault ⊎ (IsSaveFault fault × Keeps (O.contents output.old) (O.contents output.new)) ⊎ ((end : SessionState) × AreLiveReplied line.now.words.requests.now (I.remaining input.old) (O.contents output.old) (O.contents output.new) end files.tables (map (λ bytes. bytes.items) files.sources.items) × (IsSaveFault fault ⊎ IsExportFault end fault))) }
-=======
-    ensures replied { IfOk result (λ session. (end : SessionState) × AreLiveReplied (run_files (R.bytes_at rt.now) R.Made.contents (R.is_made_at rt.now) (R.is_saved_at rt.now)) line.now (I.remaining input.old) (O.contents output.old) (O.contents output.new) end files.tables (map (λ bytes. bytes.items) files.sources.items) × AreSaved (R.is_saved_at rt.now) line.now.words end session.now) }
-    ensures capacity { IfOk result (λ session. AreStates line.now.capacity (stream_in (map (λ bytes. bytes.items) files.sources.items)) session.cache.capacity) }
     ensures refused { IfErr result (λ fault. IsLiveRefused (run_files (R.bytes_at rt.now) R.Made.contents (R.is_made_at rt.now) (R.is_saved_at rt.now)) line.now files.tables (map (λ bytes. bytes.items) files.sources.items) (I.remaining input.old) (O.contents output.old) (O.contents output.new) fault ⊎ (IsSaveFault fault × Keeps (O.contents output.old) (O.contents output.new)) ⊎ ((end : SessionState) × AreLiveReplied (run_files (R.bytes_at rt.now) R.Made.contents (R.is_made_at rt.now) (R.is_saved_at rt.now)) line.now (I.remaining input.old) (O.contents output.old) (O.contents output.new) end files.tables (map (λ bytes. bytes.items) files.sources.items) × (IsSaveFault fault ⊎ IsExportFault end fault))) }
->>>>>>> d89afdb9 (Draft: files that a contract sees)
 {
     let FilesRead { tables, sources } = files;
     let sources = shared(rt.alloc(), sources)?;
@@ -249,13 +217,8 @@ fn answer_files<'a, R: NamedFiles + SavedFiles + AllocGlobal, I: Read, O: Write,
     }
 }
 
-<<<<<<< HEAD
 /// Does what an accepted command line with `--live` asks for.
-pub fn answer_live<'a, R: Files + AllocGlobal, I: Read, O: Write, E: Write>(
-=======
-/// Does what an accepted command line with `--live` asks for. Returns the session after the last line.
 pub fn answer_live<'a, R: NamedFiles + SavedFiles + AllocGlobal, I: Read, O: Write, E: Write>(
->>>>>>> d89afdb9 (Draft: files that a contract sees)
     rt: &R,
     line: &Accepted<'a>,
     input: &mut I,
@@ -264,14 +227,9 @@ pub fn answer_live<'a, R: NamedFiles + SavedFiles + AllocGlobal, I: Read, O: Wri
 ) -> Result<Served, Fault<'a>>
     requires capacity { IsGiven line.now.capacity }
     requires paths { length line.now.more.items ≤ 7 }
-<<<<<<< HEAD
-    ensures served { IfOk result (λ served. IsServed EMPTY (source_names line.now) (is_some line.now.words.tables) line.now.capacity served.session.cache.capacity (AreLiveAnswered line.now.words.requests.now (I.remaining input.old) (O.contents output.old) (O.contents output.new) (is_some line.now.words.exported) served.session.now)) }
-    ensures noted { IfOk result (λ served. OverSources EMPTY (source_names line.now) (AreLiveNoted line.now.words.requests.now (I.remaining input.old) (O.contents output.old) (O.contents output.new) messages.old.has_refused served.has_refused)) }
-    ensures ended { IfErr result (IsLiveEnded EMPTY (option_map (λ path. path.now) line.now.words.tables) (source_names line.now) line.now.words.requests.now (I.remaining input.old) (I.remaining input.new) (O.contents output.old) (O.contents output.new)) }
-=======
-    ensures served { IfOk result (λ session. IsServed (run_files (R.bytes_at rt.now) R.Made.contents (R.is_made_at rt.now) (R.is_saved_at rt.now)) line.now session.cache.capacity (AreLiveReplied (run_files (R.bytes_at rt.now) R.Made.contents (R.is_made_at rt.now) (R.is_saved_at rt.now)) line.now (I.remaining input.old) (O.contents output.old) (O.contents output.new)) session.now) }
+    ensures served { IfOk result (λ served. IsServed (run_files (R.bytes_at rt.now) R.Made.contents (R.is_made_at rt.now) (R.is_saved_at rt.now)) line.now served.session.cache.capacity (AreLiveReplied (run_files (R.bytes_at rt.now) R.Made.contents (R.is_made_at rt.now) (R.is_saved_at rt.now)) line.now (I.remaining input.old) (O.contents output.old) (O.contents output.new)) served.session.now) }
+    ensures noted { IfOk result (λ served. OverSources (run_files (R.bytes_at rt.now) R.Made.contents (R.is_made_at rt.now) (R.is_saved_at rt.now)) line.now (AreLiveNoted (run_files (R.bytes_at rt.now) R.Made.contents (R.is_made_at rt.now) (R.is_saved_at rt.now)) line.now (I.remaining input.old) (O.contents output.old) (O.contents output.new) messages.old.has_refused served.has_refused)) }
     ensures ended { IfErr result (IsLiveEnded (run_files (R.bytes_at rt.now) R.Made.contents (R.is_made_at rt.now) (R.is_saved_at rt.now)) line.now (I.remaining input.old) (I.remaining input.new) (O.contents output.old) (O.contents output.new)) }
->>>>>>> d89afdb9 (Draft: files that a contract sees)
 {
     let files = read_files(rt, line)?;
     answer_files(rt, line, files, input, output, messages)

@@ -100,6 +100,7 @@ impl<'a, E: Write> Messages<'a, E> {
     pub fn not_saved(&mut self, file: UnsavedFile) -> Fault<'static>
         ensures fault { result ≡ fault_of file.why }
         ensures unsaved { self.new.unsaved ≡ Some file }
+        ensures has_refused { self.new.has_refused ≡ self.old.has_refused }
     {
         self.unsaved = Some(file);
         Fault::from(file.why)

@@ -1,15 +1,9 @@
 // The program over a reader and two writers.
-<<<<<<< HEAD
-ghost use Rattle.std.specs.Prelude.{◌≡◌, ◌≤◌, ◌⊎◌, ℕ, [], true, IfOk, IfErr, IfSome, List, None, OnOk, Option, codes, is_some, length, map, nat_eq, option_map};
+ghost use Rattle.std.specs.Prelude.{◌≡◌, ◌≤◌, ◌⊎◌, ℕ, [], false, true, IfOk, IfErr, IfSome, List, OnOk, Option, codes, is_some, length, map, nat_eq};
 ghost use Rattle.std.specs.Cmp.Lexicographic.{pointwise};
 ghost use Rattle.std.specs.List.{list_any};
-ghost use Rattle.std.specs.Io.Buffered.{writer_buffer};
-ghost use Rattle.std.specs.Io.KnownBytes.{Appends};
-=======
-ghost use Rattle.std.specs.Prelude.{◌≡◌, ◌≤◌, ◌⊎◌, ℕ, [], IfOk, IfErr, IfSome, List, MatchResult, OnOk, Option, is_some, length, map};
 ghost use Rattle.std.specs.Io.Buffered.{writer_buffer, writer_contents};
 ghost use Rattle.std.specs.Io.KnownBytes.{Appends, Keeps};
->>>>>>> d89afdb9 (Draft: files that a contract sees)
 ghost use Rattle.std.specs.Rc.{rc_slice_items};
 ghost use Rattle.frame_session.specs.Answers.{Means};
 ghost use Rattle.frame_session.specs.Noted.{MeansNoted};
@@ -17,17 +11,11 @@ ghost use Rattle.frame_session.specs.Sessions.{SessionState};
 ghost use Rattle.program_parts.specs.Endings.{IsHelp};
 ghost use Rattle.serve_arguments.specs.CachedStates.{AreStates};
 ghost use Rattle.serve_arguments.specs.Capacities.{IsGiven};
-<<<<<<< HEAD
-ghost use Rattle.serve_arguments.specs.CommandLines.{source_names};
-ghost use Rattle.serve_arguments.specs.Readings.{AreNamed};
-ghost use Rattle.serve_program.specs.Endings.{AreAnswered, AreReplied, AreStopped, IsAfterExport, IsEnded, IsExportFault, IsRefused, IsReplied, IsSaveFault, IsServed, IsStopped, IsUnreplied, OverSources, spare_text, stream_in};
-ghost use Rattle.serve_program.specs.Noted.{AreNoted, IsNoted, status_after};
-=======
 ghost use Rattle.serve_arguments.specs.Readings.{AreRequests, contents_of};
-ghost use Rattle.serve_program.specs.Done.{IsDone, IsServedAs};
-ghost use Rattle.serve_program.specs.Endings.{AreReplied, AreStopped, IsEnded, IsExportFault, IsOut, IsOver, IsRefused, IsReplied, IsSaveFault, IsServed, IsStopped, IsUnreplied, run_files, spare_text, stream_in};
+ghost use Rattle.serve_program.specs.Done.{IsDone, IsExitStatus, IsServedAs};
+ghost use Rattle.serve_program.specs.Endings.{AreReplied, AreStopped, IsEnded, IsExportFault, IsOut, IsOver, IsRefused, IsReplied, IsSaveFault, IsServed, IsStopped, IsUnreplied, OverSources, run_files, spare_text, stream_in};
+ghost use Rattle.serve_program.specs.Noted.{AreNoted, IsNoted, IsNotedAs, status_after};
 ghost use Rattle.serve_program.specs.Saved.{ArePacketsSaved, AreSaved, IsExportSaved};
->>>>>>> d89afdb9 (Draft: files that a contract sees)
 
 use crate::explain::{explain_end, explain_export, explain_fault, is_asked};
 use crate::exports::{Answered, with_export};
@@ -97,12 +85,8 @@ fn run_to_path<R: NamedFiles + AllocGlobal, P: Write, E: Write>(
 ) -> Result<Session, Fault<'static>>
     requires capacity { (1 ≤ settings.capacity) × (settings.capacity ≤ 4096) }
     requires sources { (1 ≤ length sources.now) × (length sources.now ≤ 8) }
-<<<<<<< HEAD
-    ensures replied { IfOk result (λ session. IsReplied settings.tables (map rc_slice_items sources.now) requests.now (P.contents replies.old) (P.contents replies.new) session.now) }
-    ensures noted { IfOk result (λ session. IsNoted settings.tables (map rc_slice_items sources.now) requests.now (P.contents replies.old) (P.contents replies.new) messages.old.has_refused messages.new.has_refused) }
-=======
     ensures replied { IfOk result (λ session. IsReplied (IsOut R.Made.contents (R.is_made_at rt.now) path.now) settings.tables (map rc_slice_items sources.now) requests.now (P.contents replies.old) (P.contents replies.new) session.now) }
->>>>>>> d89afdb9 (Draft: files that a contract sees)
+    ensures noted { IfOk result (λ session. IsNoted settings.tables (map rc_slice_items sources.now) requests.now (P.contents replies.old) (P.contents replies.new) messages.old.has_refused messages.new.has_refused) }
     ensures capacity { IfOk result (λ session. session.cache.capacity ≡ settings.capacity) }
     ensures refused { IfErr result (IsUnreplied (map rc_slice_items sources.now) (IsStopped settings.tables (map rc_slice_items sources.now) requests.now (P.contents replies.old) (P.contents replies.new)) (P.contents replies.old) (P.contents replies.new)) }
 {
@@ -254,18 +238,11 @@ fn answer_inputs<R: NamedFiles + SavedFiles + AllocGlobal, O: Write, E: Write>(
 ) -> Result<Served, Fault<'static>>
     requires capacity { IsGiven line.now.capacity }
     requires paths { length line.now.more.items ≤ 7 }
-<<<<<<< HEAD
-    requires named { AreNamed EMPTY (source_names line.now) (map (λ bytes. bytes.items) inputs.files.sources.items) }
-    ensures noted { IfOk result (λ served. IsNoted inputs.files.tables (map (λ bytes. bytes.items) inputs.files.sources.items) inputs.requests.items (O.contents output.old) (O.contents output.new) messages.old.has_refused served.has_refused) }
-    ensures replied { IfOk result (λ served. (end : SessionState) × IsReplied inputs.files.tables (map (λ bytes. bytes.items) inputs.files.sources.items) inputs.requests.items (O.contents output.old) (O.contents output.new) end × IsAfterExport (is_some line.now.words.exported) end served.session.now) }
-    ensures capacity { IfOk result (λ served. AreStates line.now.capacity (stream_in (map (λ bytes. bytes.items) inputs.files.sources.items)) served.session.cache.capacity) }
-    ensures ended { IfErr result (λ fault. (left : Option (List ℕ)) → (left' : Option (List ℕ)) → (line.now.words.requests.now ≡ codes "-" → IfSome left (λ bytes. inputs.requests.items ≡ bytes)) → IsEnded EMPTY (option_map (λ path. path.now) line.now.words.tables) (source_names line.now) line.now.words.requests.now left left' (O.contents output.old) (O.contents output.new) (AreStopped line.now.words.requests.now left (O.contents output.old) (O.contents output.new)) (AreReplied line.now.words.requests.now left (O.contents output.old) (O.contents output.new)) fault) }
-=======
     requires read { IsOver (run_files (R.bytes_at rt.now) R.Made.contents (R.is_made_at rt.now) (R.is_saved_at rt.now)) line.now inputs.files.tables (map (λ bytes. bytes.items) inputs.files.sources.items) }
-    ensures replied { IfOk result (λ session. (end : SessionState) × IsReplied (IsOut R.Made.contents (R.is_made_at rt.now) line.now.words.frames.now) inputs.files.tables (map (λ bytes. bytes.items) inputs.files.sources.items) inputs.requests.items (O.contents output.old) (O.contents output.new) end × AreSaved (R.is_saved_at rt.now) line.now.words end session.now) }
-    ensures capacity { IfOk result (λ session. AreStates line.now.capacity (stream_in (map (λ bytes. bytes.items) inputs.files.sources.items)) session.cache.capacity) }
+    ensures replied { IfOk result (λ served. (end : SessionState) × IsReplied (IsOut R.Made.contents (R.is_made_at rt.now) line.now.words.frames.now) inputs.files.tables (map (λ bytes. bytes.items) inputs.files.sources.items) inputs.requests.items (O.contents output.old) (O.contents output.new) end × AreSaved (R.is_saved_at rt.now) line.now.words end served.session.now) }
+    ensures noted { IfOk result (λ served. IsNoted inputs.files.tables (map (λ bytes. bytes.items) inputs.files.sources.items) inputs.requests.items (O.contents output.old) (O.contents output.new) messages.old.has_refused served.has_refused) }
+    ensures capacity { IfOk result (λ served. AreStates line.now.capacity (stream_in (map (λ bytes. bytes.items) inputs.files.sources.items)) served.session.cache.capacity) }
     ensures ended { IfErr result (λ fault. (left : Option (List ℕ)) → (left' : Option (List ℕ)) → AreRequests (contents_of (R.bytes_at rt.now) EMPTY) line.now.words.requests.now left inputs.requests.items → IsEnded (run_files (R.bytes_at rt.now) R.Made.contents (R.is_made_at rt.now) (R.is_saved_at rt.now)) line.now left left' (O.contents output.old) (O.contents output.new) (AreStopped (run_files (R.bytes_at rt.now) R.Made.contents (R.is_made_at rt.now) (R.is_saved_at rt.now)) line.now left (O.contents output.old) (O.contents output.new)) (AreReplied (run_files (R.bytes_at rt.now) R.Made.contents (R.is_made_at rt.now) (R.is_saved_at rt.now)) line.now left (O.contents output.old) (O.contents output.new)) fault) }
->>>>>>> d89afdb9 (Draft: files that a contract sees)
 {
     let Inputs { files, requests } = inputs;
     let FilesRead { tables, sources } = files;
@@ -299,14 +276,9 @@ fn answer<'a, R: NamedFiles + SavedFiles + AllocGlobal, I: Read, O: Write, E: Wr
 ) -> Result<Served, Fault<'a>>
     requires capacity { IsGiven line.now.capacity }
     requires paths { length line.now.more.items ≤ 7 }
-<<<<<<< HEAD
-    ensures served { IfOk result (λ served. IsServed EMPTY (source_names line.now) (is_some line.now.words.tables) line.now.capacity served.session.cache.capacity (AreAnswered line.now.words.requests.now (I.remaining input.old) (O.contents output.old) (O.contents output.new) (is_some line.now.words.exported) served.session.now)) }
-    ensures noted { IfOk result (λ served. OverSources EMPTY (source_names line.now) (AreNoted line.now.words.requests.now (I.remaining input.old) (O.contents output.old) (O.contents output.new) messages.old.has_refused served.has_refused)) }
-    ensures ended { IfErr result (IsEnded EMPTY (option_map (λ path. path.now) line.now.words.tables) (source_names line.now) line.now.words.requests.now (I.remaining input.old) (I.remaining input.new) (O.contents output.old) (O.contents output.new) (AreStopped line.now.words.requests.now (I.remaining input.old) (O.contents output.old) (O.contents output.new)) (AreReplied line.now.words.requests.now (I.remaining input.old) (O.contents output.old) (O.contents output.new))) }
-=======
-    ensures served { IfOk result (λ session. IsServed (run_files (R.bytes_at rt.now) R.Made.contents (R.is_made_at rt.now) (R.is_saved_at rt.now)) line.now session.cache.capacity (AreReplied (run_files (R.bytes_at rt.now) R.Made.contents (R.is_made_at rt.now) (R.is_saved_at rt.now)) line.now (I.remaining input.old) (O.contents output.old) (O.contents output.new)) session.now) }
+    ensures served { IfOk result (λ served. IsServed (run_files (R.bytes_at rt.now) R.Made.contents (R.is_made_at rt.now) (R.is_saved_at rt.now)) line.now served.session.cache.capacity (AreReplied (run_files (R.bytes_at rt.now) R.Made.contents (R.is_made_at rt.now) (R.is_saved_at rt.now)) line.now (I.remaining input.old) (O.contents output.old) (O.contents output.new)) served.session.now) }
+    ensures noted { IfOk result (λ served. OverSources (run_files (R.bytes_at rt.now) R.Made.contents (R.is_made_at rt.now) (R.is_saved_at rt.now)) line.now (AreNoted (run_files (R.bytes_at rt.now) R.Made.contents (R.is_made_at rt.now) (R.is_saved_at rt.now)) line.now (I.remaining input.old) (O.contents output.old) (O.contents output.new) messages.old.has_refused served.has_refused)) }
     ensures ended { IfErr result (IsEnded (run_files (R.bytes_at rt.now) R.Made.contents (R.is_made_at rt.now) (R.is_saved_at rt.now)) line.now (I.remaining input.old) (I.remaining input.new) (O.contents output.old) (O.contents output.new) (AreStopped (run_files (R.bytes_at rt.now) R.Made.contents (R.is_made_at rt.now) (R.is_saved_at rt.now)) line.now (I.remaining input.old) (O.contents output.old) (O.contents output.new)) (AreReplied (run_files (R.bytes_at rt.now) R.Made.contents (R.is_made_at rt.now) (R.is_saved_at rt.now)) line.now (I.remaining input.old) (O.contents output.old) (O.contents output.new))) }
->>>>>>> d89afdb9 (Draft: files that a contract sees)
 {
     let inputs = read_inputs(rt, line, input)?;
     answer_inputs(rt, line, inputs, output, messages)
@@ -319,10 +291,11 @@ fn answer_accepted<'a, R: NamedFiles + SavedFiles + AllocGlobal, I: Read, O: Wri
     input: &mut I,
     output: &mut O,
     messages: &mut Messages<'_, E>,
-) -> Result<Session, Fault<'a>>
+) -> Result<Served, Fault<'a>>
     requires capacity { IsGiven line.now.capacity }
     requires paths { length line.now.more.items ≤ 7 }
-    ensures served { IfOk result (λ session. IsServedAs (run_files (R.bytes_at rt.now) R.Made.contents (R.is_made_at rt.now) (R.is_saved_at rt.now)) line.now session.cache.capacity (I.remaining input.old) (O.contents output.old) (O.contents output.new) session.now) }
+    ensures served { IfOk result (λ served. IsServedAs (run_files (R.bytes_at rt.now) R.Made.contents (R.is_made_at rt.now) (R.is_saved_at rt.now)) line.now served.session.cache.capacity (I.remaining input.old) (O.contents output.old) (O.contents output.new) served.session.now) }
+    ensures noted { IfOk result (λ served. IsNotedAs (run_files (R.bytes_at rt.now) R.Made.contents (R.is_made_at rt.now) (R.is_saved_at rt.now)) line.now (I.remaining input.old) (O.contents output.old) (O.contents output.new) messages.old.has_refused served.has_refused) }
 {
     if line.words.is_live {
         answer_live(rt, line, input, output, messages)
@@ -331,7 +304,26 @@ fn answer_accepted<'a, R: NamedFiles + SavedFiles + AllocGlobal, I: Read, O: Wri
     }
 }
 
-<<<<<<< HEAD
+/// Does what the values of a command line ask for, and flushes the replies. Returns whether a request for a frame was refused.
+#[tactic(auto, using(crate::proofs::Finished::done))]
+fn answer_words<'a, R: NamedFiles + SavedFiles + AllocGlobal, I: Read, O: Write + Drop, E: Write>(
+    rt: &R,
+    words: Words<'a>,
+    input: &mut I,
+    output: &mut BufWriter<O>,
+    messages: &mut Messages<'_, E>,
+) -> Result<bool, Fault<'a>>
+    requires fresh { messages.has_refused ≡ false }
+    ensures done { IfOk result (IsDone (run_files (R.bytes_at rt.now) R.Made.contents (R.is_made_at rt.now) (R.is_saved_at rt.now)) words.entry (I.remaining input.old) (writer_contents O.contents output.old) (writer_contents O.contents output.new)) }
+    ensures flushed { OnOk result (writer_buffer output.new ≡ []) }
+{
+    let line = words.accept(rt.alloc())?;
+    check_places(rt, &line)?;
+    let served = answer_accepted(rt, &line, input, output, messages)?;
+    flush_buffer(output)?;
+    Ok(served.has_refused)
+}
+
 /// Whether the option `--fail-refused` is among the arguments.
 fn names_fail_refused<S: AsStr>(words: &[S]) -> bool
     ensures { result ≡ list_any (λ word. pointwise nat_eq (S.text word) (codes "--fail-refused")) words.now }
@@ -347,84 +339,38 @@ fn status_after(fails_refused: bool, has_refused: bool) -> u8
     if fails_refused && has_refused { 3 } else { 0 }
 }
 
-/// Does what a command line asks for, flushes the replies, and returns the exit status.
-fn answer_line<'a, R: Files + AllocGlobal, S: AsStr, I: Read, O: Write + Drop, E: Write>(
-=======
-/// Does what the values of a command line ask for, and flushes the replies.
-#[tactic(auto, using(crate::proofs::Finished::done))]
-fn answer_words<'a, R: NamedFiles + SavedFiles + AllocGlobal, I: Read, O: Write + Drop, E: Write>(
->>>>>>> d89afdb9 (Draft: files that a contract sees)
-    rt: &R,
-    words: Words<'a>,
-    input: &mut I,
-    output: &mut BufWriter<O>,
-    messages: &mut Messages<'_, E>,
-) -> Result<(), Fault<'a>>
-    ensures done { OnOk result (IsDone (run_files (R.bytes_at rt.now) R.Made.contents (R.is_made_at rt.now) (R.is_saved_at rt.now)) words.entry (I.remaining input.old) (writer_contents O.contents output.old) (writer_contents O.contents output.new)) }
-    ensures flushed { OnOk result (writer_buffer output.new ≡ []) }
-{
-    let line = words.accept(rt.alloc())?;
-    check_places(rt, &line)?;
-    answer_accepted(rt, &line, input, output, messages)?;
-    flush_buffer(output)
-}
-
-/// Does what a parsed command line asks for, flushes the replies, and returns the exit status.
+/// Does what a parsed command line asks for, flushes the replies, and returns the exit status. `is_named` says whether `--fail-refused` is among
+/// the arguments: no contract says which argument sets the flag of an option.
 fn answer_line<'a, R: NamedFiles + SavedFiles + AllocGlobal, I: Read, O: Write + Drop, E: Write>(
     rt: &R,
     parsed: Result<Words<'a>, clap::Error>,
+    is_named: bool,
     input: &mut I,
     output: &mut BufWriter<O>,
     messages: &mut Messages<'_, E>,
 ) -> Result<u8, Fault<'a>>
-<<<<<<< HEAD
+    requires fresh { messages.has_refused ≡ false }
     ensures status { IfOk result (λ status. (status ≡ 0) ⊎ (status ≡ 3)) }
-    ensures asked { IfOk result (λ status. status ≡ 3 → list_any (λ word. pointwise nat_eq (S.text word) (codes "--fail-refused")) words.now ≡ true) }
-    ensures flushed { OnOk result (writer_buffer output.new ≡ []) }
-{
-    // No contract says which argument sets the flag of an option, so the argument itself is looked for too.
-    let is_named = names_fail_refused(words);
-    let words = match parse(rt.alloc(), words) {
-        Ok(words) => words,
-        Err(error) => {
-            help_or_mistake(error, output)?;
-            return Ok(0);
-        }
-    };
-    let line = words.accept(rt.alloc())?;
-    check_places(rt, &line)?;
-    let served = if line.words.is_live {
-        answer_live(rt, &line, input, output, messages)?
-    } else {
-        answer(rt, &line, input, output, messages)?
-    };
-    flush_replies(output)?;
-    if !is_named {
-        return Ok(0);
-    }
-    Ok(status_after(line.words.fails_refused, served.has_refused))
-}
-
-/// Runs the program on a command line, whose first argument is the program's name, and returns its exit
-/// status: 0 if every request was answered, also by a refusal, and for help and the version; with `--fail-refused` 3 instead of 0 if a
-/// request for a frame was refused; 2 for a mistake on the command line; 1 for every other error. At 0 and 3 nothing is left in the
-/// buffer of `output`.
-=======
-    ensures status { IfOk result (λ status. status ≡ 0) }
-    ensures done { OnOk result (MatchResult parsed.entry (λ words. IsDone (run_files (R.bytes_at rt.now) R.Made.contents (R.is_made_at rt.now) (R.is_saved_at rt.now)) words (I.remaining input.old) (writer_contents O.contents output.old) (writer_contents O.contents output.new)) IsHelp) }
+    ensures asked { IfOk result (λ status. status ≡ 3 → is_named ≡ true) }
+    ensures done { IfOk result (IsExitStatus (run_files (R.bytes_at rt.now) R.Made.contents (R.is_made_at rt.now) (R.is_saved_at rt.now)) parsed.entry is_named (I.remaining input.old) (writer_contents O.contents output.old) (writer_contents O.contents output.new)) }
     ensures flushed { OnOk result (writer_buffer output.new ≡ []) }
 {
     match parsed {
-        Ok(words) => answer_words(rt, words, input, output, messages)?,
-        Err(error) => help_or_mistake(error, output)?,
+        Ok(words) => {
+            let has_refused = answer_words(rt, words, input, output, messages)?;
+            Ok(status_after(is_named && words.fails_refused, has_refused))
+        }
+        Err(error) => {
+            help_or_mistake(error, output)?;
+            Ok(0)
+        }
     }
-    Ok(0)
 }
 
 /// Runs the program on a command line, whose first argument is the program's name and which was parsed by `parse`, and returns its exit
-/// status: 0 if every request was answered, also by a refusal, and for help and the version; 2 for a
-/// mistake on the command line; 1 for every other error. At 0 nothing is left in the buffer of `output`.
->>>>>>> d89afdb9 (Draft: files that a contract sees)
+/// status: 0 if every request was answered, also by a refusal, and for help and the version; with `--fail-refused` 3 instead of 0 if a
+/// request for a frame was refused; 2 for a mistake on the command line; 1 for every other error. At 0 and 3 nothing is left in the
+/// buffer of `output`.
 ///
 /// All files are read whole, up to 1,073,741,824 bytes each, before the file for the frames is created: the
 /// tables, IN, the files of `--sources` in their order, the requests. The packets of source 0 are saved after the last
@@ -450,18 +396,15 @@ pub fn serve<
     output: &mut BufWriter<O>,
     errors: &mut E,
 ) -> u8
-<<<<<<< HEAD
     ensures status { result ≤ 3 }
-=======
-    ensures status { result ≤ 2 }
-    ensures done { result ≡ 0 → MatchResult parsed.entry (λ words. IsDone (run_files (R.bytes_at rt.now) R.Made.contents (R.is_made_at rt.now) (R.is_saved_at rt.now)) words (I.remaining input.old) (writer_contents O.contents output.old) (writer_contents O.contents output.new)) IsHelp }
->>>>>>> d89afdb9 (Draft: files that a contract sees)
+    ensures done { (result ≡ 0) ⊎ (result ≡ 3) → IsExitStatus (run_files (R.bytes_at rt.now) R.Made.contents (R.is_made_at rt.now) (R.is_saved_at rt.now)) parsed.entry (list_any (λ word. pointwise nat_eq (S.text word) (codes "--fail-refused")) words.now) (I.remaining input.old) (writer_contents O.contents output.old) (writer_contents O.contents output.new) result }
     ensures flushed { result ≡ 0 → writer_buffer output.new ≡ [] }
     ensures failed { result ≡ 3 → writer_buffer output.new ≡ [] }
     ensures asked { result ≡ 3 → list_any (λ word. pointwise nat_eq (S.text word) (codes "--fail-refused")) words.now ≡ true }
 {
     let mut messages = Messages::new(errors, is_asked(words));
-    let answer = answer_line(rt, parsed, input, output, &mut messages);
+    let is_named = names_fail_refused(words);
+    let answer = answer_line(rt, parsed, is_named, input, output, &mut messages);
     let status = exit_status(answer, messages.errors);
     if messages.explains {
         if let Err(fault) = answer {

@@ -84,6 +84,7 @@ fn begin_at<R: SavedFiles + AllocGlobal, E: Write>(
 ) -> Result<Option<R::Begun>, Fault<'static>>
     ensures begun { IfOk result (λ begun. is_some begun ≡ is_some path.entry) }
     ensures fault { IfErr result IsSaveFault }
+    ensures has_refused { messages.new.has_refused ≡ messages.old.has_refused }
 {
     let Some(path) = path else {
         return Ok(None);
@@ -106,6 +107,7 @@ pub fn begin_saves<R: SavedFiles + AllocGlobal, E: Write>(
     ensures packets { IfOk result (λ saves. is_some saves.packets ≡ is_some words.entry.saved) }
     ensures frames { IfOk result (λ saves. is_some saves.frames ≡ is_some words.entry.exported) }
     ensures fault { IfErr result IsSaveFault }
+    ensures has_refused { messages.new.has_refused ≡ messages.old.has_refused }
 {
     let packets = begin_at(rt, Argument::Save, words.saved, messages)?;
     match begin_at(rt, Argument::Export, words.exported, messages) {
