@@ -135,6 +135,18 @@ impl Write for Counted<'_> {
     }
 }
 
+/// After a run the frames leave their buffer before the replies leave theirs.
+#[test]
+fn flushes_frames_before_replies(rt: HostRuntime) -> Result<(), Fail> {
+    let taken = Cell::new(0);
+    let mut frames = BufWriter::new(rt.alloc(), Broken {})?;
+    let mut replies = BufWriter::new(rt.alloc(), Counted { taken: &taken })?;
+    let unwritten = fault_of(&rt, &mut frames, &mut replies);
+    assert!(rt; unwritten == Some(Fault::CannotWrite));
+    assert!(rt; taken.get() == 0);
+    Ok(())
+}
+
 /// A writer of replies. At each flush it notes how many bytes of frames have left their buffer.
 #[derive(Drop)]
 struct Noting<'a> {
