@@ -77,10 +77,10 @@ def make_million(path, count=1 << 20):
 class Page:
     """A browser on the page of a stream."""
 
-    def __init__(self, browser, *words):
+    def __init__(self, browser, *words, **more):
         self.browser = browser
         command = [sys.executable, "-m", "wokureti", "open", *map(str, words), "--no-browser"]
-        env = dict(os.environ, PYTHONPATH=str(TOP / "clients/python"), PYTHONDONTWRITEBYTECODE="1")
+        env = dict(os.environ, PYTHONPATH=str(TOP / "clients/python"), PYTHONDONTWRITEBYTECODE="1", **more)
         self.process = subprocess.Popen(command, env=env, stdout=subprocess.PIPE, stderr=subprocess.PIPE, text=True)
         self.address = self.process.stdout.readline().strip()
 
@@ -1093,9 +1093,12 @@ def door(browser, room, clip):
     say("the browser is started with a file that leads to the page")
 
 
-def kill(page):
+def kill(browser, room, clip):
     """vp8serve is killed: the page says so, and goes on."""
-    browser = page.browser
+    page = Page(browser, clip, "--edits", room / "list-of-kill", WOKURETI_ENGINE="program")
+    page.open()
+    browser.key("Delete")
+    browser.wait("wokureti.model.packets === 249")
     children = subprocess.run(["pgrep", "-P", str(page.process.pid)], capture_output=True, text=True, check=False).stdout.split()
     session = page.members("session")
     browser.errors()
@@ -1110,6 +1113,7 @@ def kill(page):
     after = page.members("session")
     expect(after["edits"] == session["edits"] and after["restarts"] == session["restarts"] + 1, "edits are gone after vp8serve was killed")
     page.quiet("after vp8serve was killed")
+    page.end()
     say("killed: said, started again, all edits there")
 
 
@@ -1289,9 +1293,9 @@ def main():
         save_and_reload(page, room / "saved.ivf", clip)
         along(page, clip)
         two_tabs(page)
-        kill(page)
         reachable(page)
         said = page.end()
+        kill(browser, room, clip)
         door(browser, room, clip)
         add_and_crop(browser, room, clip, other)
         asides(browser, room, clip, other)

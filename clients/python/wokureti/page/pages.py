@@ -34,8 +34,8 @@ CONTAINERS = {".ivf": "video/x-ivf", ".webm": "video/webm", ".mkv": "video/x-mat
 REFUSALS = (404, 409, 412)
 # The steps of `wokureti repair` that act on packets.
 STEPS = frozenset(("double", "sort", "hold"))
-# The edits of one request, at most.
-MOST_LINES = 20000
+# The edits of one request, at most. A body of 8 MiB has some 400,000.
+MOST_LINES = 1 << 20
 # Frames whose origins are told at a time, at most; seconds that one search for a frame that differs takes.
 MOST_ORIGINS, SEARCH_TIME = 4096, 0.25
 # Frames that are served together, at most; packets whose key packets are asked for.
@@ -258,13 +258,11 @@ class PageRoutes(Routes):
         first, last = int(found.group(1)), int(found.group(2))
         if not 0 <= last - first < MOST_TOGETHER:
             raise Refuse(400, f"1 to {MOST_TOGETHER} frames are served together")
-        with self.live.lock:
-            etag, rate = f'"{self.live.instance}-{self.live.revision}"', self.live.rate()
-            pictures = self.live.pictures(range(first, last + 1))
+        revision, rate, pictures = self.live.look(range(first, last + 1))
         size = pictures[0][:2]
         length = len(header_of(size, rate)) + sum(len(MARK) + len(samples) for _, _, samples in pictures)
         pieces = itertools.chain([header_of(size, rate)], *((MARK, samples) for _, _, samples in pictures))
-        return Response(200, "video/x-yuv4mpeg", length=length, headers=[("ETag", etag)], pieces=pieces)
+        return Response(200, "video/x-yuv4mpeg", length=length, headers=[("ETag", self.tag_of(revision))], pieces=pieces)
 
     def step_of(self, request):
         return -1 if request.query.get("step") == "-1" else 1
@@ -621,7 +619,6 @@ class PageRoutes(Routes):
                 raise Refuse(400, str(error)) from None
             return as_json({"reply": reply, "revision": self.live.revision})
 
-
     def save(self, members):
         """Saves the packets of a source."""
         source = members["source"]
@@ -631,10 +628,10 @@ class PageRoutes(Routes):
             if source >= len(self.live.contents().streams):
                 raise Refuse(404, "there is no such source")
             try:
-                path = self.live.make(lambda: self.live.save(source))
+                path, renumbered = self.live.make(lambda: (self.live.save(source), self.live.renumbers(source)))
             except ValueError as error:
                 raise Refuse(409, str(error)) from None
-            return as_json({"reply": path, "revision": self.live.revision})
+            return as_json({"reply": path, "revision": self.live.revision, "renumbered": renumbered})
 
 
 def pieces_of(file):
