@@ -19,9 +19,12 @@ from ..session.frames import MARK
 from ..session.lines import EDITS, first_word, is_edit
 from ..server.live import Changed
 from .proposals import Proposals
+from .sounding import Sounding, has_sound
+from ..server import ranges
 from ..server.routes import Routes, until_ended
 from .views import MOST_ENTRIES
 from ..server.virtual import header_of
+from ..tools.sounds import Cannot
 from ..server.web import Refuse, Response, as_json
 
 KINDS = {
@@ -57,6 +60,7 @@ class PageRoutes(Routes):
         self.titles, self.files = titles, files_of_page()
         # The streams that the command names, and those that were added.
         self.paths, self.added = list(paths), []
+        self.sounding = Sounding(live.room.name)
         self.posts[("sources",)] = self.add_source
         self.posts[("preview",)] = self.preview
         self.posts[("paste",)] = self.paste
@@ -85,6 +89,7 @@ class PageRoutes(Routes):
                 ("exported",): self.exported,
                 ("files",): self.list_files,
                 ("times",): self.times,
+                ("sound.webm",): self.sound,
             }
         )
 
@@ -137,6 +142,7 @@ class PageRoutes(Routes):
             "frames": view.frames,
             "rate": list(view.rate),
             "varies": view.times() is not None,
+            "sounds": has_sound(view.contents),
             "sources": [len(stream) for stream in view.streams],
             "source": view.source,
             "script": view.script,
@@ -541,6 +547,28 @@ class PageRoutes(Routes):
         view = self.live.current_view()
         return as_json({"revision": view.revision, "times": view.times()})
 
+    def sound(self, request):
+        """The sound of the frames that are shown. `revision` only names it."""
+        self.only(request, "revision", "instance")
+        view = self.live.current_view()
+        try:
+            file = self.sounding.open(view)
+        except Cannot as error:
+            raise Refuse(409, str(error)) from None
+        if file is None:
+            raise Refuse(404, "no stream has sound")
+        etag = self.tag_of(view.revision)
+        length, headers = os.fstat(file.fileno()).st_size, [("Accept-Ranges", "bytes"), ("ETag", etag)]
+        try:
+            found = ranges.wanted(request.headers, length, etag) if request.method == "GET" else None
+        except Refuse:
+            file.close()
+            raise
+        start, end = found or (0, length)
+        if found:
+            headers.append(("Content-Range", f"bytes {start}-{end - 1}/{length}"))
+        return Response(206 if found else 200, "audio/webm", length=end - start, headers=headers, pieces=pieces_of(file, start, end))
+
     def list_files(self, request):
         """The streams that can be added."""
         self.only(request)
@@ -634,13 +662,16 @@ class PageRoutes(Routes):
             return as_json({"reply": path, "revision": self.live.revision, "renumbered": renumbered})
 
 
-def pieces_of(file):
-    """The bytes of a file, which is closed after them."""
+def pieces_of(file, start=0, end=None):
+    """The bytes of a file from one place to another, which is closed after them."""
     with file:
-        while True:
-            piece = file.read(1 << 20)
+        file.seek(start)
+        left = os.fstat(file.fileno()).st_size - start if end is None else end - start
+        while left > 0:
+            piece = file.read(min(left, 1 << 20))
             if not piece:
                 return
+            left -= len(piece)
             yield piece
 
 
