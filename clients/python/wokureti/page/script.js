@@ -25,7 +25,7 @@ export function nodeOf(reason) {
   return found ? Number(found[1]) : null;
 }
 
-/** Whether a node is a crop with an odd number. */
+/** Whether a node is a crop that begins at an odd column or row. */
 export function isOddCrop(node) {
   const [word, , x, y] = node.split(" ");
   return word === "crop" && [x, y].some((number) => Number(number) % 2 === 1);
