@@ -14,6 +14,7 @@ use Rattle.request_lines.specs.declared.lines.Line.{Line}
 use Rattle.request_lines.specs.declared.lines.Line.TheVariants as requests
 use Rattle.request_lines.specs.declared.edit.Edit.{Edit}
 use Rattle.request_lines.specs.declared.question.Question.{Question}
+use Rattle.state_cache.specs.declared.capacity.Capacity.{Capacity}
 use Rattle.frame_session.specs.declared.refusal.Refusal.{Refusal}
 use Rattle.frame_session.specs.IsOrNoMemory.{IsOrNoMemory, IsFrameOrNoMemory}
 use Rattle.frame_session.specs.Edits.{WrittenAnswers}
@@ -150,7 +151,7 @@ all_at_cost old new done left all f f' r r' none whole ran costs =
     subst (λ (ls : List Line). RunsAtCost old ls f f' r r' new) same (record { runs = ran; costs = costs })
 
 -- a run from its first session
-pub means_at_cost : (tables : Tables) (capacity : ℕ) (sources : List (List ℕ)) (requests : List ℕ) (f f' r r' : Option (List ℕ)) (files : List Ivf) (first end : SessionValue) → AreIvfs sources files → first ≡ begun tables capacity files → RunsAtCost first (requests_of requests) f f' r r' end → MeansAtCost tables capacity sources requests f f' r r' end
+pub means_at_cost : (tables : Tables) (capacity : Capacity) (sources : List (List ℕ)) (requests : List ℕ) (f f' r r' : Option (List ℕ)) (files : List Ivf) (first end : SessionValue) → AreIvfs sources files → first ≡ begun tables capacity files → RunsAtCost first (requests_of requests) f f' r r' end → MeansAtCost tables capacity sources requests f f' r r' end
 means_at_cost tables capacity sources requests f f' r r' files first end are is ran =
     let so : RunsAtCost (begun tables capacity files) (requests_of requests) f f' r r' end = subst (λ (v : SessionValue). RunsAtCost v (requests_of requests) f f' r r' end) is ran in
     record { means = record { files = files; are = are; runs = so.runs }; costs = so.costs }

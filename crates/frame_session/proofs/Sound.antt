@@ -96,12 +96,12 @@ module _ (tables : Tables) where
 
   pub begun_sound : (stores : List StoreValue) (cache : CacheValue) → cache.entries ≡ [] → IsSound tables stores cache
   begun_sound stores cache none =
-      let few : 0 ≤ cache.capacity = omega arith in
+      let few : 0 ≤ cache.capacity.states = omega arith in
       let empty : (source id : ℕ) → view_of source cache id ≡ None = λ source id. ap (λ (es : List (PacketKey × Kept)). cached_in es source id) none in
       record {
         coherent = λ source. none_coherent (known None) (marked_packets (store_at stores source)) (view_of source cache) (empty source);
         of_packets = λ source id some. nothing_is_cached (store_at stores source).list id (view_of source cache id) (empty source id) some;
-        bounded = subst (λ (es : List (PacketKey × Kept)). length es ≤ cache.capacity) (sym none) few;
+        bounded = subst (λ (es : List (PacketKey × Kept)). length es ≤ cache.capacity.states) (sym none) few;
       }
     where
       nothing_is_cached : (list : Listing) (id : ℕ) (o : Option Kept) → o ≡ None → IsSome o → IsIdOf list id
@@ -226,7 +226,7 @@ module _ (tables : Tables) where
     kept_without current (Some id) old new without = without.0
 
     edited_sound : (current : ℕ) (edit : Edit (List ℕ)) (stores : List StoreValue) (old new : CacheValue) → current < length stores → IsMarked (store_at stores current) → HasOwnIds (store_at stores current).list → refused_edit tables (lists_of stores) (store_at stores current).list edit ≡ None
-        → IsSound tables stores old → CacheWithout current (leaving edit (store_at stores current).list) old new → length new.entries ≤ new.capacity → IsSound tables (stores_edited tables current edit stores) new
+        → IsSound tables stores old → CacheWithout current (leaving edit (store_at stores current).list) old new → length new.entries ≤ new.capacity.states → IsSound tables (stores_edited tables current edit stores) new
     edited_sound current edit stores old new within marked own allowed sound without few =
         let store = store_at stores current in
         let made = store_edited tables (lists_of stores) edit store in
@@ -244,7 +244,7 @@ module _ (tables : Tables) where
         }
 
     pub answered_sound : (current : ℕ) (edit : Edit (List ℕ)) (stores : List StoreValue) (old new : CacheValue) (answer : Result ℕ Refusal) → current < length stores → IsMarked (store_at stores current) → HasOwnIds (store_at stores current).list
-        → EditAnswers tables (lists_of stores) (store_at stores current).list edit answer → IsSound tables stores old → CacheWithout current (id_removed edit (store_at stores current).list answer) old new → (length old.entries ≤ old.capacity → length new.entries ≤ new.capacity) → IsSound tables (stores_after tables current edit stores answer) new
+        → EditAnswers tables (lists_of stores) (store_at stores current).list edit answer → IsSound tables stores old → CacheWithout current (id_removed edit (store_at stores current).list answer) old new → (length old.entries ≤ old.capacity.states → length new.entries ≤ new.capacity.states) → IsSound tables (stores_after tables current edit stores answer) new
     answered_sound current edit stores old new (Ok count) within marked own answers sound without few =
         edited_sound current edit stores old new within marked own (edit_accepted tables (lists_of stores) (store_at stores current).list edit count answers) sound without (few sound.bounded)
     answered_sound current edit stores old new (Err refusal) within marked own answers sound without few = subst (λ (c : CacheValue). IsSound tables stores c) (sym without) sound

@@ -1,5 +1,7 @@
 -- The state of a session that its answers do not depend on: the marks of its packets and its cache.
 use Rattle.std.specs.Prelude.{◌≡◌, ℕ, ◌<◌, ◌≤◌, Bool, true, false, [], List, length, map, slice_get, slice_index_or, slice_set, Option, Some, None, Result, Ok, Err, option_and_then, option_map}
+pub use Rattle.state_cache.specs.Reaching.{of_bytes, of_states}
+pub use Rattle.state_cache.specs.declared.capacity.Capacity.{Capacity}
 use Rattle.vp8_tables.specs.declared.tables.Tables.{Tables}
 use Rattle.stream_files.specs.declared.ivf.Ivf.{Ivf}
 use Rattle.packet_times.specs.Durations.{one_frame}
@@ -39,7 +41,7 @@ abbrev pub store_of_file : Ivf → StoreValue
 store_of_file file = record { list = list_of_file file; marks = marks_pushed file.packets [] }
 
 -- a new session: no packet is marked, and no outcome is cached
-abbrev pub begun : Tables → ℕ → List Ivf → SessionValue
+abbrev pub begun : Tables → Capacity → List Ivf → SessionValue
 begun tables capacity files = record {
   now = start tables files;
   stores = map store_of_file files;
@@ -47,11 +49,11 @@ begun tables capacity files = record {
 }
 
 -- the cached outcomes of each source are coherent with its packets and their marks and belong to packets of its list, and the
--- outcomes of all sources together are at most as many as the capacity
+-- outcomes of all sources together are at most as many as the states of the capacity
 pub record IsSound (tables : Tables) (stores : List StoreValue) (cache : CacheValue) : Type 0 where
   pub coherent : (source : ℕ) → IsCoherent tables (marked_packets (store_at stores source)) (view_of source cache)
   pub of_packets : (source : ℕ) → AreOfPackets (store_at stores source).list (view_of source cache)
-  pub bounded : length cache.entries ≤ cache.capacity
+  pub bounded : length cache.entries ≤ cache.capacity.states
 
 -- a session has 1 to 8 sources, of which one is current, and its cache is sound
 pub record IsSession (tables : Tables) (stores : List StoreValue) (current : ℕ) (cache : CacheValue) : Type 0 where

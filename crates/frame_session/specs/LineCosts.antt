@@ -3,6 +3,7 @@ use Rattle.std.specs.Prelude.{◌≡◌, ℕ, ◌&&◌, is_some, List, [], ◌�
 use Rattle.std.specs.Io.KnownBytes.{Appends}
 use Rattle.vp8_tables.specs.declared.tables.Tables.{Tables}
 use Rattle.script_nodes.specs.Shown.{Shown}
+use Rattle.state_cache.specs.declared.capacity.Capacity.{Capacity}
 use Rattle.request_lines.specs.declared.edit.Edit.{Edit}
 use Rattle.request_lines.specs.declared.lines.Line.{Line}
 use Rattle.request_lines.specs.declared.lines.Line.TheVariants as requests
@@ -55,11 +56,11 @@ pub record RunsAtCost (old : SessionValue) (lines : List Line) (frames frames' r
   pub costs : RunCosts old lines runs.answers new
 
 -- the requests of this text were answered over the files of these bytes, and each line cost what it has to
-pub record MeansAtCost (tables : Tables) (capacity : ℕ) (sources : List (List ℕ)) (requests : List ℕ) (frames frames' replies replies' : Option (List ℕ)) (end : SessionValue) : Type 0 where
+pub record MeansAtCost (tables : Tables) (capacity : Capacity) (sources : List (List ℕ)) (requests : List ℕ) (frames frames' replies replies' : Option (List ℕ)) (end : SessionValue) : Type 0 where
   pub means : Means tables sources requests frames frames' replies replies' end.now
   pub costs : RunCosts (begun tables capacity means.files) (requests_of requests) means.runs.answers end
 
 -- the lines that the reader gave were answered, and each cost what it has to
-pub record LiveMeansAtCost (tables : Tables) (capacity : ℕ) (sources : List (List ℕ)) (left left' frames frames' replies replies' : Option (List ℕ)) (end : SessionValue) : Type 0 where
+pub record LiveMeansAtCost (tables : Tables) (capacity : Capacity) (sources : List (List ℕ)) (left left' frames frames' replies replies' : Option (List ℕ)) (end : SessionValue) : Type 0 where
   pub means : LiveMeans tables sources left left' frames frames' replies replies' end.now
   pub costs : RunCosts (begun tables capacity means.files) means.answers.requests means.answers.runs.answers end

@@ -85,7 +85,7 @@ fn leaving(list: &Store, edit: &Edit) -> Option<u64>
 /// Drops the cached outcome of the packet of a source that was removed, if one was.
 fn drop_left(cache: &mut Cache, source: usize, left: Option<u64>)
     ensures without { CacheWithout source left cache.old cache.new }
-    ensures bounded { length cache.old.entries ≤ cache.old.capacity → length cache.new.entries ≤ cache.new.capacity }
+    ensures bounded { length cache.old.entries ≤ cache.old.capacity.states → length cache.new.entries ≤ cache.new.capacity.states }
     ensures capacity { cache.new.capacity ≡ cache.old.capacity }
     ensures steps { cache.new.decoded ≡ cache.old.decoded }
 {

@@ -26,3 +26,4 @@ pub use serving::{RunFault, answer_line, run, run_over};
 pub use session::{ExportFault, Session};
 pub use settings::Settings;
 pub use size::Size;
+pub use state_cache::Capacity;

@@ -263,7 +263,7 @@ pub fn run_live_over<B: FileBytes, I: BufRead, F: Write, P: Write, V: Observer>(
     replies: &mut P,
     observer: &mut V,
 ) -> Result<Session, LiveFault>
-    requires capacity { (1 ≤ settings.capacity) × (settings.capacity ≤ 4096) }
+    requires capacity { (1 ≤ settings.capacity.states) × (settings.capacity.states ≤ 4096) }
     requires sources { (1 ≤ length ivfs.now) × (length ivfs.now ≤ 8) }
     ensures means { IfOk result (λ session. LiveMeans settings.tables (map B.bytes ivfs.now) (I.remaining input.old) (I.remaining input.new) (F.contents frames.old) (F.contents frames.new) (P.contents replies.old) (P.contents replies.new) session.now) }
     ensures costs { IfOk result (LiveMeansAtCost settings.tables settings.capacity (map B.bytes ivfs.now) (I.remaining input.old) (I.remaining input.new) (F.contents frames.old) (F.contents frames.new) (P.contents replies.old) (P.contents replies.new)) }
@@ -273,7 +273,7 @@ pub fn run_live_over<B: FileBytes, I: BufRead, F: Write, P: Write, V: Observer>(
 {
     let Settings { tables, capacity } = settings;
     let files = read_sources(alloc, ivfs)?;
-    let mut session = match Session::new(alloc, tables, capacity, files) {
+    let mut session = match Session::within(alloc, tables, capacity, files) {
         Ok(session) => session,
         Err(_) => return Err(LiveFault::NoMemory),
     };
@@ -301,7 +301,7 @@ pub fn run_live<I: BufRead, F: Write, P: Write>(
     frames: &mut F,
     replies: &mut P,
 ) -> Result<Session, LiveFault>
-    requires capacity { (1 ≤ settings.capacity) × (settings.capacity ≤ 4096) }
+    requires capacity { (1 ≤ settings.capacity.states) × (settings.capacity.states ≤ 4096) }
     requires sources { (1 ≤ length ivfs.now) × (length ivfs.now ≤ 8) }
     ensures means { IfOk result (λ session. LiveMeans settings.tables (texts_of ivfs.now) (I.remaining input.old) (I.remaining input.new) (F.contents frames.old) (F.contents frames.new) (P.contents replies.old) (P.contents replies.new) session.now) }
     ensures costs { IfOk result (LiveMeansAtCost settings.tables settings.capacity (texts_of ivfs.now) (I.remaining input.old) (I.remaining input.new) (F.contents frames.old) (F.contents frames.new) (P.contents replies.old) (P.contents replies.new)) }

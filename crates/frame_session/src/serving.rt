@@ -6,6 +6,7 @@ ghost use Rattle.frame_session.specs.Questions.{is_question};
 ghost use Rattle.frame_session.specs.Replies.{count_line, served_line};
 ghost use Rattle.frame_session.specs.Sessions.{frame_count, packet_count};
 ghost use Rattle.request_lines.specs.Requests.{asked_by};
+ghost use Rattle.state_cache.specs.Reaching.{of_states};
 ghost use Rattle.frame_session.specs.ProofsOnly.{IsSourceRefused};
 ghost use Rattle.frame_session.specs.Noted.{MeansNoted, RunsNoted, is_frame};
 ghost use Rattle.frame_session.specs.Told.{Tells};
@@ -19,6 +20,7 @@ use crate::session::Session;
 use crate::settings::Settings;
 use pixel_planes::Picture;
 use request_lines::{Line, next_line, read_line};
+use state_cache::Capacity;
 use std::alloc::Global;
 use std::io::Write;
 use stream_files::{
@@ -312,7 +314,7 @@ pub fn run_over<B: FileBytes, F: Write, P: Write, V: Observer>(
     replies: &mut P,
     observer: &mut V,
 ) -> Result<Session, RunFault>
-    requires capacity { (1 ≤ settings.capacity) × (settings.capacity ≤ 4096) }
+    requires capacity { (1 ≤ settings.capacity.states) × (settings.capacity.states ≤ 4096) }
     requires sources { (1 ≤ length ivfs.now) × (length ivfs.now ≤ 8) }
     ensures means { IfOk result (λ session. Means settings.tables (map B.bytes ivfs.now) requests.now (F.contents frames.old) (F.contents frames.new) (P.contents replies.old) (P.contents replies.new) session.now) }
     ensures costs { IfOk result (MeansAtCost settings.tables settings.capacity (map B.bytes ivfs.now) requests.now (F.contents frames.old) (F.contents frames.new) (P.contents replies.old) (P.contents replies.new)) }
@@ -322,7 +324,7 @@ pub fn run_over<B: FileBytes, F: Write, P: Write, V: Observer>(
 {
     let Settings { tables, capacity } = settings;
     let files = read_sources(alloc, ivfs)?;
-    let mut session = match Session::new(alloc, tables, capacity, files) {
+    let mut session = match Session::within(alloc, tables, capacity, files) {
         Ok(session) => session,
         Err(_) => return Err(RunFault::NoMemory),
     };
@@ -361,11 +363,14 @@ pub fn run<F: Write, P: Write>(
     requires capacity { (1 ≤ capacity) × (capacity ≤ 4096) }
     requires sources { (1 ≤ length ivfs.now) × (length ivfs.now ≤ 8) }
     ensures means { IfOk result (λ session. Means tables (texts_of ivfs.now) requests.now (F.contents frames.old) (F.contents frames.new) (P.contents replies.old) (P.contents replies.new) session.now) }
-    ensures costs { IfOk result (MeansAtCost tables capacity (texts_of ivfs.now) requests.now (F.contents frames.old) (F.contents frames.new) (P.contents replies.old) (P.contents replies.new)) }
-    ensures capacity { IfOk result (λ session. session.cache.capacity ≡ capacity) }
+    ensures costs { IfOk result (MeansAtCost tables (of_states capacity) (texts_of ivfs.now) requests.now (F.contents frames.old) (F.contents frames.new) (P.contents replies.old) (P.contents replies.new)) }
+    ensures capacity { IfOk result (λ session. session.cache.capacity ≡ of_states capacity) }
     ensures stops { IfErr result (RunStops tables (texts_of ivfs.now) requests.now (F.contents frames.old) (F.contents frames.new) (P.contents replies.old) (P.contents replies.new)) }
 {
-    let settings = Settings { tables, capacity };
+    let settings = Settings {
+        tables,
+        capacity: Capacity::of_states(capacity),
+    };
     run_over(
         alloc,
         settings,

@@ -6,7 +6,7 @@ ghost use Rattle.packet_edits.specs.Saved.{packets_of, padded_packets_of, restam
 ghost use Rattle.packet_edits.specs.Shown.{shown_indexes, stream_of};
 ghost use Rattle.state_cache.specs.Decoding.{outcomes};
 ghost use Rattle.state_cache.specs.Costs.{Costs};
-ghost use Rattle.state_cache.specs.Reaching.{OthersDrop};
+ghost use Rattle.state_cache.specs.Reaching.{OthersDrop, of_states};
 ghost use Rattle.state_cache.specs.Walks.{IsWalk};
 ghost use Rattle.frame_session.specs.Cached.{shown_counts_of, store_at, store_of_file};
 ghost use Rattle.frame_session.specs.Sessions.{head_of_first, spare_of};
@@ -28,7 +28,7 @@ use packet_times::usual_duration;
 use pixel_planes::{NoMemory, Picture};
 use request_lines::{Edit, Hex};
 use script_nodes::{Script, apply};
-use state_cache::Cache;
+use state_cache::{Cache, Capacity};
 use std::alloc::Global;
 use std::io::Write;
 use std::marker::Model;
@@ -66,19 +66,35 @@ impl Session {
     ghost use Rattle.frame_session.specs.Told.{packet_len};
     ghost use Rattle.frame_session.specs.Sessions.{IsAfterFrame, choice_answer, current_list, edit_answer, now_after_choice, now_after_edit, now_after_script, fits, frame_count, frame_of, head_due, packet_count, picture_from, script_answer, shown_counts, size_given};
 
+    /// A session over the packets of 1 to 8 files, as of `within`, that caches at most so many decoded states, 1
+    /// to 4,096.
+    pub fn new(
+        alloc: Global,
+        tables: Tables,
+        states: u16,
+        files: Vec<Ivf>,
+    ) -> Result<Session, NoMemory>
+        requires states { (1 ≤ states) × (states ≤ 4096) }
+        requires sources { (1 ≤ length files.items) × (length files.items ≤ 8) }
+        requires few { All (λ file. length file.packets ≤ 1048576) files.items }
+        ensures { IfOk result (λ session. session ≡ begun tables (of_states states) files.items) }
+    {
+        Session::within(alloc, tables, Capacity::of_states(states), files)
+    }
+
     /// A session over the packets of 1 to 8 files, at most 1,048,576 each: one source for each file, numbered
-    /// from 0. `capacity`, 1 to 4,096, is the most decoded states that are cached for all sources together; the
+    /// from 0. `capacity` is that of the decoded states that are cached for all sources together, 1 to 4,096; the
     /// cache starts empty. The packets of each source get ids starting at 0, edits act on source 0, and the
     /// script is empty.
     ///
     /// `NoMemory` if out of memory for the packet lists or the cache.
-    pub fn new(
+    pub fn within(
         alloc: Global,
         tables: Tables,
-        capacity: u16,
+        capacity: Capacity,
         files: Vec<Ivf>,
     ) -> Result<Session, NoMemory>
-        requires capacity { (1 ≤ capacity) × (capacity ≤ 4096) }
+        requires capacity { (1 ≤ capacity.states) × (capacity.states ≤ 4096) }
         requires sources { (1 ≤ length files.items) × (length files.items ≤ 8) }
         requires few { All (λ file. length file.packets ≤ 1048576) files.items }
         ensures { IfOk result (λ session. session ≡ begun tables capacity files.items) }

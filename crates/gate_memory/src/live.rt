@@ -1,7 +1,7 @@
 //! A live run whose lines take memory: one for which it runs out is refused, and the next line is answered.
 
 use crate::fault::Fault;
-use frame_session::{LiveFault, Settings, run_live};
+use frame_session::{Capacity, LiveFault, Settings, run_live};
 use std::alloc::Global;
 use std::io::{self, BufReader, Write};
 use std::str;
@@ -23,7 +23,7 @@ fn try_answer(alloc: Global, replies: &mut Vec<u8>) -> Result<(), LiveFault> {
     let mut requests = BufReader::with_capacity(alloc, 4, LINES).map_err(|_| LiveFault::NoMemory)?;
     let settings = Settings {
         tables: Tables::rfc(),
-        capacity: 1,
+        capacity: Capacity::of_states(1),
     };
     run_live(
         alloc,

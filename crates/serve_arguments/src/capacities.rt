@@ -9,7 +9,7 @@ use text_words::number;
 pub enum Capacity {
     /// This number of states, 1 to 4,096.
     States(u16),
-    /// As many as have pictures of this number of bytes together, 1 or more. The pictures are those of the first key packet's size.
+    /// As many as take this number of bytes together, 1 or more.
     Bytes(u64),
 }
 

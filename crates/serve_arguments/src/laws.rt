@@ -1,6 +1,6 @@
 // Worked sizes, capacities and pictures, as functions without code.
 ghost use Rattle.std.specs.Prelude.{◌≡◌, [], None, Some, codes};
-ghost use Rattle.serve_arguments.specs.CachedStates.{cache_text, picture_bytes, states_of};
+ghost use Rattle.serve_arguments.specs.CachedStates.{cache_report, cache_text, picture_bytes};
 ghost use Rattle.serve_arguments.specs.Capacities.{capacity_given, size_of};
 ghost use Rattle.serve_arguments.specs.declared.capacities.Capacity.TheVariants as capacities;
 
@@ -50,19 +50,9 @@ pub fn worked_pictures()
     ensures greatest { picture_bytes (16383, 16383) ≡ 406859776 }
 {}
 
-/// The numbers of states of worked capacities.
-pub fn worked_states()
-    ensures given { states_of (capacities.States 7) (Some (640, 360)) ≡ 7 }
-    ensures fitting { states_of (capacities.Bytes 67108864) (Some (640, 360)) ≡ 135 }
-    ensures just_one { states_of (capacities.Bytes 33535) (Some (16, 16)) ≡ 1 }
-    ensures just_two { states_of (capacities.Bytes 33536) (Some (16, 16)) ≡ 2 }
-    ensures at_least_one { states_of (capacities.Bytes 1) (Some (16, 16)) ≡ 1 }
-    ensures at_most_4096 { states_of (capacities.Bytes 1073741824) (Some (16, 16)) ≡ 4096 }
-    ensures no_size { states_of (capacities.Bytes 1) None ≡ 32 }
-{}
-
-/// What a state takes is not reported before as many steps as states, and not without a size.
+/// What a state takes is not reported before as many steps as states, and not without a size, nor with a number of bytes.
 pub fn worked_silences()
     ensures unfilled { cache_text 32 (Some (640, 360)) 31 ≡ [] }
     ensures no_size { cache_text 32 None 32 ≡ [] }
+    ensures bytes { cache_report (capacities.Bytes 1) (Some (640, 360)) 32 ≡ [] }
 {}

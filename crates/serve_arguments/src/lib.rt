@@ -20,5 +20,5 @@ pub use fault::Fault;
 pub use files::{Argument, SameFile};
 pub use inputs::{FilesRead, Inputs, read_files, read_inputs};
 pub use located::{Located, check_located, check_places};
-pub use states::{report_cache, states_over};
+pub use states::report_cache;
 pub use words::{Accepted, Words};

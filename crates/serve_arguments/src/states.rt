@@ -1,12 +1,12 @@
-// How many states a session caches, and what one takes.
+// What a cached picture takes.
 ghost use Rattle.std.specs.Prelude.{◌≡◌, ◌<◌, ◌≤◌, ◌^◌, IfErr, IfOk, OnOk};
 ghost use Rattle.std.specs.Io.KnownBytes.{Appends};
 ghost use Rattle.pixel_planes.specs.Pictures.{macroblocks};
 ghost use Rattle.stream_files.specs.Ivf.{IsIvf};
 ghost use Rattle.stream_files.specs.declared.ivf.Ivf.{Ivf};
 ghost use Rattle.stream_facts.specs.Facts.{first_key_size};
-ghost use Rattle.serve_arguments.specs.Capacities.{IsGiven};
-ghost use Rattle.serve_arguments.specs.CachedStates.{AreStates, cache_text, picture_bytes, plane_bytes, planes_bytes, states_in, states_of};
+ghost use Rattle.serve_arguments.specs.CachedStates.{cache_report, cache_text, picture_bytes, planes_bytes};
+ghost use Rattle.state_cache.specs.Bytes.{plane_bytes};
 
 use crate::capacities::Capacity;
 use crate::fault::Fault;
@@ -17,12 +17,6 @@ use stream_files::{FileBytes, IvfFault, ivf_read_from};
 
 /// The number of samples around a plane at each side.
 const BORDER: u64 = 32;
-
-/// The number of states of a number of bytes if no key packet has a size.
-const UNSIZED_STATES: u16 = 32;
-
-/// The most states of a session.
-const MOST_STATES: u64 = 4_096;
 
 /// The bytes of a plane of these sides with its border.
 fn plane_bytes(width: u64, height: u64) -> u64
@@ -59,29 +53,6 @@ fn picture_bytes(size: (u16, u16)) -> u64
     planes_bytes(macroblocks(size.0), macroblocks(size.1))
 }
 
-/// The number of states whose pictures take at most so many bytes.
-fn states_in(bytes: u64, size: Option<(u16, u16)>) -> u16
-    ensures value { result ≡ states_in bytes size }
-    ensures range { (1 ≤ result) × (result ≤ 4096) }
-{
-    match size {
-        None => UNSIZED_STATES,
-        Some(size) => (bytes / picture_bytes(size)).min(MOST_STATES).max(1) as u16,
-    }
-}
-
-/// The number of states of a capacity, with pictures of this size.
-fn states_of(capacity: Capacity, size: Option<(u16, u16)>) -> u16
-    requires { IsGiven capacity }
-    ensures value { result ≡ states_of capacity size }
-    ensures range { (1 ≤ result) × (result ≤ 4096) }
-{
-    match capacity {
-        Capacity::States(states) => states,
-        Capacity::Bytes(bytes) => states_in(bytes, size),
-    }
-}
-
 /// The size of the first key packet of a file that has one. `None` too if the bytes are not an IVF file; `NoMemory`.
 fn key_size_in<B: FileBytes>(
     alloc: Global,
@@ -96,28 +67,6 @@ fn key_size_in<B: FileBytes>(
             IvfFault::NoMemory => Err(Fault::NoMemory),
             _ => Ok(None),
         },
-    }
-}
-
-/// The number of states of a capacity if IN has these bytes, borrowed or shared. IN is read for it if the capacity is a number of bytes.
-///
-/// `NoMemory` if out of memory for the packets of IN.
-pub fn states_over<B: FileBytes>(
-    alloc: Global,
-    capacity: Capacity,
-    stream: &B,
-) -> Result<u16, Fault<'static>>
-    requires { IsGiven capacity }
-    ensures states { IfOk result (AreStates capacity (B.bytes stream.now)) }
-    ensures range { IfOk result (λ states. (1 ≤ states) × (states ≤ 4096)) }
-    ensures fault { IfErr result (λ fault. fault ≡ Fault.NoMemory) }
-{
-    match capacity {
-        Capacity::States(states) => Ok(states),
-        Capacity::Bytes(bytes) => {
-            let size = key_size_in(alloc, stream)?;
-            Ok(states_in(bytes, size))
-        }
     }
 }
 
@@ -140,8 +89,8 @@ fn write_cache<E: Write>(
     }
 }
 
-/// Reports what a cached state takes after a run that made as many decoding steps as states are cached, if IN has these bytes,
-/// borrowed or shared.
+/// Reports what the picture of a cached state takes after a run that made as many decoding steps as states are cached, if IN has these
+/// bytes, borrowed or shared, and the capacity is a number of states.
 ///
 /// An error of `errors`, or out of memory for the packets of IN.
 pub fn report_cache<B: FileBytes, E: Write>(
@@ -151,11 +100,13 @@ pub fn report_cache<B: FileBytes, E: Write>(
     decoded: u64,
     errors: &mut E,
 ) -> io::Result<()>
-    requires { IsGiven capacity }
-    ensures { OnOk result ((file : Ivf) → IsIvf (B.bytes stream.now) file → Appends (E.contents errors.old) (E.contents errors.new) (cache_text (states_of capacity (first_key_size file.packets)) (first_key_size file.packets) decoded)) }
+    ensures { OnOk result ((file : Ivf) → IsIvf (B.bytes stream.now) file → Appends (E.contents errors.old) (E.contents errors.new) (cache_report capacity (first_key_size file.packets) decoded)) }
 {
+    let Capacity::States(states) = capacity else {
+        return Ok(());
+    };
     let Ok(size) = key_size_in(alloc, stream) else {
         return Err(ErrorKind::OutOfMemory.into());
     };
-    write_cache(states_of(capacity, size), size, decoded, errors)
+    write_cache(states, size, decoded, errors)
 }

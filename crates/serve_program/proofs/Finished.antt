@@ -10,6 +10,7 @@ use Rattle.frame_session.specs.Answers.{Means, frames_of, replies_of}
 use Rattle.frame_session.specs.Exported.{IsExportFile}
 use Rattle.frame_session.specs.Live.{LiveMeans}
 use Rattle.frame_session.specs.Noted.{LiveMeansNoted}
+use Rattle.frame_session.specs.Cached.{Capacity as Cached}
 use Rattle.frame_session.specs.Sessions.{SessionState}
 use Rattle.frame_session.specs.declared.export.Export.{Export}
 use Rattle.serve_arguments.specs.CommandLines.{IsAccepted}
@@ -146,8 +147,8 @@ module _ (run : RunFiles) (line : Accepted) (left r r' r'' : Option (List ℕ)) 
   noted_as_kept false noted =
       over_with (AreNoted run line left r r' seen seen') (AreNoted run line left r r'' seen seen') (λ tables sources n. record { lines = n.lines; are = n.are; noted = noted_kept tables sources n.lines r r' r'' seen seen' n.noted kept }) noted
 
-module _ (run : RunFiles) (line : Accepted) (states : ℕ) (new : SessionState) where
-  served_with : (Replied Replied' : SessionState → TableEntries → List (List ℕ) → Type 0) → ((end : SessionState) (tables : TableEntries) (sources : List (List ℕ)) → Replied end tables sources → Replied' end tables sources) → IsServed run line states Replied new → IsServed run line states Replied' new
+module _ (run : RunFiles) (line : Accepted) (cached : Cached) (new : SessionState) where
+  served_with : (Replied Replied' : SessionState → TableEntries → List (List ℕ) → Type 0) → ((end : SessionState) (tables : TableEntries) (sources : List (List ℕ)) → Replied end tables sources → Replied' end tables sources) → IsServed run line cached Replied new → IsServed run line cached Replied' new
   served_with Replied Replied' so served = record {
     tables = served.tables;
     sources = served.sources;
@@ -155,26 +156,26 @@ module _ (run : RunFiles) (line : Accepted) (states : ℕ) (new : SessionState) 
     end = served.end;
     replied = so served.end served.tables served.sources served.replied;
     saved = served.saved;
-    cached = served.cached;
+    cached_is = served.cached_is;
   }
 
   module _ (left r r' r'' : Option (List ℕ)) (kept : Keeps r' r'') where
-    batch_kept : IsServed run line states (AreReplied run line left r r') new → IsServed run line states (AreReplied run line left r r'') new
+    batch_kept : IsServed run line cached (AreReplied run line left r r') new → IsServed run line cached (AreReplied run line left r r'') new
     batch_kept served = served_with (AreReplied run line left r r') (AreReplied run line left r r'') (λ end tables sources replied. (replied.0, replied.1, replied_kept (run.out line.words.frames.now) tables sources replied.0 r r' r'' end replied.2 kept)) served
 
-    live_kept : IsServed run line states (AreLiveReplied run line left r r') new → IsServed run line states (AreLiveReplied run line left r r'') new
+    live_kept : IsServed run line cached (AreLiveReplied run line left r r') new → IsServed run line cached (AreLiveReplied run line left r r'') new
     live_kept served = served_with (AreLiveReplied run line left r r') (AreLiveReplied run line left r r'') (λ end tables sources replied. (replied.0, replied.1, live_replied_kept (run.out line.words.frames.now) tables sources replied.0 r r' r'' end replied.2 kept)) served
 
-    served_kept : (live : Bool) → MatchBool live (IsServed run line states (AreLiveReplied run line left r r') new) (IsServed run line states (AreReplied run line left r r') new) → MatchBool live (IsServed run line states (AreLiveReplied run line left r r'') new) (IsServed run line states (AreReplied run line left r r'') new)
+    served_kept : (live : Bool) → MatchBool live (IsServed run line cached (AreLiveReplied run line left r r') new) (IsServed run line cached (AreReplied run line left r r') new) → MatchBool live (IsServed run line cached (AreLiveReplied run line left r r'') new) (IsServed run line cached (AreReplied run line left r r'') new)
     served_kept true served = live_kept served
     served_kept false served = batch_kept served
 
-    pub done : (words : Words) (seen seen' : Bool) → seen ≡ false → IsAccepted words line → ArePlaced line AreSeparate → IsServedAs run line states left r r' new → IsNotedAs run line left r r' seen seen' → IsDone run words left r r'' seen'
+    pub done : (words : Words) (seen seen' : Bool) → seen ≡ false → IsAccepted words line → ArePlaced line AreSeparate → IsServedAs run line cached left r r' new → IsNotedAs run line left r r' seen seen' → IsDone run words left r r'' seen'
     done words seen seen' fresh accepted placed served noted = record {
       line = line;
       accepted = accepted;
       placed = placed;
-      states = states;
+      cached = cached;
       new = new;
       served = served_kept line.words.is_live served;
       noted = subst (λ (b : Bool). IsNotedAs run line left r r'' b seen') fresh (noted_as_kept run line left r r' r'' seen seen' kept line.words.is_live noted);

@@ -1,6 +1,7 @@
 -- What the program did when it exits with status 0 or 3.
 use Rattle.std.specs.Prelude.{◌≡◌, ℕ, Bool, false, ◌&&◌, List, Option, Result, Ok, Err, MatchBool}
 use Rattle.clap.specs.declared.error.Error.{Error}
+use Rattle.frame_session.specs.Cached.{Capacity as Cached}
 use Rattle.frame_session.specs.Sessions.{SessionState}
 use Rattle.program_parts.specs.Endings.{IsHelp}
 use Rattle.serve_arguments.specs.CommandLines.{IsAccepted}
@@ -11,9 +12,9 @@ use Rattle.serve_program.specs.Endings.{AreLiveReplied, AreReplied, IsServed, Ru
 use Rattle.serve_program.specs.Noted.{IsNotedAs, status_after}
 
 -- all requests of an accepted command line were answered, as they came or after all of them were read
-abbrev pub IsServedAs : RunFiles → Accepted → (states : ℕ) → (left replies replies' : Option (List ℕ)) → SessionState → Type 0
-IsServedAs files line states left replies replies' new =
-    MatchBool line.words.is_live (IsServed files line states (AreLiveReplied files line left replies replies') new) (IsServed files line states (AreReplied files line left replies replies') new)
+abbrev pub IsServedAs : RunFiles → Accepted → (cached : Cached) → (left replies replies' : Option (List ℕ)) → SessionState → Type 0
+IsServedAs files line cached left replies replies' new =
+    MatchBool line.words.is_live (IsServed files line cached (AreLiveReplied files line left replies replies') new) (IsServed files line cached (AreReplied files line left replies replies') new)
 
 -- the command line with these values was accepted, no file that it writes is one that it must not be, and all requests were answered over the sources and
 -- the tables that it names, with the frames in OUT; then the packets and the frames were saved as it asks. `has_refused` is whether a request for a frame
@@ -22,9 +23,9 @@ pub record IsDone (files : RunFiles) (words : Words) (left replies replies' : Op
   pub line : Accepted
   pub accepted : IsAccepted words line
   pub placed : ArePlaced line AreSeparate
-  pub states : ℕ
+  pub cached : Cached
   pub new : SessionState
-  pub served : IsServedAs files line states left replies replies' new
+  pub served : IsServedAs files line cached left replies replies' new
   pub noted : IsNotedAs files line left replies replies' false has_refused
 
 -- an exit status of 0 or 3: what the arguments ask for was done, and it is 3 if they have `--fail-refused` and a request for a frame was refused; or they

@@ -1,5 +1,5 @@
 -- The results of the parts of a run.
-use Rattle.std.specs.Prelude.{◌≡◌, ◌≢◌, ◌<◌, ◌⊎◌, Bool, ℕ, ◌==◌, List, [], ◌∷◌, ◌++◌, Option, Some, None, IfSome, codes, slice_index_or, if◌then◌else◌}
+use Rattle.std.specs.Prelude.{◌≡◌, ◌≢◌, ◌<◌, ◌⊎◌, Bool, ℕ, ◌==◌, List, [], ◌∷◌, ◌++◌, Option, Some, None, IfSome, codes, if◌then◌else◌}
 use Rattle.std.specs.Fmt.{decimal}
 use Rattle.std.specs.Io.KnownBytes.{IsAtEnd, Keeps}
 use Rattle.vp8_tables.specs.Tables.{TableEntries}
@@ -8,6 +8,7 @@ use Rattle.std.specs.Borrow.{Bor}
 use Rattle.stream_files.specs.declared.ivf.Ivf.{Ivf}
 use Rattle.stream_files.specs.declared.ivf.IvfFault.{IvfFault}
 use Rattle.stream_files.specs.declared.ivf.TheConstants.{EMPTY}
+use Rattle.frame_session.specs.Cached.{Capacity as Cached, of_bytes, of_states}
 use Rattle.frame_session.specs.Answers.{AreIvfs, Means, RunStops, SourceRefuses}
 use Rattle.frame_session.specs.ExportSizes.{saved_bytes}
 use Rattle.frame_session.specs.Exported.{IsExportFile, IsNotExported}
@@ -24,9 +25,10 @@ use Rattle.frame_session.specs.declared.live.LiveFault.{LiveFault}
 use Rattle.frame_session.specs.declared.live.LiveFault.TheVariants as lives
 use Rattle.frame_session.specs.declared.serving.RunFault.{RunFault}
 use Rattle.frame_session.specs.declared.serving.RunFault.TheVariants as runs
-use Rattle.serve_arguments.specs.CachedStates.{AreStates}
 use Rattle.serve_arguments.specs.CommandLines.{source_names, tables_name}
 use Rattle.serve_arguments.specs.Readings.{AreRead, AreRequests, Contents, IsOverlong, IsUnread, contents_of}
+use Rattle.serve_arguments.specs.declared.capacities.Capacity.{Capacity}
+use Rattle.serve_arguments.specs.declared.capacities.Capacity.TheVariants.{States, Bytes}
 use Rattle.serve_arguments.specs.declared.exports.NotExported.{NotExported as Unexported}
 use Rattle.serve_arguments.specs.declared.exports.NotExported.TheVariants as unexported
 use Rattle.serve_arguments.specs.declared.fault.Fault.{Fault}
@@ -115,9 +117,10 @@ abbrev pub AreReplied : RunFiles → Accepted → (left replies replies' : Optio
 AreReplied files line left replies replies' end tables sources =
     (lines : List ℕ) × AreRequests files.contents line.words.requests.now left lines × IsReplied (files.out line.words.frames.now) tables sources lines replies replies' end
 
--- the bytes of IN, which is source 0
-abbrev pub stream_in : List (List ℕ) → List ℕ
-stream_in sources = slice_index_or sources 0 []
+-- the capacity of the cache of a session by that of a command line
+abbrev pub cached_by : Capacity → Cached
+cached_by (States count) = of_states count
+cached_by (Bytes bytes) = of_bytes bytes
 
 -- the tables and the bytes of the sources that a command line names
 abbrev pub IsOver : RunFiles → Accepted → TableEntries → List (List ℕ) → Type 0
@@ -127,16 +130,16 @@ IsOver files line tables sources = AreRead files.contents (tables_name line) (so
 abbrev pub OfSources : Type 1
 OfSources = TableEntries → List (List ℕ) → Type 0
 
--- all requests of a command line were answered over its sources and tables, with at most as many states cached as the capacity says for IN, and then what
--- it asks for was saved
-pub record IsServed (files : RunFiles) (line : Accepted) (states : ℕ) (Replied : SessionState → OfSources) (new : SessionState) : Type 0 where
+-- all requests of a command line were answered over its sources and tables, by a cache of the capacity of the command line, and then what it asks for was
+-- saved
+pub record IsServed (files : RunFiles) (line : Accepted) (cached : Cached) (Replied : SessionState → OfSources) (new : SessionState) : Type 0 where
   pub tables : TableEntries
   pub sources : List (List ℕ)
   pub over : IsOver files line tables sources
   pub end : SessionState
   pub replied : Replied end tables sources
   pub saved : AreSaved files.saved line.words end new
-  pub cached : AreStates line.capacity (stream_in sources) states
+  pub cached_is : cached ≡ cached_by line.capacity
 
 -- some tables, and bytes of the sources
 abbrev pub OverSources : RunFiles → Accepted → OfSources → Type 0

@@ -3,16 +3,15 @@ ghost use Rattle.std.specs.Prelude.{◌≡◌, ◌≤◌, ◌⊎◌, IfErr, IfOk
 ghost use Rattle.std.specs.Io.KnownBytes.{Keeps};
 ghost use Rattle.std.specs.Rc.{rc_slice_items};
 ghost use Rattle.frame_session.specs.Sessions.{SessionState};
-ghost use Rattle.serve_arguments.specs.CachedStates.{AreStates};
 ghost use Rattle.serve_arguments.specs.Capacities.{IsGiven};
-ghost use Rattle.serve_program.specs.Endings.{AreLiveReplied, IsExportFault, IsLiveEnded, IsLiveFault, IsLiveRefused, IsLiveReplied, IsOut, IsSaveFault, IsServed, OverSources, run_files, stream_in};
+ghost use Rattle.serve_program.specs.Endings.{AreLiveReplied, IsExportFault, IsLiveEnded, IsLiveFault, IsLiveRefused, IsLiveReplied, IsOut, IsSaveFault, IsServed, OverSources, run_files, cached_by};
 ghost use Rattle.serve_program.specs.Noted.{AreLiveNoted, IsLiveNoted};
 ghost use Rattle.serve_program.specs.Saved.{AreSaved};
 
 use crate::exports::with_export;
 use crate::messages::Messages;
 use crate::program::{BYTES_AT_ONCE, Served, finish, flush_buffer, taken_by};
-use crate::runs::{live_fault, settings_over, shared};
+use crate::runs::{live_fault, settings_with, shared};
 use crate::saving::{Saves, abandon_saves, begin_saves};
 use frame_session::{LiveFault, Session, Settings, run_live_over};
 use output_files::{Counted, SavedFiles};
@@ -32,7 +31,7 @@ fn run_to_path<R: NamedFiles + AllocGlobal, I: BufRead, P: Write, E: Write>(
     replies: &mut P,
     messages: &mut Messages<'_, E>,
 ) -> Result<Session, LiveFault>
-    requires capacity { (1 ≤ settings.capacity) × (settings.capacity ≤ 4096) }
+    requires capacity { (1 ≤ settings.capacity.states) × (settings.capacity.states ≤ 4096) }
     requires sources { (1 ≤ length sources.now) × (length sources.now ≤ 8) }
     ensures replied { IfOk result (λ session. IsLiveReplied (IsOut R.Made.contents (R.is_made_at rt.now) path.now) settings.tables (map rc_slice_items sources.now) (I.remaining requests.old) (P.contents replies.old) (P.contents replies.new) session.now) }
     ensures noted { IfOk result (λ session. IsLiveNoted settings.tables (map rc_slice_items sources.now) (I.remaining requests.old) (P.contents replies.old) (P.contents replies.new) messages.old.has_refused messages.new.has_refused) }
@@ -92,7 +91,7 @@ fn run_over<R: NamedFiles + AllocGlobal, I: Read, P: Write, E: Write>(
     replies: &mut P,
     messages: &mut Messages<'_, E>,
 ) -> Result<Session, LiveFault>
-    requires capacity { (1 ≤ settings.capacity) × (settings.capacity ≤ 4096) }
+    requires capacity { (1 ≤ settings.capacity.states) × (settings.capacity.states ≤ 4096) }
     requires sources { (1 ≤ length sources.now) × (length sources.now ≤ 8) }
     ensures replied { IfOk result (λ session. IsLiveReplied (IsOut R.Made.contents (R.is_made_at rt.now) path.now) settings.tables (map rc_slice_items sources.now) (I.remaining reader.old) (P.contents replies.old) (P.contents replies.new) session.now) }
     ensures noted { IfOk result (λ session. IsLiveNoted settings.tables (map rc_slice_items sources.now) (I.remaining reader.old) (P.contents replies.old) (P.contents replies.new) messages.old.has_refused messages.new.has_refused) }
@@ -122,7 +121,7 @@ fn run_requests<'a, R: NamedFiles + SavedFiles + AllocGlobal, I: Read, P: Write,
     replies: &mut P,
     messages: &mut Messages<'_, E>,
 ) -> Result<Session, Fault<'a>>
-    requires capacity { (1 ≤ settings.capacity) × (settings.capacity ≤ 4096) }
+    requires capacity { (1 ≤ settings.capacity.states) × (settings.capacity.states ≤ 4096) }
     requires sources { (1 ≤ length sources.now) × (length sources.now ≤ 8) }
     ensures replied { IfOk result (λ session. AreLiveReplied (run_files (R.bytes_at rt.now) R.Made.contents (R.is_made_at rt.now) (R.is_saved_at rt.now)) line.now (I.remaining input.old) (P.contents replies.old) (P.contents replies.new) session.now settings.tables (map rc_slice_items sources.now)) }
     ensures noted { IfOk result (λ session. AreLiveNoted (run_files (R.bytes_at rt.now) R.Made.contents (R.is_made_at rt.now) (R.is_saved_at rt.now)) line.now (I.remaining input.old) (P.contents replies.old) (P.contents replies.new) messages.old.has_refused messages.new.has_refused settings.tables (map rc_slice_items sources.now)) }
@@ -185,12 +184,12 @@ fn answer_files<'a, R: NamedFiles + SavedFiles + AllocGlobal, I: Read, O: Write,
     requires sources { (1 ≤ length files.sources.items) × (length files.sources.items ≤ 8) }
     ensures replied { IfOk result (λ served. (end : SessionState) × AreLiveReplied (run_files (R.bytes_at rt.now) R.Made.contents (R.is_made_at rt.now) (R.is_saved_at rt.now)) line.now (I.remaining input.old) (O.contents output.old) (O.contents output.new) end files.tables (map (λ bytes. bytes.items) files.sources.items) × AreSaved (R.is_saved_at rt.now) line.now.words end served.session.now) }
     ensures noted { IfOk result (λ served. AreLiveNoted (run_files (R.bytes_at rt.now) R.Made.contents (R.is_made_at rt.now) (R.is_saved_at rt.now)) line.now (I.remaining input.old) (O.contents output.old) (O.contents output.new) messages.old.has_refused served.has_refused files.tables (map (λ bytes. bytes.items) files.sources.items)) }
-    ensures capacity { IfOk result (λ served. AreStates line.now.capacity (stream_in (map (λ bytes. bytes.items) files.sources.items)) served.session.cache.capacity) }
+    ensures capacity { IfOk result (λ served. served.session.cache.capacity ≡ cached_by line.now.capacity) }
     ensures refused { IfErr result (λ fault. IsLiveRefused (run_files (R.bytes_at rt.now) R.Made.contents (R.is_made_at rt.now) (R.is_saved_at rt.now)) line.now files.tables (map (λ bytes. bytes.items) files.sources.items) (I.remaining input.old) (O.contents output.old) (O.contents output.new) fault ⊎ (IsSaveFault fault × Keeps (O.contents output.old) (O.contents output.new)) ⊎ ((end : SessionState) × AreLiveReplied (run_files (R.bytes_at rt.now) R.Made.contents (R.is_made_at rt.now) (R.is_saved_at rt.now)) line.now (I.remaining input.old) (O.contents output.old) (O.contents output.new) end files.tables (map (λ bytes. bytes.items) files.sources.items) × (IsSaveFault fault ⊎ IsExportFault end fault))) }
 {
     let FilesRead { tables, sources } = files;
     let sources = shared(rt.alloc(), sources)?;
-    let settings = settings_over(rt.alloc(), tables, line.capacity, sources.as_slice())?;
+    let settings = settings_with(tables, line.capacity);
     let saves = begin_saves(rt, line.words, messages)?;
     let answered = run_requests(
         rt,

@@ -9,11 +9,10 @@ ghost use Rattle.frame_session.specs.Answers.{Means};
 ghost use Rattle.frame_session.specs.Noted.{MeansNoted};
 ghost use Rattle.frame_session.specs.Sessions.{SessionState};
 ghost use Rattle.program_parts.specs.Endings.{IsHelp};
-ghost use Rattle.serve_arguments.specs.CachedStates.{AreStates};
 ghost use Rattle.serve_arguments.specs.Capacities.{IsGiven};
 ghost use Rattle.serve_arguments.specs.Readings.{AreRequests, contents_of};
 ghost use Rattle.serve_program.specs.Done.{IsDone, IsExitStatus, IsServedAs};
-ghost use Rattle.serve_program.specs.Endings.{AreReplied, AreStopped, IsEnded, IsExportFault, IsOut, IsOver, IsRefused, IsReplied, IsSaveFault, IsServed, IsStopped, IsUnreplied, OverSources, run_files, spare_text, stream_in};
+ghost use Rattle.serve_program.specs.Endings.{AreReplied, AreStopped, IsEnded, IsExportFault, IsOut, IsOver, IsRefused, IsReplied, IsSaveFault, IsServed, IsStopped, IsUnreplied, OverSources, run_files, spare_text, cached_by};
 ghost use Rattle.serve_program.specs.Noted.{AreNoted, IsNoted, IsNotedAs, status_after};
 ghost use Rattle.serve_program.specs.Saved.{ArePacketsSaved, AreSaved, IsExportSaved};
 
@@ -21,7 +20,7 @@ use crate::explain::{explain_end, explain_export, explain_fault, is_asked};
 use crate::exports::{Answered, with_export};
 use crate::live::answer_live;
 use crate::messages::Messages;
-use crate::runs::{run_fault, settings_over, shared};
+use crate::runs::{run_fault, settings_with, shared};
 use crate::saving::{Saves, begin_saves, finish_saves};
 use frame_session::{Observer, Session, Settings, run_over};
 use output_files::{Counted, SavedFiles, Taken};
@@ -50,7 +49,7 @@ pub fn run_to<B: FileBytes, F: Write, P: Write, V: Observer>(
     replies: &mut P,
     observer: &mut V,
 ) -> Result<Session, Fault<'static>>
-    requires capacity { (1 ≤ settings.capacity) × (settings.capacity ≤ 4096) }
+    requires capacity { (1 ≤ settings.capacity.states) × (settings.capacity.states ≤ 4096) }
     requires sources { (1 ≤ length sources.now) × (length sources.now ≤ 8) }
     ensures answered { IfOk result (λ session. Means settings.tables (map B.bytes sources.now) requests.now (F.contents frames.old) (F.contents frames.new) (P.contents replies.old) (P.contents replies.new) session.now) }
     ensures noted { IfOk result (λ session. MeansNoted settings.tables (map B.bytes sources.now) requests.now (F.contents frames.old) (F.contents frames.new) (P.contents replies.old) (P.contents replies.new) session.now (V.has_refused observer.old) (V.has_refused observer.new)) }
@@ -83,7 +82,7 @@ fn run_to_path<R: NamedFiles + AllocGlobal, P: Write, E: Write>(
     replies: &mut P,
     messages: &mut Messages<'_, E>,
 ) -> Result<Session, Fault<'static>>
-    requires capacity { (1 ≤ settings.capacity) × (settings.capacity ≤ 4096) }
+    requires capacity { (1 ≤ settings.capacity.states) × (settings.capacity.states ≤ 4096) }
     requires sources { (1 ≤ length sources.now) × (length sources.now ≤ 8) }
     ensures replied { IfOk result (λ session. IsReplied (IsOut R.Made.contents (R.is_made_at rt.now) path.now) settings.tables (map rc_slice_items sources.now) requests.now (P.contents replies.old) (P.contents replies.new) session.now) }
     ensures noted { IfOk result (λ session. IsNoted settings.tables (map rc_slice_items sources.now) requests.now (P.contents replies.old) (P.contents replies.new) messages.old.has_refused messages.new.has_refused) }
@@ -241,13 +240,13 @@ fn answer_inputs<R: NamedFiles + SavedFiles + AllocGlobal, O: Write, E: Write>(
     requires read { IsOver (run_files (R.bytes_at rt.now) R.Made.contents (R.is_made_at rt.now) (R.is_saved_at rt.now)) line.now inputs.files.tables (map (λ bytes. bytes.items) inputs.files.sources.items) }
     ensures replied { IfOk result (λ served. (end : SessionState) × IsReplied (IsOut R.Made.contents (R.is_made_at rt.now) line.now.words.frames.now) inputs.files.tables (map (λ bytes. bytes.items) inputs.files.sources.items) inputs.requests.items (O.contents output.old) (O.contents output.new) end × AreSaved (R.is_saved_at rt.now) line.now.words end served.session.now) }
     ensures noted { IfOk result (λ served. IsNoted inputs.files.tables (map (λ bytes. bytes.items) inputs.files.sources.items) inputs.requests.items (O.contents output.old) (O.contents output.new) messages.old.has_refused served.has_refused) }
-    ensures capacity { IfOk result (λ served. AreStates line.now.capacity (stream_in (map (λ bytes. bytes.items) inputs.files.sources.items)) served.session.cache.capacity) }
+    ensures capacity { IfOk result (λ served. served.session.cache.capacity ≡ cached_by line.now.capacity) }
     ensures ended { IfErr result (λ fault. (left : Option (List ℕ)) → (left' : Option (List ℕ)) → AreRequests (contents_of (R.bytes_at rt.now) EMPTY) line.now.words.requests.now left inputs.requests.items → IsEnded (run_files (R.bytes_at rt.now) R.Made.contents (R.is_made_at rt.now) (R.is_saved_at rt.now)) line.now left left' (O.contents output.old) (O.contents output.new) (AreStopped (run_files (R.bytes_at rt.now) R.Made.contents (R.is_made_at rt.now) (R.is_saved_at rt.now)) line.now left (O.contents output.old) (O.contents output.new)) (AreReplied (run_files (R.bytes_at rt.now) R.Made.contents (R.is_made_at rt.now) (R.is_saved_at rt.now)) line.now left (O.contents output.old) (O.contents output.new)) fault) }
 {
     let Inputs { files, requests } = inputs;
     let FilesRead { tables, sources } = files;
     let sources = shared(rt.alloc(), sources)?;
-    let settings = settings_over(rt.alloc(), tables, line.capacity, sources.as_slice())?;
+    let settings = settings_with(tables, line.capacity);
     let session = run_to_path(
         rt,
         settings,

@@ -1,12 +1,11 @@
 // What a run takes, and what its error is to the user.
 ghost use Rattle.std.specs.Prelude.{◌≡◌, ◌≤◌, IfErr, IfOk, map};
 ghost use Rattle.std.specs.Rc.{rc_slice_items};
-ghost use Rattle.serve_arguments.specs.CachedStates.{AreStates};
 ghost use Rattle.serve_arguments.specs.Capacities.{IsGiven};
-ghost use Rattle.serve_program.specs.Endings.{fault_by_live, fault_by_run, stream_in};
+ghost use Rattle.serve_program.specs.Endings.{cached_by, fault_by_live, fault_by_run};
 
-use frame_session::{LiveFault, RunFault, Settings};
-use serve_arguments::{Capacity, Fault, states_over};
+use frame_session::{Capacity as Cached, LiveFault, RunFault, Settings};
+use serve_arguments::{Capacity, Fault};
 use std::alloc::Global;
 use std::rc::RcSlice;
 use vp8_tables::Tables;
@@ -24,42 +23,18 @@ pub fn shared(alloc: Global, all: Vec<Vec<u8>>) -> Result<Vec<RcSlice<u8>>, Faul
     Ok(files)
 }
 
-/// The number of states of a capacity for these sources, of which source 0 is IN.
-///
-/// `NoMemory` if out of memory for the packets of IN.
-fn states_for(
-    alloc: Global,
-    capacity: Capacity,
-    sources: &[RcSlice<u8>],
-) -> Result<u16, Fault<'static>>
+/// The settings of a session with this capacity.
+pub fn settings_with(tables: Tables, capacity: Capacity) -> Settings
     requires { IsGiven capacity }
-    ensures states { IfOk result (AreStates capacity (stream_in (map rc_slice_items sources.now))) }
-    ensures range { IfOk result (λ states. (1 ≤ states) × (states ≤ 4096)) }
-    ensures fault { IfErr result (λ fault. fault ≡ Fault.NoMemory) }
+    ensures tables { result.tables ≡ tables }
+    ensures capacity { result.capacity ≡ cached_by capacity }
+    ensures range { (1 ≤ result.capacity.states) × (result.capacity.states ≤ 4096) }
 {
-    match sources.first() {
-        Some(stream) => states_over(alloc, capacity, stream),
-        None => states_over(alloc, capacity, &b"".as_slice()),
-    }
-}
-
-/// The settings of a session over these sources.
-///
-/// `NoMemory` if out of memory for the packets of IN.
-pub fn settings_over(
-    alloc: Global,
-    tables: Tables,
-    capacity: Capacity,
-    sources: &[RcSlice<u8>],
-) -> Result<Settings, Fault<'static>>
-    requires { IsGiven capacity }
-    ensures tables { IfOk result (λ settings. settings.tables ≡ tables) }
-    ensures states { IfOk result (λ settings. AreStates capacity (stream_in (map rc_slice_items sources.now)) settings.capacity) }
-    ensures range { IfOk result (λ settings. (1 ≤ settings.capacity) × (settings.capacity ≤ 4096)) }
-    ensures fault { IfErr result (λ fault. fault ≡ Fault.NoMemory) }
-{
-    let capacity = states_for(alloc, capacity, sources)?;
-    Ok(Settings { tables, capacity })
+    let capacity = match capacity {
+        Capacity::States(states) => Cached::of_states(states),
+        Capacity::Bytes(bytes) => Cached::of_bytes(bytes),
+    };
+    Settings { tables, capacity }
 }
 
 /// The error of a run for the user.

@@ -6,6 +6,7 @@ use Rattle.packet_edits.specs.declared.entry.Entry.{Entry}
 use Rattle.packet_edits.specs.Edits.{Listing}
 use Rattle.packet_edits.specs.Laws.{HasOwnIds}
 use Rattle.packet_edits.specs.Marks.{StoreValue}
+use Rattle.state_cache.specs.declared.capacity.Capacity.{Capacity}
 use Rattle.state_cache.specs.declared.outcomes.Kept.{Kept}
 use Rattle.state_cache.specs.Costs.{HasRoom, IsIdOf, IsSettled, uncached_from}
 use Rattle.state_cache.specs.Reaching.{CacheValue, IsNext, Converged, view_of}
@@ -45,7 +46,7 @@ stand_case list kept id q place new true e here h = inr (place, here ∙ ap (λ 
 stand_case list kept id q place new false e here h = inl h
 
 module _ (tables : TableEntries) (source : ℕ) (old new : StoreValue) (before after : CacheValue) (place m : ℕ) (is_joined : Bool) (within : place < length old.list.entries) (low : m ≤ place) (many : length old.marks ≡ length old.list.entries) (own : HasOwnIds old.list)
-    (next : IsNext (marked_packets old) (view_of source before) place m) (coherent : IsCoherent tables (marked_packets new) (view_of source after)) (usable : is_usable (marked_packets new) (view_of source after) m ≡ true) (number : length before.entries ≤ length after.entries) (capacity : after.capacity ≡ before.capacity)
+    (next : IsNext (marked_packets old) (view_of source before) place m) (coherent : IsCoherent tables (marked_packets new) (view_of source after)) (usable : is_usable (marked_packets new) (view_of source after) m ≡ true) (number : before.capacity.bytes ≡ None → length before.entries ≤ length after.entries) (capacity : after.capacity ≡ before.capacity)
     (t : IsIteration source old before m is_joined new after) where
   abbrev xs : List MarkedPacket
   xs = marked_packets old
@@ -112,7 +113,8 @@ module _ (tables : TableEntries) (source : ℕ) (old new : StoreValue) (before a
   put room =
       let step = unkept_step old.list.entries kept m place entry_here.entry entry_here.is low in
       let same = missing_is in
-      t.room (omega (arith, room, step, same))
+      let few = room.1 in
+      t.room (record { states = omega (arith, few, step, same); bytes = λ limit is. let none : before.capacity.bytes ≡ None = room.0 in cc })
 
   room_further : (further : ℕ) → m < further → HasRoom source old.list before m place → HasRoom source new.list after further place
   room_further further up room =
@@ -120,8 +122,10 @@ module _ (tables : TableEntries) (source : ℕ) (old new : StoreValue) (before a
       let fewer = unkept_further old.list.entries kept m place entry_here.entry entry_here.is low kept' further up (still_kept kept kept' t.packet.id t.outcome p.others) in
       let same = missing_is in
       let grown = p.number in
-      let one : length after.entries + uncached_from old.list.entries kept' further place ≤ after.capacity = omega (arith, room, fewer, same, grown, capacity) in
-      subst (λ (l : Listing). length after.entries + uncached_from l.entries kept' further place ≤ after.capacity) (sym list_is) one
+      let few = room.1 in
+      let states : after.capacity.states ≡ before.capacity.states = ap (λ (c : Capacity). c.states) capacity in
+      let one : length after.entries + uncached_from old.list.entries kept' further place ≤ after.capacity.states = omega (arith, few, fewer, same, grown, states) in
+      (ap (λ (c : Capacity). c.bytes) capacity ∙ room.0, subst (λ (l : Listing). length after.entries + uncached_from l.entries kept' further place ≤ after.capacity.states) (sym list_is) one)
 
   same_settled : HasRoom source old.list before m place → SettlesSame tables xs (marked_packets new) kept kept' m place
   same_settled room =

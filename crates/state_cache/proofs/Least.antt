@@ -6,7 +6,7 @@ use Rattle.state_cache.specs.ProofsOnly.{NoneIsLess, Searched}
 use Rattle.state_cache.proofs.Runs.{same_or_not, up_to_or_behind}
 
 -- if x / a is less than p / b, and o / c is not, then x / a is less than o / c
-less_across : (x a p b o c : ℕ) → 0 < c → x * b < p * a → (o * b < p * c → ⊥) → x * c < o * a
+pub less_across : (x a p b o c : ℕ) → 0 < c → x * b < p * a → (o * b < p * c → ⊥) → x * c < o * a
 less_across x a p b o c some low high =
     let below : x * b * c < p * a * c = mul-lt-mul_of_pos_right low some in
     let not_above : p * c ≤ o * b = omega (arith, high) in
@@ -17,7 +17,7 @@ less_across x a p b o c some low high =
     let all : x * c * b < o * a * b = omega (arith, below, above, first, second, third) in
     lt_of_mul-lt-mul_right b all
 
-age_some : (uses : ℕ) (s : Saving) → 0 < age uses s
+pub age_some : (uses : ℕ) (s : Saving) → 0 < age uses s
 age_some uses s = omega arith
 
 pub same_saving : (ss : List Saving) (p q : ℕ) (x y : Saving) → slice_get ss p ≡ Some x → slice_get ss q ≡ Some y → p ≡ q → x ≡ y
@@ -110,14 +110,14 @@ victim_found ss uses at victim saves old s all = record {
   first = s.first;
 }
 
-get_dropped : {A : Type 0} (xs : List A) (n i m : ℕ) → m ≡ n + i → slice_get (drop n xs) i ≡ slice_get xs m
+pub get_dropped : {A : Type 0} (xs : List A) (n i m : ℕ) → m ≡ n + i → slice_get (drop n xs) i ≡ slice_get xs m
 get_dropped xs zero i m h = let same : i ≡ m = omega (arith, h) in ap (slice_get xs) same
 get_dropped [] (suc n) i zero h = refl
 get_dropped [] (suc n) i (suc m) h = refl
 get_dropped (x ∷ xs) (suc n) i zero h = absurd (omega (arith, h))
 get_dropped (x ∷ xs) (suc n) i (suc m) h = get_dropped xs n i m (omega (arith, h))
 
-get_taken : {A : Type 0} (xs : List A) (n i : ℕ) → i < n → slice_get (take n xs) i ≡ slice_get xs i
+pub get_taken : {A : Type 0} (xs : List A) (n i : ℕ) → i < n → slice_get (take n xs) i ≡ slice_get xs i
 get_taken xs zero i low = absurd (omega (arith, low))
 get_taken [] (suc n) i low = refl
 get_taken (x ∷ xs) (suc n) zero low = refl

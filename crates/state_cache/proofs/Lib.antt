@@ -31,3 +31,6 @@ pub mod Evicted
 pub mod Least
 pub mod Victims
 pub mod LastUses
+pub mod Others
+pub mod Shed
+pub mod KeptWithin

@@ -1,11 +1,13 @@
 -- One step, from the contracts of its calls.
 use Rattle.std.proofs.Common.{◌≡◌, ℕ, ◌+◌, ◌≤◌, Bool, cond, not, ◌&&◌, List, Some, is_none, length, slice_get, sym, ap, subst, ◌∙◌}
 use Rattle.packet_edits.specs.Marks.{StoreValue}
+use Rattle.state_cache.specs.Bytes.{bytes_in, cached_bytes, outcome_bytes}
+use Rattle.state_cache.specs.declared.capacity.Capacity.{Capacity}
 use Rattle.state_cache.specs.declared.outcomes.Kept.{Kept}
 use Rattle.state_cache.specs.declared.outcomes.PacketKey.{PacketKey}
 use Rattle.state_cache.specs.Reaching.{CacheValue, Converged, OthersDrop, passed_marks, view_of}
 use Rattle.state_cache.specs.Views.{Drops, MarkedPacket, View, is_cut, key_at, cached_in, marked_packets, with_cached, mark_at}
-use Rattle.state_cache.specs.Walks.{IsPut, IsIteration, ConvergesWithSame, entries_with}
+use Rattle.state_cache.specs.Walks.{HasRoomFor, IsPut, IsIteration, ConvergesWithSame, entries_with}
 use Rattle.state_cache.proofs.Reached.{cut_seen}
 
 -- `counted` is the cache after the step was counted
@@ -23,11 +25,16 @@ module _ (source : ℕ) (old new : StoreValue) (before counted after : CacheValu
     other_sources = λ other q apart. put.other_sources other q apart ∙ ap (λ (v : View). v q) (view_is other);
   }
 
-  room_is : entries_with source before p.id ≤ before.capacity → entries_with source counted id ≤ counted.capacity
-  room_is room = subst (λ (n : ℕ). entries_with source counted id ≤ n) capacity (subst (λ (n : ℕ). n ≤ before.capacity) (sym entries_is) room)
+  room_is : HasRoomFor source before p.id outcome → HasRoomFor source counted id outcome
+  room_is room = record {
+    states = subst (λ (c : Capacity). entries_with source counted id ≤ c.states) capacity (subst (λ (n : ℕ). n ≤ before.capacity.states) (sym entries_is) room.states);
+    bytes = λ limit is.
+        subst (λ (es : List (PacketKey × Kept)). cached_bytes es + outcome_bytes outcome ≤ limit + bytes_in (cached_in es source id)) entries
+        (subst (λ (n : ℕ). cached_bytes before.entries + outcome_bytes outcome ≤ limit + bytes_in (view_of source before n)) (sym id_is) (room.bytes limit (ap (λ (c : Capacity). c.bytes) capacity ∙ is)));
+  }
 
   pub turned_is : is_joined ≡ (cut && converged) → slice_get (marked_packets old) place ≡ Some p → cut ≡ (mark_at (marked_packets old) place && not (key_at (marked_packets old) place)) → new ≡ record old { marks = passed_marks cut converged place old.marks } → Converged converged (view_of source counted id) outcome → ConvergesWithSame converged (view_of source counted id) outcome → view_of source after id ≡ Some outcome
-      → ((q : ℕ) → Drops (view_of source after q) (with_cached (view_of source counted) id outcome q)) → OthersDrop source counted after → (entries_with source counted id ≤ counted.capacity → IsPut source counted id outcome after) → IsIteration source old before place is_joined new after
+      → ((q : ℕ) → Drops (view_of source after q) (with_cached (view_of source counted) id outcome q)) → OthersDrop source counted after → (HasRoomFor source counted id outcome → IsPut source counted id outcome after) → IsIteration source old before place is_joined new after
   turned_is joined packet_is cut_is marks met_is same kept drops others room =
       let is : cut ≡ is_cut p = cut_is ∙ cut_seen (marked_packets old) place p packet_is in
       record {

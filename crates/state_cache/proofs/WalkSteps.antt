@@ -3,6 +3,7 @@ use Rattle.std.proofs.Common.{◌≡◌, ℕ, zero, suc, ◌+◌, ◌<◌, ◌�
 use Rattle.std.specs.Prelude.{min}
 use Rattle.vp8_tables.specs.Tables.{TableEntries}
 use Rattle.packet_edits.specs.Marks.{StoreValue, unmarked_at}
+use Rattle.state_cache.specs.declared.capacity.Capacity.{Capacity}
 use Rattle.state_cache.specs.declared.outcomes.Kept.{Kept}
 use Rattle.state_cache.specs.Costs.{most_steps}
 use Rattle.state_cache.specs.Reaching.{Begins, CacheValue, IsNext, OthersDrop, at_key, at_start, following, passed_marks, view_of}
@@ -57,7 +58,7 @@ walk_arrives tables source old now before cache place next is_ok w up = record {
 counted_only : (cache after : CacheValue) (decoded : ℕ) → after.entries ≡ cache.entries → after.capacity ≡ cache.capacity → after.decoded ≡ decoded → after ≡ record cache { decoded = decoded }
 counted_only cache after decoded entries capacity steps =
     ap (λ es. record after { entries = es }) entries
-    ∙ ap (λ (n : ℕ). record after { entries = cache.entries; capacity = n }) capacity
+    ∙ ap (λ (c : Capacity). record after { entries = cache.entries; capacity = c }) capacity
     ∙ ap (λ (n : ℕ). record cache { decoded = n }) steps
 
 -- a walk that ends with a step that is refused
@@ -73,7 +74,7 @@ walk_refused tables source old now new before cache after place next w low same 
   ends = is_refused refl low (counted_only cache after (min (cache.decoded + 1) most_steps) entries capacity counted);
 }
 
-drops_more : (o p q : Option Kept) → Drops o p → Drops p q → Drops o q
+pub drops_more : (o p q : Option Kept) → Drops o p → Drops p q → Drops o q
 drops_more None p q d e = tt
 drops_more (Some k) p q d e = subst (λ (x : Option Kept). Drops x q) d e
 

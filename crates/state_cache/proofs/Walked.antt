@@ -6,6 +6,8 @@ use Rattle.vp8_tables.specs.Tables.{TableEntries}
 use Rattle.packet_edits.specs.declared.entry.Entry.{Entry}
 use Rattle.packet_edits.specs.Edits.{Listing}
 use Rattle.packet_edits.specs.Marks.{StoreValue}
+use Rattle.state_cache.specs.Bytes.{IsWithinBytes}
+use Rattle.state_cache.specs.declared.capacity.Capacity.{Capacity}
 use Rattle.state_cache.specs.declared.outcomes.Kept.{Kept}
 use Rattle.state_cache.specs.declared.outcomes.PacketKey.{PacketKey}
 use Rattle.state_cache.specs.Costs.{AreStepped, AreUnsettled, Costs, HasRoom, IsIdOf, IsSettled, most_steps}
@@ -31,7 +33,7 @@ pub record SoFar (tables : TableEntries) (source : ℕ) (old : StoreValue) (befo
   pub steps : cache.decoded + first ≤ before.decoded + next
   pub rises : before.decoded ≤ cache.decoded
   pub free : is_usable (marked_packets old) (view_of source before) place ≡ true → (cache ≡ before) × (now ≡ old) × (place + 1 ≤ next)
-  pub number : length before.entries ≤ length cache.entries
+  pub number : before.capacity.bytes ≡ None → length before.entries ≤ length cache.entries
   pub capacity : cache.capacity ≡ before.capacity
   pub of_packets : (id : ℕ) → IsSome (view_of source cache id) → IsSome (view_of source before id) ⊎ IsIdOf old.list id
   pub room : HasRoom source old.list before first place → HasRoom source now.list cache next place
@@ -49,7 +51,7 @@ walk_begins tables source old before place next n small = record {
   steps = omega arith;
   rises = omega arith;
   free = λ u. (refl, refl, beyond (marked_packets old) (view_of source before) place next place n (omega arith) u);
-  number = omega arith;
+  number = λ none. omega arith;
   capacity = refl;
   of_packets = λ id k. inl k;
   room = λ r. r;
@@ -108,8 +110,6 @@ module _ (tables : TableEntries) (source : ℕ) (old now : StoreValue) (before c
         let up : next < further = a.following in
         let was = s.steps in
         let rose = s.rises in
-        let grown = a.number in
-        let grew = s.number in
         let small = s.small in
         record {
           first = s.first;
@@ -118,7 +118,7 @@ module _ (tables : TableEntries) (source : ℕ) (old now : StoreValue) (before c
           steps = omega (arith, counted, was, up);
           rises = omega (arith, counted, rose, small);
           free = λ u. let far = (s.free u).2 in absurd (omega (arith, far, low));
-          number = omega (arith, grown, grew);
+          number = λ none. let grown = a.number (ap (λ (c : Capacity). c.bytes) s.capacity ∙ none) in let grew = s.number none in omega (arith, grown, grew);
           capacity = capacity ∙ s.capacity;
           of_packets = λ id k. stand_more id (a.of_packets id k);
           room = λ r. a.room (s.room r);
@@ -127,7 +127,7 @@ module _ (tables : TableEntries) (source : ℕ) (old now : StoreValue) (before c
           converges = λ r places u. meets_more r places (s.converges r places u);
         }
 
-  module _ (new : StoreValue) (after : CacheValue) (unsettled : IsSettled tables (marked_packets now) (view_of source cache) place next → ⊥) (counted : after.decoded ≡ min (cache.decoded + 1) most_steps) (same : after.entries ≡ cache.entries) (capacity : after.capacity ≡ cache.capacity) (bounded : length after.entries ≤ after.capacity) where
+  module _ (new : StoreValue) (after : CacheValue) (unsettled : IsSettled tables (marked_packets now) (view_of source cache) place next → ⊥) (counted : after.decoded ≡ min (cache.decoded + 1) most_steps) (same : after.entries ≡ cache.entries) (capacity : after.capacity ≡ cache.capacity) (bounded : length after.entries ≤ after.capacity.states) (within : IsWithinBytes after.capacity.bytes after.entries) where
     view_is : (any : ℕ) → view_of any after ≡ view_of any cache
     view_is any = ap (λ (es : List (PacketKey × Kept)). cached_in es any) same
 
@@ -143,7 +143,6 @@ module _ (tables : TableEntries) (source : ℕ) (old now : StoreValue) (before c
     walk_refused =
         let was = s.steps in
         let rose = s.rises in
-        let grew = s.number in
         let small = s.small in
         record {
           next = s.first;
@@ -152,8 +151,9 @@ module _ (tables : TableEntries) (source : ℕ) (old now : StoreValue) (before c
           rises = omega (arith, counted, rose, small);
           free = λ u. let far = (s.free u).2 in absurd (omega (arith, far, low));
           usable = λ ok. cc;
-          number = subst (λ (es : List (PacketKey × Kept)). length before.entries ≤ length es) (sym same) grew;
+          number = λ none. subst (λ (es : List (PacketKey × Kept)). length before.entries ≤ length es) (sym same) (s.number none);
           bounded = bounded;
+          within = within;
           capacity = capacity ∙ s.capacity;
           of_packets = λ id k. s.of_packets id (subst (λ (v : View). IsSome (v id)) (view_is source) k);
           converges = λ r places u. refused_steps r places (s.converges r places u);
@@ -161,7 +161,7 @@ module _ (tables : TableEntries) (source : ℕ) (old now : StoreValue) (before c
           keeps = λ r ok. cc;
         }
 
-module _ (tables : TableEntries) (source : ℕ) (old now : StoreValue) (before cache : CacheValue) (place next : ℕ) (s : SoFar tables source old before place now cache next) (n : IsNext (marked_packets now) (view_of source cache) place next) (up : place < next) (bounded : length cache.entries ≤ cache.capacity) where
+module _ (tables : TableEntries) (source : ℕ) (old now : StoreValue) (before cache : CacheValue) (place next : ℕ) (s : SoFar tables source old before place now cache next) (n : IsNext (marked_packets now) (view_of source cache) place next) (up : place < next) (bounded : length cache.entries ≤ cache.capacity.states) (within : IsWithinBytes cache.capacity.bytes cache.entries) where
   reached_steps : (is_ok : Bool) (places : List ℕ) → Left tables source now cache place next before.decoded (length places) → AreStepped before.decoded is_ok cache.decoded (length places)
   reached_steps is_ok places l =
       let none : length l.rest ≡ 0 = ap length (none_left tables (marked_packets now) (view_of source cache) next place l.rest l.unsettled up) in
@@ -187,6 +187,7 @@ module _ (tables : TableEntries) (source : ℕ) (old now : StoreValue) (before c
         usable = λ ok. n.arrived up;
         number = s.number;
         bounded = bounded;
+        within = within;
         capacity = s.capacity;
         of_packets = s.of_packets;
         converges = λ r places u. reached_steps is_ok places (s.converges r places u);

@@ -1,11 +1,12 @@
 -- The cost of reaching an index, and the outcomes cached afterwards.
-use Rattle.std.specs.Prelude.{◌≡◌, ℕ, ◌+◌, ◌-◌, ◌^◌, ◌<◌, ◌≤◌, ◌||◌, ◌⊎◌, Bool, true, false, min, nat_eq, List, map, length, take, drop, count_by, slice_get, Some, option_map, is_none, IsSome, Ok}
+use Rattle.std.specs.Prelude.{◌≡◌, ℕ, ◌+◌, ◌-◌, ◌^◌, ◌<◌, ◌≤◌, ◌||◌, ◌⊎◌, Bool, true, false, min, nat_eq, List, map, length, take, drop, count_by, slice_get, Some, None, option_map, is_none, IsSome, Ok}
 use Rattle.vp8_tables.specs.Tables.{TableEntries}
 use Rattle.pixel_planes.specs.Pictures.{PictureSamples}
 use Rattle.packet_edits.specs.declared.entry.Entry.{Entry}
 use Rattle.packet_edits.specs.Edits.{Listing}
 use Rattle.packet_edits.specs.Marks.{StoreValue}
 use Rattle.state_cache.specs.declared.outcomes.Kept.{Kept}
+use Rattle.state_cache.specs.Bytes.{IsWithinBytes}
 use Rattle.state_cache.specs.Decoding.{outcomes}
 use Rattle.state_cache.specs.Reaching.{CacheValue, IsNext, view_of}
 use Rattle.state_cache.specs.Views.{MarkedPacket, View, is_usable, cached_at, key_at, mark_at, marked_packets, outcome_at}
@@ -47,10 +48,11 @@ pub record AreUnsettled (tables : TableEntries) (packets : List MarkedPacket) (k
 abbrev pub uncached_from : List Entry → View → ℕ → ℕ → ℕ
 uncached_from entries kept next place = count_by (λ entry. is_none (kept entry.id)) (drop next (take (place + 1) entries))
 
--- there is room: the cached outcomes of all sources and the new ones of this source from `next` up to `place` are at most the
--- capacity
+-- there is room: the capacity has no limit in bytes, and the cached outcomes of all sources and the new ones of this source from
+-- `next` up to `place` are at most its states
 abbrev pub HasRoom : ℕ → Listing → CacheValue → ℕ → ℕ → Type 0
-HasRoom source list cache next place = length cache.entries + uncached_from list.entries (view_of source cache) next place ≤ cache.capacity
+HasRoom source list cache next place =
+    (cache.capacity.bytes ≡ None) × (length cache.entries + uncached_from list.entries (view_of source cache) next place ≤ cache.capacity.states)
 
 -- the id is the id of a packet of the list
 abbrev pub IsIdOf : Listing → ℕ → Type 0
@@ -77,9 +79,11 @@ pub record Costs (tables : TableEntries) (source : ℕ) (old : StoreValue) (befo
   -- a usable index costs nothing
   pub free : is_usable (marked_packets old) (view_of source before) place ≡ true → (after ≡ before) × (new ≡ old)
   pub usable : is_ok ≡ true → is_usable (marked_packets new) (view_of source after) place ≡ true
-  -- the number of cached outcomes of all sources does not fall, and is at most the capacity
-  pub number : length before.entries ≤ length after.entries
-  pub bounded : length after.entries ≤ after.capacity
+  -- without a limit in bytes the number of cached outcomes of all sources does not fall; it is at most the states of the
+  -- capacity, and the outcomes are within such a limit
+  pub number : before.capacity.bytes ≡ None → length before.entries ≤ length after.entries
+  pub bounded : length after.entries ≤ after.capacity.states
+  pub within : IsWithinBytes after.capacity.bytes after.entries
   pub capacity : after.capacity ≡ before.capacity
   -- each cached outcome of the source was cached before, or is of a packet of its list
   pub of_packets : (id : ℕ) → IsSome (view_of source after id) → IsSome (view_of source before id) ⊎ IsIdOf old.list id

@@ -35,6 +35,16 @@ pub record IsVictim (savings : List Saving) (uses victim : ℕ) : Type 0 where
   pub least : (n : ℕ) (other : Saving) → slice_get savings n ≡ Some other → SavesLess uses other saving → ⊥
   pub first : (n : ℕ) (other : Saving) → n < victim → slice_get savings n ≡ Some other → SavesLess uses saving other
 
+-- the index of the outcome to drop among the first `len` other than the newest one: none of them saves less over its age, and each
+-- one before it saves more
+pub record IsOtherVictim (savings : List Saving) (uses len newest victim : ℕ) : Type 0 where
+  pub saving : Saving
+  pub is_there : slice_get savings victim ≡ Some saving
+  pub within : victim < len
+  pub is_other : victim ≡ newest → ⊥
+  pub least : (n : ℕ) (other : Saving) → n < len → (n ≡ newest → ⊥) → slice_get savings n ≡ Some other → SavesLess uses other saving → ⊥
+  pub first : (n : ℕ) (other : Saving) → n < victim → (n ≡ newest → ⊥) → slice_get savings n ≡ Some other → SavesLess uses saving other
+
 -- for a new key: none goes if an outcome is cached for it or there is room, else the victim
 abbrev pub Evicts : SavingsValue → List (PacketKey × Kept) → ℕ → PacketKey → Option ℕ → Type 0
 Evicts savings entries capacity key None = (length entries < capacity) ⊎ IsSome (lookup (same_key key) entries)

@@ -1,6 +1,7 @@
 pub mod Decoding
 pub mod DecodingLaws
 pub mod Views
+pub mod Bytes
 pub mod Reaching
 pub mod Costs
 pub mod EditLaws

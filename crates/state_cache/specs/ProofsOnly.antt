@@ -13,12 +13,13 @@ use Rattle.state_cache.specs.declared.outcomes.Kept.{Kept}
 use Rattle.state_cache.specs.declared.outcomes.PacketKey.{PacketKey}
 use Rattle.state_cache.specs.declared.outcomes.ReachFault.{ReachFault}
 use Rattle.state_cache.specs.declared.outcomes.ReachFault.TheVariants.{Refused, NoMemory, TooManyShares}
+use Rattle.state_cache.specs.Bytes.{cached_bytes, outcome_bytes}
 use Rattle.state_cache.specs.Costs.{AreUnsettled, HasRoom, IsIdOf, IsOneRun, IsSettled}
 use Rattle.state_cache.specs.Decoding.{outcomes}
 use Rattle.state_cache.specs.declared.savings.Saving.{Saving}
 use Rattle.state_cache.specs.Evictions.{SavesLess, age, saved}
 use Rattle.state_cache.specs.Reaching.{CacheValue, IsNext, state_from, view_of}
-use Rattle.state_cache.specs.Views.{MarkedPacket, View, cached_at, key_at, marked_packets, outcome_at, same_key, step_result}
+use Rattle.state_cache.specs.Views.{Drops, MarkedPacket, View, cached_at, key_at, marked_packets, outcome_at, same_key, step_result}
 
 -- the index after the one that was found, or another one
 abbrev pub next_of : Option ℕ → ℕ → ℕ
@@ -77,7 +78,7 @@ pub record IsAfterCached (packets : List MarkedPacket) (kept : View) (first plac
 pub record Advances (tables : TableEntries) (source : ℕ) (old : StoreValue) (before : CacheValue) (place next : ℕ) (new : StoreValue) (after : CacheValue) (further : ℕ) : Type 0 where
   pub first : IsNext (marked_packets new) (view_of source after) place further
   pub following : next < further
-  pub number : length before.entries ≤ length after.entries
+  pub number : before.capacity.bytes ≡ None → length before.entries ≤ length after.entries
   pub of_packets : (id : ℕ) → IsSome (view_of source after id) → IsSome (view_of source before id) ⊎ IsIdOf old.list id
   pub room : HasRoom source old.list before next place → HasRoom source new.list after further place
   pub stays : HasRoom source old.list before next place → (any id : ℕ) → IsSome (view_of any before id) → IsSome (view_of any after id)
@@ -99,3 +100,32 @@ pub record Searched (ss : List Saving) (uses at victim saves old : ℕ) : Type 0
 abbrev pub NoneIsLess : List ℕ → List ℕ → ℕ → ℕ → ℕ → Type 0
 NoneIsLess steps used uses saves old =
     (n step last : ℕ) → slice_get steps n ≡ Some step → slice_get used n ≡ Some last → step * old < saves * (min (uses - last) (2 ^ 32 - 2) + 1) → ⊥
+
+-- the least of the savings from one index up to another, the first among equals
+pub record IsLeastBetween (ss : List Saving) (uses from to victim : ℕ) : Type 0 where
+  pub saving : Saving
+  pub is_there : slice_get ss victim ≡ Some saving
+  pub above : from ≤ victim
+  pub below : victim < to
+  pub least : (n : ℕ) (other : Saving) → from ≤ n → n < to → slice_get ss n ≡ Some other → SavesLess uses other saving → ⊥
+  pub first : (n : ℕ) (other : Saving) → from ≤ n → n < victim → slice_get ss n ≡ Some other → SavesLess uses saving other
+
+-- of two savings the one at the second index is chosen if it saves less, and the one at the first otherwise
+abbrev pub Lesser : List Saving → ℕ → ℕ → ℕ → ℕ → Type 0
+Lesser ss uses first second chosen =
+    (one other : Saving) → slice_get ss first ≡ Some one → slice_get ss second ≡ Some other → ((chosen ≡ second) × SavesLess uses other one) ⊎ ((chosen ≡ first) × (SavesLess uses other one → ⊥))
+
+-- the bytes of the cached outcomes are counted if there is a limit, and are within it, or there is only one outcome
+abbrev pub IsCounted : Option ℕ → ℕ → List (PacketKey × Kept) → Type 0
+IsCounted None bytes entries = Unit {0}
+IsCounted (Some limit) bytes entries = (bytes ≡ cached_bytes entries) × ((bytes ≤ limit) ⊎ (length entries ≤ 1))
+
+-- an outcome of so many bytes is cached for a key
+abbrev pub IsNewest : PacketKey → ℕ → List (PacketKey × Kept) → Type 0
+IsNewest key bytes entries = (outcome : Kept) × (lookup (same_key key) entries ≡ Some outcome) × (bytes ≡ outcome_bytes outcome)
+
+-- outcomes other than that of a key are dropped
+pub record IsShed (key : PacketKey) (before after : List (PacketKey × Kept)) : Type 0 where
+  pub drops : (q : PacketKey) → Drops (lookup (same_key q) after) (lookup (same_key q) before)
+  pub kept : lookup (same_key key) after ≡ lookup (same_key key) before
+  pub fewer : length after ≤ length before

@@ -5,6 +5,7 @@ use Rattle.packet_edits.specs.Edits.{Listing}
 use Rattle.packet_edits.specs.Marks.{marked_at, unmarked_at}
 use Rattle.reference_frames.specs.declared.states.State.{State}
 use Rattle.packet_edits.specs.Shown.{stream_of}
+use Rattle.state_cache.specs.declared.capacity.Capacity.{Capacity}
 use Rattle.state_cache.specs.declared.outcomes.Kept.{Kept}
 use Rattle.state_cache.specs.declared.outcomes.PacketKey.{PacketKey}
 use Rattle.state_cache.specs.declared.outcomes.ReachFault.{ReachFault}
@@ -12,10 +13,18 @@ use Rattle.state_cache.specs.declared.outcomes.ReachFault.TheVariants.{Refused, 
 use Rattle.state_cache.specs.Decoding.{Outcome, outcomes}
 use Rattle.state_cache.specs.Views.{Drops, MarkedPacket, View, is_usable, key_at, cached_in, outcome_at, step_result}
 
+-- a capacity of so many outcomes, without a limit in bytes
+abbrev pub of_states : ℕ → Capacity
+of_states states = record { states = states; bytes = None }
+
+-- a capacity of so many bytes, and of the most outcomes that a cache may have
+abbrev pub of_bytes : ℕ → Capacity
+of_bytes bytes = record { states = 4096; bytes = Some bytes }
+
 -- the value of a cache: outcomes by the sources and ids of their packets, the capacity, and the number of steps made
 pub record CacheValue : Type 0 where
   pub entries : List (PacketKey × Kept)
-  pub capacity : ℕ
+  pub capacity : Capacity
   pub decoded : ℕ
 
 -- the outcome cached for each id of a source

@@ -1,8 +1,9 @@
 -- A walk to an index: one step, where the walk continues, and how it ends.
-use Rattle.std.specs.Prelude.{◌≡◌, ℕ, ◌+◌, ◌<◌, ◌≤◌, ◌&&◌, Bool, true, false, cond, min, List, [], ◌∷◌, length, slice_get, Option, Some, is_none}
+use Rattle.std.specs.Prelude.{◌≡◌, ℕ, ◌+◌, ◌<◌, ◌≤◌, ◌&&◌, Bool, true, false, cond, min, List, [], ◌∷◌, length, slice_get, Option, Some, None, is_none}
 use Rattle.vp8_tables.specs.Tables.{TableEntries}
 use Rattle.packet_edits.specs.Marks.{StoreValue}
 use Rattle.state_cache.specs.declared.outcomes.Kept.{Kept}
+use Rattle.state_cache.specs.Bytes.{bytes_in, cached_bytes, outcome_bytes}
 use Rattle.state_cache.specs.Costs.{most_steps}
 use Rattle.state_cache.specs.Reaching.{CacheValue, IsNext, Converged, OthersDrop, OthersStay, passed_marks, view_of}
 use Rattle.state_cache.specs.Views.{Drops, IsCoherent, MarkedPacket, is_cut, marked_packets, with_cached}
@@ -14,6 +15,12 @@ ConvergesWithSame has_converged before new = (old : Kept) → before ≡ Some ol
 -- the number of cached outcomes once one is cached for an id of a source
 abbrev pub entries_with : ℕ → CacheValue → ℕ → ℕ
 entries_with source cache id = length cache.entries + cond (is_none (view_of source cache id)) 1 0
+
+-- an outcome has room: once it is cached for an id of a source, there are at most as many outcomes as the states of the capacity,
+-- and within its limit in bytes, if it has one
+pub record HasRoomFor (source : ℕ) (cache : CacheValue) (id : ℕ) (outcome : Kept) : Type 0 where
+  pub states : entries_with source cache id ≤ cache.capacity.states
+  pub bytes : (limit : ℕ) → cache.capacity.bytes ≡ Some limit → cached_bytes cache.entries + outcome_bytes outcome ≤ limit + bytes_in (view_of source cache id)
 
 -- one outcome of a source was cached, and none of any source dropped
 pub record IsPut (source : ℕ) (before : CacheValue) (id : ℕ) (outcome : Kept) (after : CacheValue) : Type 0 where
@@ -36,7 +43,7 @@ pub record IsIteration (source : ℕ) (old : StoreValue) (before : CacheValue) (
   pub drops : (q : ℕ) → Drops (view_of source after q) (with_cached (view_of source before) packet.id outcome q)
   pub other_sources : OthersDrop source before after
   -- with room for it, nothing else is dropped
-  pub room : entries_with source before packet.id ≤ before.capacity → IsPut source before packet.id outcome after
+  pub room : HasRoomFor source before packet.id outcome → IsPut source before packet.id outcome after
 
 -- one step of a walk to `place`: the packet at `next` is stepped, its outcome is cached and its mark passed. The walk
 -- continues at `further`, which is the next index unless two runs were joined, and the cache is coherent
@@ -45,7 +52,7 @@ pub record IsWalkStep (tables : TableEntries) (source : ℕ) (old : StoreValue) 
   pub iterated : IsIteration source old before next joined new after
   pub counted : after.decoded ≡ min (before.decoded + 1) most_steps
   pub capacity : after.capacity ≡ before.capacity
-  pub number : length before.entries ≤ length after.entries
+  pub number : before.capacity.bytes ≡ None → length before.entries ≤ length after.entries
   pub low : next ≤ place
   pub later : next < further
   pub onward : joined ≡ false → further ≡ next + 1

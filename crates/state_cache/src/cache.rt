@@ -1,18 +1,21 @@
-ghost use Rattle.std.specs.Prelude.{◌≡◌, ◌+◌, ◌-◌, ◌^◌, ◌<◌, ◌≤◌, ◌&&◌, ℕ, [], cond, length, nat_eq, not, IfErr, IfOk, IfSome, IsSome, None, OnErr, OnOk, Result, Some, false, is_ok, is_some, min, option_copied, option_map, true};
+ghost use Rattle.std.specs.Prelude.{◌≡◌, ◌+◌, ◌-◌, ◌^◌, ◌<◌, ◌≤◌, ◌&&◌, ◌⊎◌, ℕ, [], cond, length, nat_eq, not, IfErr, IfOk, IfSome, IsSome, None, OnErr, OnOk, Result, Some, false, is_ok, is_some, min, option_copied, option_map, true};
 ghost use Rattle.std.specs.Map.{lookup};
 ghost use Rattle.frame_header.specs.declared.cause.Cause.{Cause};
 ghost use Rattle.packet_edits.specs.Nearest.{IsLast};
 ghost use Rattle.pixel_planes.specs.Pictures.{PictureSamples};
 ghost use Rattle.reference_frames.specs.Steps.{StepAnswers};
 ghost use Rattle.reference_frames.specs.States.{StateValue};
+ghost use Rattle.state_cache.specs.Bytes.{IsWithinBytes, bytes_in, cached_bytes, outcome_bytes};
 ghost use Rattle.state_cache.specs.Costs.{Costs, most_steps};
 ghost use Rattle.state_cache.specs.Evictions.{Evicts};
 ghost use Rattle.state_cache.specs.Faults.{is_share_fault};
 ghost use Rattle.state_cache.specs.Reaching.{Begins, IsNext, Converged, OthersDrop, OthersStay, Reaches, passed_marks, view_of};
-ghost use Rattle.state_cache.specs.ProofsOnly.{next_of, outcome_from, Advances, IsAfterCached, IsWithout, AnswersAt, CachedAnswers, IterationAnswers, Reports};
-ghost use Rattle.state_cache.specs.Walks.{IsPut, IsIteration, IsWalk, IsWalkStep, ConvergesWithSame, entries_with};
+ghost use Rattle.state_cache.specs.ProofsOnly.{next_of, outcome_from, Advances, IsAfterCached, IsCounted, IsNewest, IsShed, IsWithout, AnswersAt, CachedAnswers, IterationAnswers, Reports};
+ghost use Rattle.state_cache.specs.Walks.{HasRoomFor, IsPut, IsIteration, IsWalk, IsWalkStep, ConvergesWithSame};
 ghost use Rattle.state_cache.specs.Views.{Drops, IsCoherent, is_usable, cached_at, cached_in, key_at, marked_packets, same_key, with_cached, mark_at};
 
+use crate::bytes::{bytes_in, is_over, outcome_bytes};
+use crate::capacity::Capacity;
 use crate::counted_steps::{StepCount, decode_counted};
 use crate::outcomes::{Broken, Kept, PacketKey, ReachFault};
 use crate::savings::Savings;
@@ -29,7 +32,9 @@ use vp8_tables::Tables;
 #[derive(Drop)]
 pub struct Cache {
     alloc: Global,
-    capacity: usize,
+    capacity: Capacity,
+    // The bytes of the cached outcomes, counted only if the capacity has a limit in bytes.
+    bytes: u64,
     kept: IndexMap<PacketKey, Kept>,
     savings: Savings,
     steps: StepCount,
@@ -39,30 +44,32 @@ pub struct Cache {
 
 impl Model for Cache {
     ghost use Rattle.std.specs.Prelude.{◌<◌, ◌≤◌, length};
+    ghost use Rattle.state_cache.specs.ProofsOnly.{IsCounted};
     ghost use Rattle.state_cache.specs.Reaching.{CacheValue};
 
     ghost Value = { CacheValue };
 
     ghost view = { λ c. record { entries = c.kept.entries; capacity = c.capacity; decoded = c.steps } };
 
-    ghost invariant = { λ c. (length c.kept.entries ≤ c.capacity) × (0 < c.capacity) × (c.capacity < length c.savings.list) };
+    ghost invariant = { λ c. (length c.kept.entries ≤ c.capacity.states) × (0 < c.capacity.states) × (c.capacity.states < length c.savings.list) × IsCounted c.capacity.bytes c.bytes c.kept.entries };
 }
 
 impl Cache {
-    /// An empty cache of at most `capacity` outcomes, 1 to 4,096.
+    /// An empty cache of this capacity, of 1 to 4,096 outcomes.
     ///
     /// `NoMemory` if memory for its table was refused.
-    pub fn new(alloc: Global, capacity: u16) -> Result<Cache, NoMemory>
-        requires { (1 ≤ capacity) × (capacity ≤ 4096) }
+    pub fn new(alloc: Global, capacity: Capacity) -> Result<Cache, NoMemory>
+        requires { (1 ≤ capacity.states) × (capacity.states ≤ 4096) }
         ensures { IfOk result (λ cache. cache ≡ record { entries = []; capacity = capacity; decoded = 0 }) }
     {
-        let capacity = capacity as usize;
+        let states = capacity.states as usize;
         // One more, since an outcome is dropped only after another was inserted.
-        let kept = IndexMap::with_capacity(alloc, capacity + 1)?;
-        let savings = Savings::new(alloc, capacity + 1)?;
+        let kept = IndexMap::with_capacity(alloc, states + 1)?;
+        let savings = Savings::new(alloc, states + 1)?;
         Ok(Cache {
             alloc,
             capacity,
+            bytes: 0,
             kept,
             savings,
             steps: StepCount::new(),
@@ -79,10 +86,11 @@ impl Cache {
         self.steps.made()
     }
 
-    /// Does nothing. Its contract: there are at most `capacity` cached outcomes, and the number of
+    /// Does nothing. Its contract: the cached outcomes are within the capacity, and the number of
     /// steps is a `u64`.
     fn prove_few(&self)
-        ensures bounded { length self.now.entries ≤ self.now.capacity }
+        ensures bounded { length self.now.entries ≤ self.now.capacity.states }
+        ensures within { IsWithinBytes self.now.capacity.bytes self.now.entries }
         ensures most { self.now.decoded ≤ most_steps }
     {
         let _most = self.steps.made();
@@ -93,15 +101,16 @@ impl Cache {
     /// of the same source, one step at a time.
     ///
     /// Each packet after the greatest usable index, up to `place`, is stepped at most once, and
-    /// none if `place` is usable. If the new outcomes fit next to the cached ones of all sources,
-    /// exactly the indexes that are not settled are stepped, and nothing is dropped. Otherwise
-    /// outcomes of any source may be dropped. No outcome of another source changes.
+    /// none if `place` is usable. If the new outcomes fit next to the cached ones of all sources, and
+    /// the capacity has no limit in bytes, exactly the indexes that are not settled are stepped, and
+    /// nothing is dropped. Otherwise outcomes of any source may be dropped, but not the newest one.
+    /// No outcome of another source changes.
     ///
     /// `Refused` if the stream is broken there, with the index and the cause of the break;
     /// `NoMemory` if a step was refused memory first; `TooManyShares` if the outcome is cached, as at
     /// a usable index, but a part of it is shared as often as can be counted. In every case the
-    /// packets are unchanged, the cache stays valid and has no fewer outcomes. A refused step changes
-    /// only the number of steps.
+    /// packets are unchanged, the cache stays valid, and without a limit in bytes it has no fewer
+    /// outcomes. A refused step changes only the number of steps.
     pub fn reach(
         &mut self,
         tables: &Tables,
@@ -124,7 +133,10 @@ impl Cache {
         while next <= place {
             match self.advance(tables, source, store, place, next) {
                 Ok(further) => next = further,
-                Err(fault) => return Err(fault),
+                Err(fault) => {
+                    self.prove_few();
+                    return Err(fault);
+                }
             }
         }
         self.answer(source, store, place)
@@ -134,7 +146,8 @@ impl Cache {
     fn answer(&mut self, source: usize, store: &Store, place: usize) -> Result<Kept, ReachFault>
         requires { place < length store.now.list.entries }
         ensures kept { CachedAnswers (marked_packets store.now) (view_of source self.old) place result }
-        ensures bounded { length self.old.entries ≤ self.old.capacity }
+        ensures bounded { length self.old.entries ≤ self.old.capacity.states }
+        ensures within { IsWithinBytes self.old.capacity.bytes self.old.entries }
         ensures same { self.new ≡ self.old }
     {
         self.prove_few();
@@ -169,7 +182,6 @@ impl Cache {
         ensures refused { OnErr result ((store.new ≡ store.old) × (self.new.entries ≡ self.old.entries)) }
         ensures counted { self.new.decoded ≡ min (self.old.decoded + 1) most_steps }
         ensures capacity { self.new.capacity ≡ self.old.capacity }
-        ensures bounded { length self.new.entries ≤ self.new.capacity }
         ensures advances { IfOk result (λ further. Advances tables.now source store.old self.old place next store.new self.new further) }
         ensures walks { IfOk result (λ further. IsWalkStep tables.now source store.old self.old place next store.new self.new further) }
     {
@@ -205,8 +217,7 @@ impl Cache {
         ensures refused { OnErr result ((store.new ≡ store.old) × (self.new.entries ≡ self.old.entries)) }
         ensures counted { self.new.decoded ≡ min (self.old.decoded + 1) most_steps }
         ensures capacity { self.new.capacity ≡ self.old.capacity }
-        ensures bounded { length self.new.entries ≤ self.new.capacity }
-        ensures number { length self.old.entries ≤ length self.new.entries }
+        ensures number { self.old.capacity.bytes ≡ None → length self.old.entries ≤ length self.new.entries }
         ensures iterated { IfOk result (λ joined. IsIteration source store.old self.old place joined store.new self.new) }
     {
         store.prove_few();
@@ -259,27 +270,43 @@ impl Cache {
     }
 
     /// Caches an outcome, stepped from the one at the index `from`, if there is one; if the cache is
-    /// full, it then drops the victim. Returns whether an outcome with the same state was cached for
-    /// this key. If memory is refused, no outcome changes.
+    /// full, it then drops the victim, and if it is over its limit in bytes, one victim after the other,
+    /// but not the new outcome. Returns whether an outcome with the same state was cached for this key.
+    /// If memory is refused, no outcome changes.
     fn keep(&mut self, key: PacketKey, new: Kept, from: Option<usize>) -> Result<bool, NoMemory>
         ensures drops { OnOk result ((q : ℕ) → Drops (view_of key.source self.new q) (with_cached (view_of key.source self.old) key.id new q)) }
         ensures others { OnOk result (OthersDrop key.source self.old self.new) }
         ensures kept { OnOk result (view_of key.source self.new key.id ≡ Some new) }
         ensures converged { IfOk result (λ converged. Converged converged (view_of key.source self.old key.id) new) }
         ensures converges_with_same { IfOk result (λ converged. ConvergesWithSame converged (view_of key.source self.old key.id) new) }
-        ensures room { OnOk result (entries_with key.source self.old key.id ≤ self.old.capacity → IsPut key.source self.old key.id new self.new) }
-        ensures number { length self.old.entries ≤ length self.new.entries }
-        ensures bounded { length self.new.entries ≤ self.new.capacity }
+        ensures room { OnOk result (HasRoomFor key.source self.old key.id new → IsPut key.source self.old key.id new self.new) }
+        ensures number { self.old.capacity.bytes ≡ None → length self.old.entries ≤ length self.new.entries }
         ensures same { OnErr result (self.new ≡ self.old) }
         ensures rest { (self.new.capacity ≡ self.old.capacity) × (self.new.decoded ≡ self.old.decoded) }
     {
         let has_converged = self.converges(key, &new);
         self.savings.touch_any(from);
-        let victim = victim_of(&self.savings, &self.kept, self.capacity, key);
+        let states = self.capacity.states as usize;
+        let victim = victim_of(&self.savings, &self.kept, states, key);
+        let bytes = outcome_bytes(&new);
         match self.kept.insert_full(key, new) {
             Ok((index, replaced)) => {
                 self.savings.cached(index, from);
                 let evicted = evict(&mut self.savings, &mut self.kept, victim);
+                let others = self
+                    .bytes
+                    .saturating_sub(bytes_in(&replaced))
+                    .saturating_sub(bytes_in(&evicted));
+                let limit = self.capacity.bytes;
+                let newest = Newest { key, bytes };
+                self.bytes = shed(
+                    &mut self.savings,
+                    &mut self.kept,
+                    &mut self.recycled,
+                    newest,
+                    others,
+                    limit,
+                );
                 drop_into(replaced, &mut self.recycled);
                 drop_into(evicted, &mut self.recycled);
                 Ok(has_converged)
@@ -304,10 +331,12 @@ impl Cache {
         ensures dropped { view_of source self.new id ≡ None }
         ensures others { (q : ℕ) → (q ≡ id → ⊥) → view_of source self.new q ≡ view_of source self.old q }
         ensures other_sources { OthersStay source self.old self.new }
-        ensures bounded { length self.new.entries ≤ self.new.capacity }
+        ensures bounded { length self.new.entries ≤ self.new.capacity.states }
+        ensures within { IsWithinBytes self.new.capacity.bytes self.new.entries }
         ensures rest { (self.new.capacity ≡ self.old.capacity) × (self.new.decoded ≡ self.old.decoded) }
     {
         let dropped = remove(&mut self.savings, &mut self.kept, PacketKey { source, id });
+        self.bytes = self.bytes.saturating_sub(bytes_in(&dropped));
         drop_into(dropped, &mut self.recycled);
     }
 
@@ -379,12 +408,90 @@ fn evict(
 ) -> Option<Kept>
     requires { IfSome victim (λ index. index < length kept.old.entries) }
     ensures without { IsWithout victim kept.old.entries kept.new.entries }
+    ensures bytes { cached_bytes kept.new.entries + bytes_in result ≡ cached_bytes kept.old.entries }
     ensures savings { length savings.new.list ≡ length savings.old.list }
 {
     let victim = victim?;
     let (_, outcome) = kept.swap_remove_index(victim)?;
     savings.swap_remove(victim, kept.len());
     Some(outcome)
+}
+
+/// The newest outcome: its key, and the bytes of its pictures.
+#[derive(Clone, Copy)]
+struct Newest {
+    key: PacketKey,
+    bytes: u64,
+}
+
+/// Drops the victim among the outcomes other than the newest one, as long as they are over the limit
+/// and there is another one. `others` are the bytes of the others. Nothing is dropped without a limit.
+/// Returns the bytes of the outcomes that remain, or 0 without a limit.
+fn shed(
+    savings: &mut Savings,
+    kept: &mut IndexMap<PacketKey, Kept>,
+    recycled: &mut Recycled,
+    newest: Newest,
+    others: u64,
+    limit: Option<u64>,
+) -> u64
+    requires savings { length kept.old.entries ≤ length savings.old.list }
+    requires newest { IsNewest newest.key newest.bytes kept.old.entries }
+    requires counted { IfSome limit (λ limit. others + newest.bytes ≡ cached_bytes kept.old.entries) }
+    ensures shed { IsShed newest.key kept.old.entries kept.new.entries }
+    ensures counted { IsCounted limit result kept.new.entries }
+    ensures fits { ((bytes : ℕ) → limit ≡ Some bytes → cached_bytes kept.old.entries ≤ bytes) → kept.new.entries ≡ kept.old.entries }
+    ensures savings { length savings.new.list ≡ length savings.old.list }
+{
+    match limit {
+        Some(limit) => shed_to(savings, kept, recycled, newest, others, limit),
+        None => 0,
+    }
+}
+
+/// The same with a limit.
+fn shed_to(
+    savings: &mut Savings,
+    kept: &mut IndexMap<PacketKey, Kept>,
+    recycled: &mut Recycled,
+    newest: Newest,
+    others: u64,
+    limit: u64,
+) -> u64
+    requires savings { length kept.old.entries ≤ length savings.old.list }
+    requires newest { IsNewest newest.key newest.bytes kept.old.entries }
+    requires counted { others + newest.bytes ≡ cached_bytes kept.old.entries }
+    ensures shed { IsShed newest.key kept.old.entries kept.new.entries }
+    ensures counted { result ≡ cached_bytes kept.new.entries }
+    ensures within { (result ≤ limit) ⊎ (length kept.new.entries ≤ 1) }
+    ensures fits { cached_bytes kept.old.entries ≤ limit → kept.new.entries ≡ kept.old.entries }
+    ensures savings { length savings.new.list ≡ length savings.old.list }
+{
+    let mut others = others;
+    while kept.len() > 1 && is_over(newest.bytes, others, limit) {
+        let dropped = drop_other(savings, kept, newest.key);
+        others -= bytes_in(&dropped);
+        drop_into(dropped, recycled);
+    }
+    others + newest.bytes
+}
+
+/// Removes the victim among the outcomes other than the one cached for a key, and returns it.
+fn drop_other(
+    savings: &mut Savings,
+    kept: &mut IndexMap<PacketKey, Kept>,
+    key: PacketKey,
+) -> Option<Kept>
+    requires savings { length kept.old.entries ≤ length savings.old.list }
+    requires some { IsSome (lookup (same_key key) kept.old.entries) }
+    ensures shed { IsShed key kept.old.entries kept.new.entries }
+    ensures bytes { cached_bytes kept.new.entries + bytes_in result ≡ cached_bytes kept.old.entries }
+    ensures fewer { 1 < length kept.old.entries → length kept.new.entries + 1 ≡ length kept.old.entries }
+    ensures savings { length savings.new.list ≡ length savings.old.list }
+{
+    let newest = kept.get_index_of(&key)?;
+    let victim = savings.least_other(kept.len(), newest);
+    evict(savings, kept, victim)
 }
 
 /// Removes the outcome cached for a key, if there is one, and returns it.
@@ -395,11 +502,11 @@ fn remove(
 ) -> Option<Kept>
     ensures without { (other : PacketKey) → lookup (same_key other) kept.new.entries ≡ cond (same_key key other) None (lookup (same_key other) kept.old.entries) }
     ensures fewer { length kept.new.entries ≤ length kept.old.entries }
+    ensures bytes { cached_bytes kept.new.entries + bytes_in result ≡ cached_bytes kept.old.entries }
     ensures savings { length savings.new.list ≡ length savings.old.list }
 {
-    let (index, _, outcome) = kept.swap_remove_full(&key)?;
-    savings.swap_remove(index, kept.len());
-    Some(outcome)
+    let index = kept.get_index_of(&key);
+    evict(savings, kept, index)
 }
 
 /// Drops an outcome, if there is one. Planes that nothing else shares become the recycled ones.

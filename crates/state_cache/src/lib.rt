@@ -9,11 +9,14 @@
 //! from the start of the stream.
 #![tactic(auto)]
 
+mod bytes;
 mod cache;
+mod capacity;
 mod counted_steps;
 pub mod laws;
 mod outcomes;
 mod savings;
 
 pub use cache::Cache;
+pub use capacity::Capacity;
 pub use outcomes::{Broken, Kept, ReachFault};

@@ -1,7 +1,7 @@
 //! What each cached outcome saves: from this the one that a full cache drops is chosen.
 ghost use Rattle.std.specs.Prelude.{◌≡◌, ◌↔◌, ◌+◌, ◌-◌, ◌*◌, ◌^◌, ◌<◌, ◌≤◌, ℕ, IfOk, IfSome, IsSome, IsTrue, false, length, map, min, slice_get, slice_set, take};
-ghost use Rattle.state_cache.specs.Evictions.{IsVictim, age, last_use, saved};
-ghost use Rattle.state_cache.specs.ProofsOnly.{NoneIsLess, Searched};
+ghost use Rattle.state_cache.specs.Evictions.{IsOtherVictim, IsVictim, age, last_use, saved};
+ghost use Rattle.state_cache.specs.ProofsOnly.{IsLeastBetween, Lesser, NoneIsLess, Searched};
 
 use pixel_planes::NoMemory;
 use std::alloc::Global;
@@ -142,6 +142,51 @@ impl Savings {
             &self.used[..len],
             self.uses,
         )
+    }
+
+    /// The index of the outcome of least worth among the first `len` other than the one at `newest`,
+    /// the first among equals; none if there is no other.
+    pub fn least_other(&self, len: usize, newest: usize) -> Option<usize>
+        requires few { len ≤ length self.now.list }
+        requires within { newest < len }
+        ensures victim { IfSome result (IsOtherVictim self.now.list self.now.uses len newest) }
+        ensures some { 1 < len → IsSome result }
+    {
+        let before = self.least_between(0, newest);
+        let Some(after) = self.least_between(newest + 1, len) else {
+            return before;
+        };
+        let Some(before) = before else {
+            return Some(after);
+        };
+        Some(self.lesser(before, after))
+    }
+
+    /// The index of the outcome of least worth from `from` up to `to`, the first among equals; none if
+    /// there is none.
+    fn least_between(&self, from: usize, to: usize) -> Option<usize>
+        requires { (from ≤ to) × (to ≤ length self.now.list) }
+        ensures victim { IfSome result (IsLeastBetween self.now.list self.now.uses from to) }
+        ensures some { from < to → IsSome result }
+    {
+        let least = least_of(
+            &self.list[from..to],
+            &self.steps[from..to],
+            &self.used[from..to],
+            self.uses,
+        )?;
+        Some(from + least)
+    }
+
+    /// The one of two indexes whose outcome has less worth, the first among equals.
+    fn lesser(&self, first: usize, second: usize) -> usize
+        ensures { Lesser self.now.list self.now.uses first second result }
+    {
+        let is_second = self
+            .saving_at(second)
+            .worth(self.uses)
+            .is_less(self.saving_at(first).worth(self.uses));
+        if is_second { second } else { first }
     }
 
     /// Counts a use of the outcome at `index`.

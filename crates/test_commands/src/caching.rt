@@ -1,4 +1,4 @@
-// The number of cached states, by its number and by the bytes of pictures.
+// The cached states, by their number and by the bytes of their pictures.
 use crate::expected::{ONE, clear, expect, put, run_line};
 use frame_session::Session;
 use output_files::SavedFiles;
@@ -27,22 +27,22 @@ const BACK_AGAIN: &str = "ok 2\nserved 1\nserved 0\ndecoded 3\n";
 
 const BACK_CACHED: &str = "ok 2\nserved 1\nserved 0\ndecoded 2\n";
 
-/// A state for each picture that fits, and one if none does.
+/// A state counts as four pictures, and one is cached if none fits.
 #[test]
-fn caches_pictures_that_fit(rt: HostRuntime) {
+fn caches_states_that_fit(rt: HostRuntime) {
     put(&rt, "fitting.ivf", ONE);
     for line in [
         "vp8serve fitting.ivf --cache-bytes 1",
-        "vp8serve fitting.ivf --cache-bytes 33535",
-        "vp8serve fitting.ivf --cache-bytes=32K",
-        "vp8serve --live fitting.ivf --cache-bytes 33535",
+        "vp8serve fitting.ivf --cache-bytes 134143",
+        "vp8serve fitting.ivf --cache-bytes=130K",
+        "vp8serve --live fitting.ivf --cache-bytes 134143",
     ] {
         expect(&rt, line, BACK, BACK_AGAIN, "", 0);
     }
     for line in [
-        "vp8serve fitting.ivf --cache-bytes 33536",
-        "vp8serve fitting.ivf --cache-bytes=33K",
-        "vp8serve --live fitting.ivf --cache-bytes 33536",
+        "vp8serve fitting.ivf --cache-bytes 134144",
+        "vp8serve fitting.ivf --cache-bytes=131K",
+        "vp8serve --live fitting.ivf --cache-bytes 134144",
         "vp8serve --live fitting.ivf --cache-bytes=1G",
     ] {
         expect(&rt, line, BACK, BACK_CACHED, "", 0);
@@ -50,23 +50,24 @@ fn caches_pictures_that_fit(rt: HostRuntime) {
     clear(&rt, "fitting.ivf");
 }
 
-/// The first packet with a key tag and a size counts.
+/// Each state counts by the size of its own pictures: four of 16x16 and four of 32x32 are 155136 bytes.
 #[test]
-fn takes_the_first_size(rt: HostRuntime) {
+fn counts_each_size(rt: HostRuntime) {
     put(&rt, "sizes.ivf", SIZES);
-    let requests = "hold 2\nframe 2\nframe 1\nstats\n";
-    let again = "ok 4\nserved 2\nserved 1\ndecoded 3\n";
-    let cached = "ok 4\nserved 2\nserved 1\ndecoded 2\n";
+    let requests = "frame 1\nframe 2\nframe 1\nstats\n";
+    let again = "served 1\nrefused SizeDiffers\nserved 1\ndecoded 3\n";
+    let cached = "served 1\nrefused SizeDiffers\nserved 1\ndecoded 2\n";
     for line in [
-        "vp8serve sizes.ivf --cache-bytes 33535",
-        "vp8serve sizes.ivf --cache-bytes 33535 --live",
+        "vp8serve sizes.ivf --cache-bytes 134144",
+        "vp8serve sizes.ivf --cache-bytes 155135",
+        "vp8serve sizes.ivf --cache-bytes 155135 --live",
     ] {
         expect(&rt, line, requests, again, "", 0);
     }
     for line in [
-        "vp8serve sizes.ivf --cache-bytes 33536",
-        "vp8serve sizes.ivf --cache-bytes 33536 --live",
-        "vp8serve sizes.ivf --sources sizes.ivf --cache-bytes 33536",
+        "vp8serve sizes.ivf --cache-bytes 155136",
+        "vp8serve sizes.ivf --cache-bytes 155136 --live",
+        "vp8serve sizes.ivf --sources sizes.ivf --cache-bytes 155136",
     ] {
         expect(&rt, line, requests, cached, "", 0);
     }
@@ -92,27 +93,24 @@ fn ends_with<R: Abort + NamedFiles + SavedFiles + AllocGlobal>(
     Ok(replies.as_slice().ends_with(last.as_bytes()))
 }
 
-/// Without a key packet in IN the size of a picture is not known, and 32 states are cached. Frame 32 takes 33 steps: with 32 states packet 0
-/// is dropped from the cache, with 31 packet 2 too, with 33 none.
+/// 32 states are cached if nothing is said. Frame 32 takes 33 steps: with 32 states packet 0 is dropped from the cache, with 31 packet 2
+/// too, with 33 none.
 #[test]
-fn caches_32_states_without_a_size(rt: HostRuntime) -> Result<(), Fail> {
+fn caches_32_states(rt: HostRuntime) -> Result<(), Fail> {
     let with_32 = "ok 33\nserved 32\nserved 2\ndecoded 33\nserved 0\ndecoded 34\n";
-    for line in [
-        "vp8serve",
-        "vp8serve --cache 32",
-        "vp8serve --cache-bytes 1",
-        "vp8serve --cache-bytes 1G --live",
-    ] {
+    for line in ["vp8serve", "vp8serve --cache 32"] {
         assert!(rt; ends_with(&rt, line, with_32)?, "{line}");
     }
     let with_31 = "ok 33\nserved 32\nserved 2\ndecoded 34\nserved 0\ndecoded 35\n";
     assert!(rt; ends_with(&rt, "vp8serve --cache 31", with_31)?);
     let with_33 = "ok 33\nserved 32\nserved 2\ndecoded 33\nserved 0\ndecoded 33\n";
-    assert!(rt; ends_with(&rt, "vp8serve --cache 33", with_33)?);
+    for line in ["vp8serve --cache 33", "vp8serve --cache-bytes 1G --live"] {
+        assert!(rt; ends_with(&rt, line, with_33)?, "{line}");
+    }
     Ok(())
 }
 
-/// After as many steps as states are cached, `--explain` reports what a state takes.
+/// After as many steps as states are cached, `--explain` reports what a picture takes, but not with a number of bytes.
 #[test]
 fn reports_what_a_state_takes(rt: HostRuntime) {
     put(&rt, "taking.ivf", ONE);
@@ -120,19 +118,21 @@ fn reports_what_a_state_takes(rt: HostRuntime) {
     let requests = "hold 1\nframe 1\n";
     let two = "cache: 2 states of 16768 bytes each\n";
     for line in [
-        "vp8serve taking.ivf --explain --cache-bytes 33536",
-        "vp8serve taking.ivf --explain --cache-bytes 33536 --live",
         "vp8serve taking.ivf --explain --cache 2",
         "vp8serve taking.ivf --explain --cache 2 --live",
     ] {
         expect(&rt, line, requests, "ok 2\nserved 1\n", two, 0);
         expect(&rt, line, "hold 1\nframe 0\n", "ok 2\nserved 0\n", "", 0);
     }
-    let line = "vp8serve taking.ivf --cache-bytes 33536";
-    expect(&rt, line, requests, "ok 2\nserved 1\n", "", 0);
+    for line in [
+        "vp8serve taking.ivf --cache 2",
+        "vp8serve taking.ivf --explain --cache-bytes 134144",
+    ] {
+        expect(&rt, line, requests, "ok 2\nserved 1\n", "", 0);
+    }
     expect(
         &rt,
-        "vp8serve wide.ivf --explain --cache-bytes 494592",
+        "vp8serve wide.ivf --explain --cache 1",
         "frame 0\n",
         "served 0\n",
         "cache: 1 states of 494592 bytes each\n",

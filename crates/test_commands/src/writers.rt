@@ -1,6 +1,6 @@
 // Readers and writers that fail.
 use crate::expected::{Broken, ONE, OPENING, run_line};
-use frame_session::{LiveFault, Settings, Unobserved, run_live};
+use frame_session::{Capacity, LiveFault, Settings, Unobserved, run_live};
 use output_files::SavedFiles;
 use program_parts::NamedFiles;
 use serve_program::{Fault, run_to};
@@ -60,7 +60,7 @@ fn fault_of<R: Abort + Files + AllocGlobal, F: Write, P: Write>(
 ) -> Option<Fault<'static>> {
     let settings = Settings {
         tables: Tables::rfc(),
-        capacity: 1,
+        capacity: Capacity::of_states(1),
     };
     let nobody = &mut Unobserved {};
     run_to(
@@ -101,7 +101,7 @@ fn flushes_its_writers(rt: HostRuntime) -> Result<(), Fail> {
 fn stops_at_a_writer_that_fails(rt: HostRuntime) {
     let settings = Settings {
         tables: Tables::rfc(),
-        capacity: 1,
+        capacity: Capacity::of_states(1),
     };
     let mut requests = b"blank 0 16 16\nframe 0\ncount\n".as_slice();
     let mut replies = Vec::new(rt.alloc());
@@ -183,7 +183,7 @@ fn flushes_a_frame_before_its_reply(rt: HostRuntime) -> Result<(), Fail> {
     };
     let settings = Settings {
         tables: Tables::rfc(),
-        capacity: 1,
+        capacity: Capacity::of_states(1),
     };
     let run = run_live(
         rt.alloc(),

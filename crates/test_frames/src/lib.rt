@@ -16,6 +16,7 @@ mod filters;
 mod frames;
 #[cfg(test)]
 mod inter;
+mod limits;
 #[cfg(test)]
 mod modes;
 #[cfg(test)]

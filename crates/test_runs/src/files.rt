@@ -1,4 +1,4 @@
-use frame_session::{RunFault, Settings, Unobserved, run};
+use frame_session::{Capacity, RunFault, Settings, Unobserved, run};
 use std::alloc::{AllocError, Global};
 use std::io::{self, ErrorKind, Write};
 use std::process::Abort;
@@ -74,7 +74,7 @@ fn shared_bytes(rt: HostRuntime) -> Result<(), Fail> {
     let copied = run_over(rt.alloc(), file.as_slice(), requests);
     let settings = Settings {
         tables: Tables::flat(),
-        capacity: 8,
+        capacity: Capacity::of_states(8),
     };
     let mut frames = Vec::new(rt.alloc());
     let mut replies = Vec::new(rt.alloc());

@@ -9,6 +9,7 @@ use Rattle.stream_files.specs.declared.ivf.Head.{Head}
 use Rattle.stream_files.specs.declared.ivf.Ivf.{Ivf}
 use Rattle.stream_files.specs.declared.ivf.IvfFault.{IvfFault}
 use Rattle.frame_session.specs.Answers.{AreIvfs, Means, SourceRefuses}
+use Rattle.frame_session.specs.Cached.{of_states}
 use Rattle.wokureti_c.specs.declared.engine.Engine.{Engine}
 use Rattle.wokureti_c.specs.declared.frames.Fault.{Fault}
 use Rattle.wokureti_c.specs.declared.opening.OpenFault.{OpenFault}
@@ -47,7 +48,7 @@ pub record IsOpened (files : List (List ℕ)) (states : ℕ) (bytes : List ℕ) 
   pub tables : Tables
   pub are : AreTables bytes tables
   pub means : Means tables files [] None None None None engine.session.now
-  pub capacity : engine.session.cache.capacity ≡ states
+  pub capacity : engine.session.cache.capacity ≡ of_states states
   pub heads : engine.heads.items ≡ map head_of files
 
 -- why no session is opened: an argument that is not allowed, bytes that are no tables, the first file that is refused, or no memory

@@ -3,6 +3,7 @@ ghost use Rattle.std.specs.Prelude.{◌≡◌, ◌≤◌, IfErr, IfOk, IfSome, N
 ghost use Rattle.stream_files.specs.Ivf.{head_of};
 ghost use Rattle.vp8_tables.specs.Tables.{TableEntries, entries_of};
 ghost use Rattle.frame_session.specs.Answers.{Means, texts_of};
+ghost use Rattle.frame_session.specs.Cached.{of_states};
 ghost use Rattle.wokureti_c.specs.Openings.{AreTables, OpenRefuses, Reports, are_ends_from, files_in, head_in};
 
 use crate::frames::Fault;
@@ -126,7 +127,7 @@ pub fn open(
     tables: &[u8],
 ) -> Result<Opened, OpenFault>
     ensures opened { IfOk result (λ opened. (entries : TableEntries) × AreTables tables.now entries × Means entries (files_in bytes.now ends.now) [] None None None None opened.session.now) }
-    ensures capacity { IfOk result (λ opened. opened.session.cache.capacity ≡ states) }
+    ensures capacity { IfOk result (λ opened. opened.session.cache.capacity ≡ of_states states) }
     ensures heads { IfOk result (λ opened. opened.heads.items ≡ map head_of (files_in bytes.now ends.now)) }
     ensures refused { IfErr result (OpenRefuses bytes.now ends.now states tables.now) }
 {

@@ -11,6 +11,6 @@ returns-clause-refused g c =
     let r' = g.O.Write.contents c.run_requests-answered.new.replies in
     let run = run_files (g.R.NamedFiles.bytes_at c.args.rt.now) g.R.NamedFiles.Made.Write.contents (g.R.NamedFiles.is_made_at c.args.rt.now) (g.R.SavedFiles.is_saved_at c.args.rt.now) in
     let line = c.args.line.now in
-    let sources : map rc_slice_items c.as_slice-2.result.now ≡ map (λ bytes. bytes.items) c.args.files.sources.items = search rules in
+    let sources : map rc_slice_items c.as_slice.result.now ≡ map (λ bytes. bytes.items) c.args.files.sources.items = search rules in
     inl (subst (λ (s : List (List ℕ)). IsLiveRefused run line c.args.files.tables s i r r' c.in-Err.fault) sources
-    (subst (λ (t : TableEntries). IsLiveRefused run line t (map rc_slice_items c.as_slice-2.result.now) i r r' c.in-Err.fault) c.in_ok-settings.ensures.tables c.in-Err.ensures.refused))
+    (subst (λ (t : TableEntries). IsLiveRefused run line t (map rc_slice_items c.as_slice.result.now) i r r' c.in-Err.fault) c.settings_with-settings.ensures.tables c.in-Err.ensures.refused))

@@ -55,7 +55,7 @@ returns-in-Err-clause-costs c =
     let low : c.loop-next.next ≤ c.args.place = search (rules, arith) in
     walk_refused c.args.tables.now c.args.source c.args.store.now c.loop-next.store c.args.self.now c.loop-next.self c.args.place c.loop-next.next inv.so_far low inv.list c.advance.new.store c.advance.new.self
     (first_unsettled c.args.tables.now (marked_packets c.loop-next.store) (view_of c.args.source c.loop-next.self) c.args.place c.loop-next.next inv.next (omega (arith, within, long)))
-    c.advance.ensures.counted c.in-Err.ensures.refused.1 c.advance.ensures.capacity c.advance.ensures.bounded
+    c.advance.ensures.counted c.in-Err.ensures.refused.1 c.advance.ensures.capacity c.prove_few-in-Err.ensures.bounded c.prove_few-in-Err.ensures.within
 
 pub returns-clause-reaches : goal.returns-clause-reaches
 returns-clause-reaches c =
@@ -85,7 +85,7 @@ returns-clause-costs c =
     let inv = c.loop-next.invariant in
     let up : c.args.place < c.loop-next.next = search (rules, arith) in
     subst (λ (v : CacheValue). Costs c.args.tables.now c.args.source c.args.store.now c.args.self.now c.args.place (is_ok c.answer.result) c.loop-next.store v) (sym c.answer.ensures.same)
-    (walk_ends c.args.tables.now c.args.source c.args.store.now c.loop-next.store c.args.self.now c.loop-next.self c.args.place c.loop-next.next inv.so_far inv.next up c.answer.ensures.bounded (is_ok c.answer.result))
+    (walk_ends c.args.tables.now c.args.source c.args.store.now c.loop-next.store c.args.self.now c.loop-next.self c.args.place c.loop-next.next inv.so_far inv.next up c.answer.ensures.bounded c.answer.ensures.within (is_ok c.answer.result))
 
 pub returns-in-Err-clause-walks : goal.returns-in-Err-clause-walks
 returns-in-Err-clause-walks c =

@@ -8,7 +8,7 @@ use Rattle.frame_session.specs.Cached.{SessionValue, lists_of, store_of_file}
 use Rattle.frame_session.specs.Sessions.{head_of_first, list_of_file, spare_of}
 use Rattle.frame_session.proofs.Sound.{begun_session}
 use Rattle.frame_session.proofs.Stores.{begun_lists}
-use Rattle.frame_session.proofs.session.Session.new.Goals as goal
+use Rattle.frame_session.proofs.session.Session.within.Goals as goal
 
 pub invariant_of-result : goal.invariant_of-result
 invariant_of-result c = begun_session c.args.tables c.args.files.items c.in_ok-stores.stores.items c.in-Ok.cache c.in_ok-stores.ensures c.requires.sources (ap (λ (cache : CacheValue). cache.entries) c.in-Ok.ensures)
