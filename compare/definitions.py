@@ -4,8 +4,8 @@
 The contract of `run` speaks of `Means` (frame_session, Answers). The files that it stands on are those whose definitions it uses, by
 the `use` lines, down to the lowest crate. The first part of docs/definitions.md must name each of them and no other, and each file that
 it names anywhere must exist. Each word in backquotes of definitions.md, proofs.md and architecture.md must be one of the sources, and the
-numbers of files, lines, crates, wrong bodies, clips and streams must be those that are counted here. With --quiet it prints what is wrong only. The gate
-runs it.
+numbers of files, lines, crates, wrong bodies, clips and streams must be those that are counted here. No definition has more than ten lines
+besides one for each case, field or element. With --quiet it prints what is wrong only. The gate runs it.
 """
 
 import functools
@@ -101,6 +101,32 @@ def wrong_figures(facts):
                     yield f"{document}: {figure} {name}, and there are {facts[name]:,}"
 
 
+# A line that is one field of a record, one value that is read, or one element of a list.
+ITEM = re.compile(r"\s+(?:(?:pub )?[\w']+ (?::|=|←) .*|∷ .*)")
+MOST_LINES = 10
+
+
+def cases(text):
+    """The cases of the definitions of a file, each a list of its lines: a case begins with the line that is not indented."""
+    case = []
+    for line in text.splitlines():
+        if not line.lstrip().startswith(("--", "use ", "pub mod ")):
+            if case and not line[:1].isspace():
+                yield case
+                case = []
+            case += [line] if line.strip() else []
+    yield case
+
+
+def long_definitions():
+    """The cases that have too many lines, those of one item each not counted."""
+    for path in sorted(TOP.glob("crates/*/specs/*.antt")):
+        for case in cases(path.read_text(encoding="utf-8")):
+            count = sum(1 for line in case if not ITEM.fullmatch(line))
+            if count > MOST_LINES:
+                yield f"{path.relative_to(TOP)}: {count} lines from {case[0]:.60}"
+
+
 def main():
     headline, rest = (TOP / "docs/definitions.md").read_text().split("\n## The rest\n")
     listed = set(named(headline))
@@ -116,7 +142,7 @@ def main():
         print(f"{file.relative_to(TOP)} is named in the first part, but the headline does not stand on it")
     lines = [line for file in wanted for line in file.read_text().splitlines()]
     code = [line for line in lines if line.strip() and not line.startswith(("use ", "--"))]
-    others = [*unknown_names(), *wrong_figures(counted(len(lines), len(code), len(wanted)))]
+    others = [*unknown_names(), *long_definitions(), *wrong_figures(counted(len(lines), len(code), len(wanted)))]
     print(*others, sep="\n", end="\n" if others else "")
     if "--quiet" not in sys.argv:
         print(f"{len(wanted)} files, {len(lines)} lines, {len(code)} of them without comments, imports and empty ones")

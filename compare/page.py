@@ -14,6 +14,7 @@ import json
 import math
 import os
 import pathlib
+import resource
 import signal
 import struct
 import subprocess
@@ -77,10 +78,10 @@ def make_million(path, count=1 << 20):
 class Page:
     """A browser on the page of a stream."""
 
-    def __init__(self, browser, *words):
+    def __init__(self, browser, *words, **more):
         self.browser = browser
         command = [sys.executable, "-m", "wokureti", "open", *map(str, words), "--no-browser"]
-        env = dict(os.environ, PYTHONPATH=str(TOP / "clients/python"), PYTHONDONTWRITEBYTECODE="1")
+        env = dict(os.environ, PYTHONPATH=str(TOP / "clients/python"), PYTHONDONTWRITEBYTECODE="1", **more)
         self.process = subprocess.Popen(command, env=env, stdout=subprocess.PIPE, stderr=subprocess.PIPE, text=True)
         self.address = self.process.stdout.readline().strip()
 
@@ -117,6 +118,13 @@ class Page:
             return [canvas.width, canvas.height, btoa(text)];"""
         )
         return found[0], found[1], base64.b64decode(found[2])
+
+    def shows(self, wanted, text):
+        """The canvas gets these pixels: a picture of the stream before an edit may be there for a moment."""
+        limit = time.monotonic() + 10
+        while self.pixels()[2] != wanted and time.monotonic() < limit:
+            time.sleep(0.05)
+        expect(self.pixels()[2] == wanted, text)
 
     def quiet(self, what):
         """Nothing is wrong in the console. What it has of reading canvases back is about this comparison."""
@@ -185,10 +193,10 @@ def colours(browser, room):
 # What the functions of the modules return, for arguments whose results are known.
 FUNCTIONS = """
     const modules = {};
-    for (const name of ["steps", "player", "script", "window", "fragment", "colours", "timeline", "tiles", "findings", "keys", "interface", "loupe", "shots", "strip", "curves", "cutting"]) {
+    for (const name of ["steps", "player", "script", "window", "fragment", "colours", "timeline", "tiles", "findings", "keys", "interface", "loupe", "shots", "strip", "curves", "cutting", "times", "sound"]) {
       modules[name] = await import(new URL(`${name}.js`, document.baseURI));
     }
-    const { steps, player, script, window: part, fragment, colours, timeline, tiles, findings, keys, interface: server, loupe, shots, strip, curves, cutting } = modules;
+    const { steps, player, script, window: part, fragment, colours, timeline, tiles, findings, keys, interface: server, loupe, shots, strip, curves, cutting, times, sound } = modules;
     const anew = (script, frames = [100, 40]) => {
       const { shots: found, isAll } = shots.shotsOf(script, frames);
       return [shots.nodesFor(found, frames).join("; "), isAll];
@@ -243,6 +251,9 @@ FUNCTIONS = """
       strip.blocksOf([{ count: 30 }, { count: 10 }], 80).map(({ left, right }) => [left, right]), strip.handleAt([block], 121, 5), strip.handleAt([block], 199, 5), strip.handleAt([block], 150, 5), strip.handleAt([block], 121, 30),
       [strip.fadeAt(block, "fadeIn", 130), strip.fadeAt(block, "fadeIn", 0), strip.fadeAt(block, "fadeOut", 150), strip.fadeAt(block, "fadeOut", 0)],
       curves.spread(0, 10, 3), curves.spread(5, 8, 300), curves.psnrOf(frame, frame), curves.psnrOf(frame, { ...other, width: 1 }),
+      ["5", "-5", "+2", "−1", "1:02.5", "12.7", "0:03,3", "", " ", "x", "1:2:3:4", "-9", "1e3"].map((text) => times.frameOf(text, 7, 25)), times.frameOf("0.5", 0, 25, [0, 100, 400, 600]), times.timeText(90062.5 * 2, 2),
+      [sound.secondOf(50, 25), sound.secondOf(1, 25, [0, 120])], ["crop 0 3 0 4 4", "crop 0 2 1 4 4", "crop 0 2 0 5 7", "trim 0 3 3"].map(script.isOddCrop),
+      cutting.followed("-", 1).join("; "), cutting.followed("crop 0 0 0 2 2", 0).join("; "), after((found) => shots.followed(found, 1, [100, 40])), after((found) => shots.followed(found, 1, [100, 40]), "trim 0 0 5; source 1; splice 1 2"),
     ];"""
 RESULTS = [
     "abcghij", "abc---ghij", "abc---ghij", "abc...ghij",
@@ -271,6 +282,9 @@ RESULTS = [
     [[0, 60], [60, 80]], {"block": 0, "name": "fadeIn"}, {"block": 0, "name": "fadeOut"}, None, None,
     [15, 0, 25, 40],
     [0, 3, 6, 9], [5, 6, 7], 60, None,
+    [5, 2, 9, 6, 1562, 317, 82, None, None, None, None, 0, None], 2, "25:01:02.500",
+    [2, 0.12], [True, True, False, False],
+    "source 1; splice 0 1", "crop 0 0 0 2 2; splice 1 0", "source 1; splice 0 1", "trim 0 0 5; source 1; splice 1 2; splice 3 2",
 ]  # fmt: skip
 
 
@@ -684,6 +698,18 @@ def edit(page):
     browser.run("document.getElementById('timeline').focus()")
     browser.key("Control", "z")
     browser.wait("wokureti.model.frames === 250")
+    # A crop that begins at an odd column.
+    browser.run("document.getElementById('script-text').value = ''")
+    browser.type("#script-text", "trim 0 0 50\ncrop 1 3 0 17 15")
+    browser.key("Control", "Enter")
+    browser.wait("document.getElementById('script-error').textContent.endsWith('column and row of a crop are even')")
+    browser.run("document.getElementById('script-text').value = ''")
+    browser.type("#script-text", "crop 0 2 0 17 15")
+    browser.key("Control", "Enter")
+    browser.wait("wokureti.model.session.script === 'crop 0 2 0 17 15'")
+    browser.run("document.getElementById('timeline').focus()")
+    browser.key("Control", "z")
+    browser.wait("wokureti.model.session.script === '-'")
     # Files: bytes of a packet.
     browser.run("await wokureti.model.goPacket(7)")
     path = pathlib.Path(tempfile.gettempdir()) / f"page-{os.getpid()}.bin"
@@ -764,8 +790,55 @@ def go_to(browser, text, frame):
     browser.wait(f"wokureti.model.known({frame}) && wokureti.model.known({frame}).packet === wokureti.model.packet")
 
 
+def select_frames(browser, first, last):
+    """Selects frames by I and O, each given as what is typed and its number."""
+    for key, (text, frame) in (("i", first), ("o", last)):
+        go_to(browser, text, frame)
+        browser.key(key)
+
+
+def keep_and_export(page, room, samples, shot):
+    """Frames 83 to 131 are cut in and out, and exported."""
+    browser = page.browser
+    browser.key("Escape")
+    select_frames(browser, ("0:03.32", 83), ("131", 131))
+    browser.key("e")
+    browser.wait("wokureti.model.frames === 49 && wokureti.model.session.script === 'trim 0 83 49' && wokureti.model.selection === null")
+    browser.run("window.clicked = null; document.addEventListener('click', ({ target }) => (clicked = target.download || clicked), true)")
+    tab_to(browser, "#export")
+    shot("kept")
+    browser.key("Enter")
+    browser.wait("document.getElementById('status').textContent.startsWith('exported keys-') && document.getElementById('status').textContent.includes('49 frames')", seconds=120)
+    path = room / "keys-export.ivf"
+    path.write_bytes(base64.b64decode(browser.run(EXPORTED)))
+    with Session(path) as session:
+        expect([frame.i420() for frame in session.frames()] == samples, "the exported frames are not those that were kept")
+    tab_to(browser, "#timeline")
+    browser.key("Control", "z")
+    browser.wait("wokureti.model.frames === 250")
+
+
+def join_by_keys(page, first, shot):
+    """Source 1 is joined after the stream."""
+    browser = page.browser
+    browser.key("r")
+    browser.wait("document.getElementById('ask').open && document.activeElement.matches('#ask select')")
+    browser.key("End")
+    browser.wait("document.activeElement.value === 'join 1'")
+    shot("join")
+    tab_to(browser, "#ask button[value=yes]")
+    browser.key("Enter")
+    browser.wait("wokureti.model.session.script === 'source 1; splice 0 1' && wokureti.model.frames === 500 && wokureti.model.frame === 250")
+    page.at(250)
+    page.shows(first, "the joined source does not begin with its first frame")
+    tab_to(browser, "#timeline")
+    browser.key("Control", "z")
+    browser.wait("wokureti.model.frames === 250")
+
+
 def by_keyboard(browser, room, clip, broken, place, size, looks):
-    """A day's tasks by keys alone: damage is found and repaired, frames are cut out, a shot is moved, a fade is made, all is saved and opened again."""
+    """A day's tasks by keys alone: damage is found and repaired, frames are cut out, others are kept and exported, a source is joined, a shot is moved, a fade is
+    made, all is saved and opened again."""
     stream = room / f"keys-{size[0]}.ivf"
     stream.write_bytes(broken.read_bytes())
     browser.set_size(*size)
@@ -793,17 +866,22 @@ def by_keyboard(browser, room, clip, broken, place, size, looks):
     browser.wait("wokureti.findings.check && wokureti.findings.check.over && wokureti.findings.check.damage === 0", seconds=60)
     # Frames 20 to 29 are cut out; a time is typed for the first of them.
     tab_to(browser, "#timeline")
-    go_to(browser, "0.8", 20)
-    browser.key("i")
-    go_to(browser, "29", 29)
-    browser.key("o")
-    browser.key("x")
-    browser.wait("wokureti.model.frames === 240")
     with Session(clip) as session:
-        pictures = {frame: session.frame(frame).rgb().tobytes() for frame in (19, 30, 50, 99, 0)}
+        pictures = {frame: session.frame(frame).rgb().tobytes() for frame in (0, 19, 30, 50, 99)}
+        samples = [frame.i420() for frame in session.frames(range(83, 132))]
+    select_frames(browser, ("0.8", 20), ("29", 29))
+    browser.key("x")
+    browser.wait("wokureti.model.frames === 240 && wokureti.model.selection === null")
     go_to(browser, "20", 20)
     page.at(20)
-    expect(page.pixels()[2] == pictures[30], "frame 30 does not follow frame 19 after a cut")
+    page.shows(pictures[30], "frame 30 does not follow frame 19 after a cut")
+    browser.key("Control", "z")
+    browser.wait("wokureti.model.frames === 250")
+    keep_and_export(page, room, samples, shot)
+    join_by_keys(page, pictures[0], shot)
+    select_frames(browser, ("20", 20), ("29", 29))
+    browser.key("x")
+    browser.wait("wokureti.model.frames === 240 && wokureti.model.selection === null")
     # The shot of the second key packet is moved to the beginning.
     browser.key("Home")
     browser.key("Down")
@@ -823,7 +901,7 @@ def by_keyboard(browser, room, clip, broken, place, size, looks):
     browser.wait("wokureti.model.selection && wokureti.model.selection.first === 0 && wokureti.model.selection.end === 50")
     browser.key("Home")
     page.at(0)
-    expect(page.pixels()[2] == pictures[50], "the shot is not at the beginning")
+    page.shows(pictures[50], "the shot is not at the beginning")
     shot("moved")
     # A fade over the first second.
     browser.key("Escape")
@@ -835,16 +913,17 @@ def by_keyboard(browser, room, clip, broken, place, size, looks):
     shot("fade")
     tab_to(browser, "#ask button[value=yes]")
     browser.key("Enter")
-    browser.wait("wokureti.model.session.script.includes('fade')")
+    browser.wait("wokureti.model.session.script.includes('fade') && wokureti.model.selection === null")
     go_to(browser, "0", 0)
     page.at(0)
-    expect(set(page.pixels()[2]) <= {0, 1}, "the first frame of the fade is not black")
+    page.shows(bytes(len(pictures[0])), "the first frame of the fade is not black")
     edits = page.members("session")
     browser.key("Control", "s")
     browser.wait("document.getElementById('ask').open")
     tab_to(browser, "#ask button[value=yes]")
     browser.key("Enter")
     browser.wait("document.getElementById('saved').textContent.includes('without the script')")
+    browser.wait("document.getElementById('status').textContent.endsWith('-edited.ivf; times were numbered anew')")
     shot("saved")
     saved = room / f"keys-{size[0]}-edited.ivf"
     packets = [data for _, data in ivf.read_packets(clip)[1]]
@@ -855,7 +934,8 @@ def by_keyboard(browser, room, clip, broken, place, size, looks):
     page = Page(browser, stream, "--source", clip)
     page.open()
     after = page.members("session")
-    expect((after["edits"], after["steps"], after["saved"]) == (edits["edits"], edits["steps"], False), "the edits are not those of the run before")
+    ends = [[one != other for one, other in zip(found["steps"], found["steps"][1:])] for found in (edits, after)]
+    expect((after["edits"], ends[1], after["saved"]) == (edits["edits"], ends[0], False), "the edits are not those of the run before")
     tab_to(browser, "#timeline")
     browser.key("Control", "z")
     browser.wait("!wokureti.model.session.script.includes('fade')")
@@ -865,7 +945,7 @@ def by_keyboard(browser, room, clip, broken, place, size, looks):
     page.quiet(f"keys, {size[0]}x{size[1]}, opened again")
     page.end()
     browser.set_size(1440, 900)
-    say(f"keys alone, {size[0]}x{size[1]}: found, repaired, cut out, moved, faded, saved, opened again")
+    say(f"keys alone, {size[0]}x{size[1]}: found, repaired, cut out, cut in and out and exported, joined, moved, faded, saved, opened again")
 
 
 def add_and_crop(browser, room, clip, other):
@@ -1049,23 +1129,174 @@ def shots_and_fades(browser, room, clip, other):
     say("shots: moved and cut out by keys, fades dragged on the strip, frames as vp8serve serves them; the PSNR of 250 frames as a curve")
 
 
+# The bytes of the export.
+EXPORTED = """
+    const { exported } = await import(new URL("interface.js", document.baseURI));
+    const bytes = new Uint8Array(await (await exported()).file.arrayBuffer());
+    let text = "";
+    for (const byte of bytes) text += String.fromCharCode(byte);
+    return btoa(text);"""
+
+
 def export_shots(browser, room, clip, script):
     """Export gives a file with the frames of a script."""
     browser.click("#export")
     browser.wait("document.getElementById('status').textContent.startsWith('exported shots-export.ivf: 0:00:04.000, 100 frames, in ')", seconds=300)
-    text = browser.run("""
-        const { exported } = await import(new URL("interface.js", document.baseURI));
-        const bytes = new Uint8Array(await (await exported()).file.arrayBuffer());
-        let text = "";
-        for (const byte of bytes) text += String.fromCharCode(byte);
-        return btoa(text);""")
     path = room / "export.ivf"
-    path.write_bytes(base64.b64decode(text))
+    path.write_bytes(base64.b64decode(browser.run(EXPORTED)))
     with Session(clip) as before, Session(path) as after:
         before.script(*script.split("; "))
         same = [one.i420() == other.i420() for one, other in zip(before.frames(), after.frames())]
     expect(same == [True] * 100, f"{same.count(True)} of {len(same)} frames of the export are those of the script")
     say("export: 100 frames of four shots as packets, byte for byte")
+
+
+# What is not there or cannot be pressed: everything that a person needs, scrolled to.
+MISSING = """
+    const found = [];
+    for (const css of args[0]) {
+      for (const one of document.querySelectorAll(css)) {
+        one.scrollIntoView({ block: "nearest", inline: "nearest" });
+        const box = one.getBoundingClientRect();
+        const [x, y] = [box.left + box.width / 2, box.top + box.height / 2];
+        const hit = document.elementFromPoint(x, y);
+        const isWhole = box.width > 0 && box.height > 0 && box.left >= -1 && box.right <= innerWidth + 1 && box.top >= -1 && box.bottom <= innerHeight + 1;
+        if (!isWhole || !hit || !(one.contains(hit) || hit.contains(one))) found.push(`${one.id || one.textContent.trim()}: ${[box.left, box.top, box.right, box.bottom].map(Math.round)}, ${hit && (hit.id || hit.tagName)}`);
+      }
+    }
+    scrollTo(0, 0);
+    return found;"""
+NEEDED = ["header button:not([hidden])", "header a:not([hidden])", "[role=tab]", "#viewer .tools button:not([hidden])", "#overlay", "#png", "#frame", "#lower .tools button:not([hidden], #thumbs-switch)", "#curve", "#source", "#timeline"]
+
+
+def small_windows(browser, room, clip, looks):
+    """In small windows nothing is lost or pushed out, also with a long name of a source."""
+    link = room / f"{'a long name of a stream ' * 6}.ivf"
+    link.symlink_to(clip)
+    page = Page(browser, link, "--source", link)
+    for width, height in ((390, 844), (844, 390), (1000, 700), (1440, 900)):
+        browser.set_size(width, height)
+        page.open()
+        page.at(0)
+        browser.run("await wokureti.editing.make(['script trim 0 5 100'], '')")
+        browser.wait("!document.getElementById('strip').hidden && !document.getElementById('export').hidden")
+        # What is seen at once.
+        seen = browser.run("""return ["#save", "#undo", "#now-canvas", "#play", "#timeline"].filter((css) => {
+            const box = document.querySelector(css).getBoundingClientRect();
+            return !(box.left >= -1 && box.right <= innerWidth + 1 && box.top >= -1 && box.top + Math.min(box.height, 60) <= innerHeight + 1 && box.width >= 20 && box.height >= 20);
+        });""")
+        expect(not seen, f"{width}x{height}: not seen at first: {seen}")
+        missing = browser.run(MISSING, NEEDED)
+        expect(not missing, f"{width}x{height}: cannot be reached: {missing}")
+        across = browser.run("return document.documentElement.scrollWidth - innerWidth")
+        expect(across <= 0, f"{width}x{height}: the page is {across} pixels too wide")
+        if looks is not None:
+            (looks / f"{width}x{height}-long-name.png").write_bytes(browser.screenshot())
+        browser.run("await wokureti.editing.undo()")
+    page.quiet("small windows")
+    page.end()
+    browser.set_size(1440, 900)
+    say("small windows: 390x844, 844x390, 1000x700: every control is there, with a name of 144 letters")
+
+
+def typed(page):
+    """What may be typed for a frame: numbers, steps, times; what means none is said."""
+    browser = page.browser
+    browser.run("await wokureti.model.go(100); document.getElementById('timeline').focus()")
+    for text, frame in (("0:04.2", 105), ("-5", 100), ("+3", 103), ("4,0", 100), ("2.5", 62), ("12.7", 249), ("-999", 0), ("7", 7)):
+        go_to(browser, text, frame)
+    for text in ("", "x", "1:2:3:4", "--5"):
+        browser.key("g")
+        browser.wait("document.activeElement.id === 'frame'")
+        browser.run("document.getElementById('frame').value = ''")
+        for letter in text or "0":
+            browser.key(letter)
+        if not text:
+            browser.run("document.getElementById('frame').value = ''; document.getElementById('frame').dispatchEvent(new Event('change'))")
+        browser.key("Enter")
+        browser.wait("document.getElementById('status').textContent.startsWith('a frame is a number')")
+        expect(browser.run("return [wokureti.model.frame, document.getElementById('frame').value]") == [7, "7"], f"{text!r} goes to a frame")
+        browser.run("document.getElementById('status').textContent = ''")
+    say("the number of a frame: numbers, steps and times; what means none is said")
+
+
+def groups(browser, room, clip):
+    """Damage that follows from one packet is one group, of which the first is open and the others are not."""
+    head, packets = ivf.read_packets(clip)
+    for place in (60, 160):
+        packets[place] = (packets[place][0], packets[place + 20][1])
+    path = room / "groups.ivf"
+    with open(path, "wb") as file:
+        file.writelines(ivf.pieces(head, len(packets), packets))
+    page = Page(browser, path)
+    page.open()
+    browser.wait("wokureti.findings.check && wokureti.findings.check.over", seconds=60)
+    damage = browser.run("return wokureti.findings.check.damage")
+    found = browser.run("return [...document.querySelectorAll('#findings-list li')].map((one) => [one.className, one.querySelector('button').getAttribute('aria-expanded'), one.textContent])")
+    more = [(one, text) for name, one, text in found if name == "more"]
+    expect(damage > 15 and len(more) == 2, f"{damage} lines of damage are {len(more)} groups")
+    expect([one for one, _ in more] == ["true", "false"], f"the groups are {more}")
+    expect(all("up to the next key frame" in text for _, text in more), f"the groups are {more}")
+    say(f"findings: {damage} lines of damage are 2 groups")
+    page.end()
+
+
+def not_written(browser, room, clip):
+    """An edit that is not on the disk is marked, and written with the next."""
+    page = Page(browser, clip, "--edits", room / "list-of-full")
+    page.open()
+    browser.key("Delete")
+    browser.wait("wokureti.model.packets === 249")
+    size = (room / "list-of-full").stat().st_size
+    resource.prlimit(page.process.pid, resource.RLIMIT_FSIZE, (size + 3, resource.RLIM_INFINITY))
+    browser.key("Delete")
+    browser.wait("wokureti.model.packets === 248 && document.querySelector('.notice.bad')")
+    text = browser.run("return document.querySelector('.notice.bad').textContent")
+    expect("list-of-full: File too large: the last edit is made but not on the disk" in text, f"a full disk: {text}")
+    browser.click("#tab-edits")
+    marks = browser.run("return [...document.querySelectorAll('#edits-list li')].map((one) => one.classList.contains('is-unwritten'))")
+    expect(marks == [False, True], f"the marks of the edits are {marks}")
+    expect("not on the disk yet" in browser.run("return document.getElementById('edits-text').textContent"), "it is not said that an edit is not on the disk")
+    resource.prlimit(page.process.pid, resource.RLIMIT_FSIZE, (resource.RLIM_INFINITY, resource.RLIM_INFINITY))
+    browser.run("document.getElementById('timeline').focus()")
+    browser.key("Delete")
+    browser.wait("wokureti.model.packets === 247 && !document.querySelector('#edits-list .is-unwritten')")
+    expect((room / "list-of-full").read_text().count("\ndelete 0") == 3, "the edits are not in the list")
+    browser.errors()
+    page.end()
+    say("a full disk: the edit is marked, and written with the next")
+
+
+def sound(browser, room, clip):
+    """Sound is played with the frames, from where they are, and stops with them."""
+    path = room / "talk.webm"
+    words = ["ffmpeg", "-nostdin", "-v", "error", "-i", str(clip), "-f", "lavfi", "-i", "aevalsrc=0.3*sin(440*t*(1+t)):s=48000:d=10", "-map", "0:v", "-map", "1:a", "-c:v", "copy", "-c:a", "libopus", "-shortest", str(path)]
+    subprocess.run(words, check=True)
+    page = Page(browser, path)
+    page.open()
+    away = "const { audio } = wokureti.sound; return [audio.paused, audio.currentTime - wokureti.model.frame / wokureti.model.rate, audio.duration, audio.error && audio.error.message]"
+    expect(not browser.run("return document.getElementById('sound').hidden"), "there is no switch for the sound")
+    for script, start, length in ((None, 100, 10), ("script trim 0 50 100", 20, 4)):
+        if script:
+            browser.run("await wokureti.editing.make(args[0], '')", [script])
+        browser.run("await wokureti.model.go(args[0]); document.getElementById('timeline').focus()", start)
+        browser.key(" ")
+        browser.wait(f"wokureti.model.frame > {start + 25}")
+        is_paused, apart, duration, error = browser.run(away)
+        expect(not is_paused and not error and abs(apart) < 0.25 and abs(duration - length) < 0.1, f"the sound is {apart} s away, {duration} s long, paused: {is_paused}, {error}")
+        browser.key("k")
+        browser.wait("wokureti.sound.audio.paused")
+    # Without sound, faster, and backward it is silent.
+    for keys in (["u", "l"], ["u", "l", "l"], ["j"]):
+        browser.run("await wokureti.model.go(50)")
+        for key in keys:
+            browser.key(key)
+        browser.wait("wokureti.player.isPlaying && wokureti.model.frame !== 50")
+        expect(browser.run("return wokureti.sound.audio.paused || wokureti.player.speed === 1 && wokureti.sound.isOn"), f"after {keys} there is sound")
+        browser.key("k")
+    page.quiet("sound")
+    page.end()
+    say("sound: played with the frames, of a script too; silent where it is switched off, faster and backward")
 
 
 def door(browser, room, clip):
@@ -1093,9 +1324,12 @@ def door(browser, room, clip):
     say("the browser is started with a file that leads to the page")
 
 
-def kill(page):
+def kill(browser, room, clip):
     """vp8serve is killed: the page says so, and goes on."""
-    browser = page.browser
+    page = Page(browser, clip, "--edits", room / "list-of-kill", WOKURETI_ENGINE="program")
+    page.open()
+    browser.key("Delete")
+    browser.wait("wokureti.model.packets === 249")
     children = subprocess.run(["pgrep", "-P", str(page.process.pid)], capture_output=True, text=True, check=False).stdout.split()
     session = page.members("session")
     browser.errors()
@@ -1110,6 +1344,7 @@ def kill(page):
     after = page.members("session")
     expect(after["edits"] == session["edits"] and after["restarts"] == session["restarts"] + 1, "edits are gone after vp8serve was killed")
     page.quiet("after vp8serve was killed")
+    page.end()
     say("killed: said, started again, all edits there")
 
 
@@ -1196,12 +1431,20 @@ def reachable(page):
           if (ratio < 4.5) low.push(`${one.id || one.className || one.tagName} ${one.textContent.trim().slice(0, 20)} ${ratio.toFixed(2)}`);
         }
         return low;"""
+    bars = """
+        const { KINDS } = await import(new URL("kinds.js", document.baseURI));
+        const parts = (text) => { const one = document.createElement("i"); one.style.color = text; document.body.append(one); const found = getComputedStyle(one).color.match(/[\\d.]+/g).map(Number); one.remove(); return found; };
+        const light = ([r, g, b]) => { const one = (v) => { v /= 255; return v <= 0.04045 ? v / 12.92 : ((v + 0.055) / 1.055) ** 2.4; }; return 0.2126 * one(r) + 0.7152 * one(g) + 0.0722 * one(b); };
+        const back = light(parts("var(--panel)"));
+        return KINDS.filter(({ colour }) => { const a = light(parts(`var(${colour})`)); return (Math.max(a, back) + 0.05) / (Math.min(a, back) + 0.05) < 3; }).map(({ name }) => name);"""
     for is_dark in (True, False):
         browser.set_theme(is_dark)
+        low = browser.run(bars)
+        expect(not low, f"contrast of bars below 3, {'dark' if is_dark else 'light'}: {low}")
         low = browser.run(contrast)
         expect(not low, f"contrast below 4.5, {'dark' if is_dark else 'light'}: {low}")
     browser.set_theme(True)
-    say(f"reachable: {named} elements with names, all by the Tab key, contrast 4.5 and more, dark and light")
+    say(f"reachable: {named} elements with names, all by the Tab key, contrast 4.5 and more, of bars 3, dark and light")
 
 
 def shots(browser, folder, clip, broken):
@@ -1288,10 +1531,15 @@ def main():
         page.quiet("overlays")
         save_and_reload(page, room / "saved.ivf", clip)
         along(page, clip)
+        typed(page)
         two_tabs(page)
-        kill(page)
         reachable(page)
         said = page.end()
+        kill(browser, room, clip)
+        groups(browser, room, clip)
+        not_written(browser, room, clip)
+        sound(browser, room, clip)
+        small_windows(browser, room, clip, looks)
         door(browser, room, clip)
         add_and_crop(browser, room, clip, other)
         asides(browser, room, clip, other)

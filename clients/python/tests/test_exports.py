@@ -11,7 +11,7 @@ import test_page
 from support import DATA, SMALL, Case, command, packets_of, serve, write_packets
 from test_containers import clip, frames, media, needs_ffmpeg, setUpModule, sound_packets  # noqa: F401
 from wokureti.page import opened
-from wokureti.tools import convert, exports, ivf, opus, programs
+from wokureti.tools import containers, convert, exports, ivf, opus, programs
 
 MS = 10**6
 SCENES = DATA / "scene-cuts.ivf"
@@ -228,6 +228,35 @@ class OnThePage(test_page.PageCase):
         self.assertFalse(self.members("/session")["varies"])
         self.step("script trim 0 2 30")
         self.assertEqual(self.members("/times")["times"], [stamp - stamps[2] for stamp in stamps[2:32]])
+
+    @needs_ffmpeg
+    def test_the_sound_of_playback_is_that_of_the_frames(self):
+        room = self.folder()
+        self.serve(convert.as_ivf(clip("talk.webm"), str(room), is_quiet=True), sources=[SMALL])
+        before, packets = media(clip("talk.webm"), room)
+        starts = [stamp for stamp, data in ivf.read_packets(packets)[1] if ivf.is_shown(data)]
+        ours = sound_packets(before.sounds[0])
+        self.assertTrue(self.members("/session")["sounds"])
+        for script, first, count in (("-", 0, 100), ("trim 0 33 40", 33, 40), ("trim 0 60 5; source 1; splice 1 2", 60, 5)):
+            self.step(f"script {script}")
+            status, headers, body = self.ask("/sound.webm?revision=9")
+            self.assertEqual((status, headers["Content-Type"], headers["Accept-Ranges"]), (200, "audio/webm", "bytes"))
+            (room / "sound.webm").write_bytes(body)
+            track = containers.read_sounds(room / "sound.webm", room / "sound.webm")[0]
+            theirs = sound_packets(track)
+            place = ours.index(theirs[0])
+            length = min(len(theirs), 2 * count - 1)
+            self.assertEqual(theirs[:length], ours[place : place + length], script)
+            self.assertLessEqual(abs(before.sounds[0].times[place] / MS + 6.5 - starts[first]), 11.5)
+            # As long as the frames, to a packet; SMALL has 12 frames and no sound.
+            self.assertLessEqual(abs(20 * len(theirs) - 40 * count - (12 * 1000 / 30 if "source" in script else 0)), 40)
+            for text, status, wanted in (("bytes=0-99", 206, body[:100]), ("bytes=1000-", 206, body[1000:]), ("bytes=-7", 206, body[-7:]), (f"bytes={len(body)}-", 416, None)):
+                found = self.ask("/sound.webm", headers={"Range": text})
+                self.assertEqual((found[0], found[2] if wanted is not None else None), (status, wanted), text)
+        # The file before is gone.
+        self.assertEqual([path.name for path in pathlib.Path(self.live.room.name).glob("sound*")], ["sound3.webm"])
+        self.serve(SMALL)
+        self.assertEqual((self.members("/session")["sounds"], self.ask("/sound.webm")[0]), (False, 404))
 
     def test_frames_of_a_rate_have_no_times(self):
         self.serve(SMALL)

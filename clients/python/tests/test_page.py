@@ -496,7 +496,7 @@ class Steps(PageCase):
 
     def test_bodies(self):
         self.serve()
-        for body in ({"lines": []}, {"lines": "delete 0"}, {"lines": [1]}, {"lines": ["undo"]}, {"lines": ["frame 0"]}, {"lines": ["delete 0\ndelete 0"]}, {"lines": ["delete 0"], "line": "delete 0"}, {"lines": ["delete 0"], "x": 1}, {"lines": ["delete 0"] * 20001}, {"lines": ["delete 0"], "revision": True}, {"lines": ["delete 0"], "revision": -1}, {}):
+        for body in ({"lines": []}, {"lines": "delete 0"}, {"lines": [1]}, {"lines": ["undo"]}, {"lines": ["frame 0"]}, {"lines": ["delete 0\ndelete 0"]}, {"lines": ["delete 0"], "line": "delete 0"}, {"lines": ["delete 0"], "x": 1}, {"lines": ["delete 0"], "revision": True}, {"lines": ["delete 0"], "revision": -1}, {}):
             self.assertEqual(self.post_to("/edits", **body)[0], 400, str(body)[:60])
         self.assertEqual(self.post_to("/edits", lines=["delete 0"], revision=9)[0], 412)
         self.assertEqual(self.members("/session")["revision"], 1)
@@ -534,6 +534,54 @@ class Steps(PageCase):
             thread.join(10 * SLOW)
             self.assertFalse(thread.is_alive())
         self.assertEqual(found[0][0], {"revision": 1, "doing": None, "restarts": 0})
+
+    def test_frames_do_not_wait_for_a_large_step(self):
+        self.serve(SCENES, edits=self.folder() / "list")
+        self.step("delete 3", "script trim 0 2 30")
+        self.change("hold 9")
+        before = {path: self.picture(path) for path in ("/frames/0.y4m", "/frames/5-8.y4m", "/frames/20.y4m")}
+        tag = self.ask("/frames/0.y4m")[1]["ETag"]
+        edits, begun, ended = self.live.session.edits, threading.Event(), threading.Event()
+        real = edits.run_step
+
+        def run_step(*given, **more):
+            begun.set()
+            ended.wait(20 * SLOW)
+            return real(*given, **more)
+
+        with mock.patch.object(edits, "run_step", run_step):
+            thread = threading.Thread(target=self.step, args=("delete 4", "delete 4"))
+            thread.start()
+            try:
+                self.assertTrue(begun.wait(10 * SLOW))
+                with self.within(8):
+                    for path, wanted in before.items():
+                        # The frames before the step, and they say so.
+                        self.assertEqual(self.picture(path), wanted, path)
+                        self.assertEqual(self.ask(path)[1]["ETag"], tag)
+                self.assertEqual(self.ask("/frames/30.y4m")[0], 404)
+                self.assertTrue(thread.is_alive())
+            finally:
+                ended.set()
+                thread.join(10 * SLOW)
+        self.assertNotEqual(self.ask("/frames/0.y4m")[1]["ETag"], tag)
+        with self.session(SCENES) as other:
+            for line in self.members("/session")["edits"]:
+                other.request(line)
+            self.assertEqual(self.picture("/frames/5.y4m"), other.frame(5).i420())
+
+    def test_ten_thousand_packets_are_held(self):
+        with self.session("-") as stream:
+            stream.blank(0, 16, 16)
+            stream.hold(1)
+            key, hold = stream.packet(0), stream.packet(1)
+        count = 10001
+        self.serve(write_packets(self.folder() / "many.ivf", [key] + (count + 1) * [hold]))
+        self.step(*(line for at in range(1, count + 1) for line in (f"hold {at + 1}", f"delete {at}")))
+        found = self.members("/session")
+        self.assertEqual((found["packets"], found["edits_before"] + len(found["edits"])), (count + 2, 2 * count))
+        self.assertEqual(len(self.change("undo")["reply"]), 2 * count)
+        self.assertEqual(self.members("/session")["edits"], [])
 
     def test_numbers(self):
         self.serve()
@@ -601,6 +649,18 @@ class Saving(PageCase):
         self.assertEqual((status, "clip-edited.ivf: No space left on device: not saved, and nothing was written" in json.loads(body)["error"]), (500, True))
         self.assertEqual(sorted(path.name for path in room.iterdir()), ["clip.edits"])
         self.assertEqual(self.members("/session")["revision"], 2)
+
+    def test_it_is_said_when_times_are_numbered_anew(self):
+        def saved(*lines, keeps_stamps=False):
+            self.opened(self.folder())
+            self.live.keeps_stamps = keeps_stamps
+            if lines:
+                self.step(*lines)
+            return json.loads(self.post_to("/edits", line="save", source=0)[2])["renumbered"]
+
+        # Packets that are held keep the time stamps, and so does an edit at the end.
+        self.assertEqual([saved("delete 3"), saved("move 20 3"), saved("copy 0 3 9")], [True] * 3)
+        self.assertEqual([saved(), saved("hold 4", "delete 3"), saved("replace 3 -"), saved("delete 47"), saved("delete 3", keeps_stamps=True)], [False] * 5)
 
     def test_a_script_is_not_in_the_packets(self):
         room = self.folder()

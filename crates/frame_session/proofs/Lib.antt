@@ -14,6 +14,7 @@ pub mod LiveReads
 pub mod LiveLines
 pub mod LiveRuns
 pub mod ToldKept
+pub mod Noted
 pub mod ExportedFrames
 pub mod Listed
 pub mod ExportRecords

@@ -1,5 +1,5 @@
 -- A live run, line after line.
-use Rattle.std.proofs.Common.{◌≡◌, ℕ, ◌+◌, ◌-◌, ◌^◌, ◌<◌, ◌≤◌, Bool, true, false, cond, List, [], ◌∷◌, ◌++◌, Option, Some, None, IfSome, OnSome, Result, Ok, length, append_assoc, append-nil, refl, sym, ap, ◌∙◌, subst, arith}
+use Rattle.std.proofs.Common.{◌≡◌, ℕ, ◌+◌, ◌-◌, ◌^◌, ◌<◌, ◌≤◌, Bool, true, false, cond, ◌||◌, List, [], ◌∷◌, ◌++◌, Option, Some, None, IfSome, OnSome, Result, Ok, length, append_assoc, append-nil, refl, sym, ap, ◌∙◌, subst, arith}
 use Rattle.std.proofs.lemmas.Bool.{true≢false}
 use Rattle.std.proofs.lemmas.List.Elements.{All-nil}
 use Rattle.std.proofs.lemmas.Grind.{flat_map-append}
@@ -18,8 +18,10 @@ use Rattle.frame_session.specs.Cached.{SessionValue, begun}
 use Rattle.frame_session.specs.LineCosts.{LineCosts, LiveMeansAtCost}
 use Rattle.frame_session.proofs.AtCost.{costs_append}
 use Rattle.frame_session.specs.Answers.{Answer, AreIvfs, AnswersEach, WritesAnswers, WritesAnswer, WritesUntilError, WritesFrameFirst, frames_of, replies_of}
-use Rattle.frame_session.specs.Live.{AnswersText, AreAsked, CutsOff, IsAsked, IsCutOff, LiveEnds, LiveRefuses, longest_line}
+use Rattle.frame_session.specs.Live.{AnswersText, AreAsked, CutsOff, IsAsked, IsCutOff, LiveEnds, LiveMeans, LiveRefuses, longest_line}
 use Rattle.frame_session.specs.declared.live.LineRead.{LineRead}
+use Rattle.frame_session.specs.Noted.{LiveMeansNoted, refuses_some}
+use Rattle.frame_session.proofs.Noted.{noted_append, or_false}
 use Rattle.frame_session.specs.LiveSteps.{IsRead, IsShort, MayFollow, ReadsLine, RunsText}
 use Rattle.frame_session.proofs.Served.{runs_more, runs_none}
 use Rattle.frame_session.proofs.LiveReads.{at_end}
@@ -93,9 +95,9 @@ module _ (old new : SessionState) (text line : List ℕ) (is : IsOnly text line)
   }
 
 -- the next line was read
-module _ (old new : SessionValue) (a b f f' r r' : Option (List ℕ)) (line : List ℕ) (short : IsShort line) (request : Line) where
-  pub line_answered : Consumes a b (line ++ 10 ∷ []) → IsAsked (strip_carriage_return line) request → (served : WritesAnswer old.now request f f' r r' new.now) → LineCosts old request served.answer new → RunsText 1 old new a b f f' r r' true
-  line_answered taken asked served costs =
+module _ (old new : SessionValue) (a b f f' r r' : Option (List ℕ)) (line : List ℕ) (short : IsShort line) (request : Line) (seen seen' : Bool) where
+  pub line_answered : Consumes a b (line ++ 10 ∷ []) → IsAsked (strip_carriage_return line) request → (served : WritesAnswer old.now request f f' r r' new.now) → LineCosts old request served.answer new → seen' ≡ (seen || refuses_some (request ∷ []) (served.answer ∷ [])) → RunsText 1 old new a b f f' r r' true seen seen'
+  line_answered taken asked served costs noted =
       let only = only_before_newline line short in
       record {
         text = line ++ 10 ∷ [];
@@ -104,16 +106,18 @@ module _ (old new : SessionValue) (a b f f' r r' : Option (List ℕ)) (line : Li
         many = omega (arith, ap length only.one);
         answers = only_answered old.now new.now (line ++ 10 ∷ []) (strip_carriage_return line) only request asked f f' r r' served;
         costs = (new, served.means, costs, refl);
+        noted = noted;
       }
 
-  pub last_answered : Consumes a b line → OnSome a (IsAtEnd b) → 0 < length line → IsAsked line request → (served : WritesAnswer old.now request f f' r r' new.now) → LineCosts old request served.answer new → RunsText 0 old new a b f f' r r' false
-  last_answered taken end some asked served costs = record {
+  pub last_answered : Consumes a b line → OnSome a (IsAtEnd b) → 0 < length line → IsAsked line request → (served : WritesAnswer old.now request f f' r r' new.now) → LineCosts old request served.answer new → seen' ≡ (seen || refuses_some (request ∷ []) (served.answer ∷ [])) → RunsText 0 old new a b f f' r r' false seen seen'
+  last_answered taken end some asked served costs noted = record {
     text = line;
     taken = taken;
     follows = end;
     many = omega arith;
     answers = only_answered old.now new.now line line (only_last line short some) request asked f f' r r' served;
     costs = (new, served.means, costs, refl);
+    noted = noted;
   }
 
   pub line_refused : Consumes a b (line ++ 10 ∷ []) → IsAsked (strip_carriage_return line) request → WritesFrameFirst old.now request f f' r r' new.now → LiveEnds old.now a b f f' r r' faults.Write
@@ -123,8 +127,8 @@ module _ (old new : SessionValue) (a b f f' r r' : Option (List ℕ)) (line : Li
   last_refused taken some asked first = only_refused old.now new.now line line (only_last line short some) request asked f f' r r' a b taken first
 
 -- no line is left
-pub none_left : (old : SessionValue) (a b f r : Option (List ℕ)) (line : List ℕ) → line ≡ [] → Consumes a b line → OnSome a (IsAtEnd b) → RunsText 0 old old a b f f r r false
-none_left old a b f r line none taken end = record { text = []; taken = subst (Consumes a b) none taken; follows = end; many = omega arith; answers = no_text old.now f r; costs = refl }
+pub none_left : (old : SessionValue) (a b f r : Option (List ℕ)) (seen : Bool) (line : List ℕ) → line ≡ [] → Consumes a b line → OnSome a (IsAtEnd b) → RunsText 0 old old a b f f r r false seen seen
+none_left old a b f r seen line none taken end = record { text = []; taken = subst (Consumes a b) none taken; follows = end; many = omega arith; answers = no_text old.now f r; costs = refl; noted = sym (or_false seen) }
 
 -- the next line was read, if its newline follows it (t) or it is not empty
 module _ (old new : SessionValue) (a b f f' r r' : Option (List ℕ)) (read : LineRead) (request : Line) where
@@ -139,32 +143,34 @@ module _ (old new : SessionValue) (a b f f' r r' : Option (List ℕ)) (read : Li
       by_length [] e = absurd (some (is.length ∙ ap length e))
       by_length (x ∷ xs) e = omega (arith, ap length e)
 
-  pub read_answered : (t : Bool) → ReadsLine a b read (Ok t) → (t ≡ false → read.length ≡ 0 → ⊥) → IsRequest t → (served : WritesAnswer old.now request f f' r r' new.now) → LineCosts old request served.answer new → RunsText (cond t 1 0) old new a b f f' r r' t
-  read_answered true x some asked served costs = line_answered old new a b f f' r r' x.0 x.2 request x.3 (asked x.0 x.1) served costs
-  read_answered false x some asked served costs = last_answered old new a b f f' r r' x.0 x.2 request x.3 x.4 (some_bytes x.0 x.1 (some refl)) (asked x.0 x.1) served costs
+  pub read_answered : (seen seen' : Bool) (t : Bool) → ReadsLine a b read (Ok t) → (t ≡ false → read.length ≡ 0 → ⊥) → IsRequest t → (served : WritesAnswer old.now request f f' r r' new.now) → LineCosts old request served.answer new → seen' ≡ (seen || refuses_some (request ∷ []) (served.answer ∷ [])) → RunsText (cond t 1 0) old new a b f f' r r' t seen seen'
+  read_answered seen seen' true x some asked served costs noted = line_answered old new a b f f' r r' x.0 x.2 request seen seen' x.3 (asked x.0 x.1) served costs noted
+  read_answered seen seen' false x some asked served costs noted =
+      last_answered old new a b f f' r r' x.0 x.2 request seen seen' x.3 x.4 (some_bytes x.0 x.1 (some refl)) (asked x.0 x.1) served costs noted
 
   pub read_refused : (t : Bool) → ReadsLine a b read (Ok t) → (t ≡ false → read.length ≡ 0 → ⊥) → IsRequest t → WritesFrameFirst old.now request f f' r r' new.now → LiveEnds old.now a b f f' r r' faults.Write
-  read_refused true x some asked first = line_refused old new a b f f' r r' x.0 x.2 request x.3 (asked x.0 x.1) first
-  read_refused false x some asked first = last_refused old new a b f f' r r' x.0 x.2 request x.3 (some_bytes x.0 x.1 (some refl)) (asked x.0 x.1) first
+  read_refused true x some asked first = line_refused old new a b f f' r r' x.0 x.2 request false false x.3 (asked x.0 x.1) first
+  read_refused false x some asked first = last_refused old new a b f f' r r' x.0 x.2 request false false x.3 (some_bytes x.0 x.1 (some refl)) (asked x.0 x.1) first
 
 -- nothing was read at the end
-pub nothing_left : (old : SessionValue) (a b f r : Option (List ℕ)) (read : LineRead) (t : Bool) → ReadsLine a b read (Ok t) → t ≡ false → read.length ≡ 0 → RunsText 0 old old a b f f r r false
-nothing_left old a b f r read true x is none = absurd (true≢false is)
-nothing_left old a b f r read false x is none = none_left old a b f r x.0 (no_bytes x.0 (sym x.1.length ∙ none)) x.3 x.4
+pub nothing_left : (old : SessionValue) (a b f r : Option (List ℕ)) (seen : Bool) (read : LineRead) (t : Bool) → ReadsLine a b read (Ok t) → t ≡ false → read.length ≡ 0 → RunsText 0 old old a b f f r r false seen seen
+nothing_left old a b f r seen read true x is none = absurd (true≢false is)
+nothing_left old a b f r seen read false x is none = none_left old a b f r seen x.0 (no_bytes x.0 (sym x.1.length ∙ none)) x.3 x.4
   where
     no_bytes : (line : List ℕ) → length line ≡ 0 → line ≡ []
     no_bytes [] e = refl
     no_bytes (y ∷ ys) e = absurd (omega (arith, e))
 
 -- nothing was read yet
-pub text_none : (old : SessionValue) (a f r : Option (List ℕ)) → RunsText 0 old old a a f f r r true
-text_none old a f r = record {
+pub text_none : (old : SessionValue) (a f r : Option (List ℕ)) (seen : Bool) → RunsText 0 old old a a f f r r true seen seen
+text_none old a f r seen = record {
   text = [];
   taken = Consumes-nil a;
   follows = λ some. absurd (omega (arith, some));
   many = omega arith;
   answers = no_text old.now f r;
   costs = refl;
+  noted = sym (or_false seen);
 }
 
 -- a line that is cut off after more lines
@@ -176,20 +182,21 @@ cut_off_later before text part faults.Endless ends cut = (cut.0, omega (arith, c
 cut_off_later before text part faults.Write ends cut = cut
 cut_off_later before text part faults.NoMemory ends cut = cut
 
-module _ (least : ℕ) (old mid new : SessionValue) (a b c f f' f'' r r' r'' : Option (List ℕ)) (x : RunsText least old mid a b f f' r r' true) where
+module _ (least : ℕ) (old mid new : SessionValue) (a b c f f' f'' r r' r'' : Option (List ℕ)) (seen seen' : Bool) (x : RunsText least old mid a b f f' r r' true seen seen') where
   follows_more : (more : Bool) (text : List ℕ) → MayFollow more b c text → MayFollow more a c (x.text ++ text)
   follows_more true text follows = ends-append x.text text x.follows follows
   follows_more false text follows = at_end a b c x.text x.taken follows
 
   -- one more line
-  pub text_more : (n : ℕ) (more : Bool) → RunsText n mid new b c f' f'' r' r'' more → RunsText (least + n) old new a c f f'' r r'' more
-  text_more n more y = record {
+  pub text_more : (n : ℕ) (more : Bool) (seen'' : Bool) → RunsText n mid new b c f' f'' r' r'' more seen' seen'' → RunsText (least + n) old new a c f f'' r r'' more seen seen''
+  text_more n more seen'' y = record {
     text = x.text ++ y.text;
     taken = Consumes-trans a b c x.text y.text x.taken y.taken;
     follows = follows_more more y.text y.follows;
     many = omega (arith, x.many, y.many, count-append x.text y.text x.follows);
     answers = text_append old.now mid.now new.now x.text y.text f f' f'' r r' r'' x.follows x.answers y.answers;
     costs = costs_append old mid new x.answers.requests y.answers.requests x.answers.runs.answers y.answers.runs.answers x.costs y.costs;
+    noted = noted_append old.now mid.now x.answers.requests y.answers.requests x.answers.runs.answers y.answers.runs.answers seen seen' seen'' x.answers.runs.means x.noted y.noted;
   }
 
   -- the next line is cut off
@@ -224,12 +231,12 @@ module _ (least : ℕ) (old mid new : SessionValue) (a b c f f' f'' r r' r'' : O
   ends_more faults.NoMemory y = cut_more faults.NoMemory y
 
 -- a text of at least some number of lines
-pub any_number : (n : ℕ) (more : Bool) (old new : SessionValue) (a b f f' r r' : Option (List ℕ)) → RunsText n old new a b f f' r r' more → RunsText 0 old new a b f f' r r' more
-any_number n more old new a b f f' r r' x = record { text = x.text; taken = x.taken; follows = x.follows; many = omega arith; answers = x.answers; costs = x.costs }
+pub any_number : (n : ℕ) (more : Bool) (seen seen' : Bool) (old new : SessionValue) (a b f f' r r' : Option (List ℕ)) → RunsText n old new a b f f' r r' more seen seen' → RunsText 0 old new a b f f' r r' more seen seen'
+any_number n more seen seen' old new a b f f' r r' x = record { text = x.text; taken = x.taken; follows = x.follows; many = omega arith; answers = x.answers; costs = x.costs; noted = x.noted }
 
 -- no more lines are read
-pub ends_endless : (n : ℕ) (old mid : SessionValue) (a b f f' r r' : Option (List ℕ)) → 2 ^ 64 - 1 ≤ n → RunsText n old mid a b f f' r r' true → LiveEnds old.now a b f f' r r' faults.Endless
-ends_endless n old mid a b f f' r r' most x = record {
+pub ends_endless : (n : ℕ) (seen seen' : Bool) (old mid : SessionValue) (a b f f' r r' : Option (List ℕ)) → 2 ^ 64 - 1 ≤ n → RunsText n old mid a b f f' r r' true seen seen' → LiveEnds old.now a b f f' r r' faults.Endless
+ends_endless n seen seen' old mid a b f f' r r' most x = record {
   text = x.text;
   part = [];
   taken = subst (Consumes a b) (sym (append-nil x.text)) x.taken;
@@ -267,10 +274,15 @@ read_all (Some xs) None text taken end = absurd taken
 read_all (Some xs) (Some ys) text taken end = sym (taken ∙ ap (λ rest. text ++ rest) end ∙ append-nil text)
 
 -- a run of live lines from its first session
-pub live_means_at_cost : (tables : Tables) (capacity : Capacity) (sources : List (List ℕ)) (a b f f' r r' : Option (List ℕ)) (files : List Ivf) (first end : SessionValue) → AreIvfs sources files → first ≡ begun tables capacity files → RunsText 0 first end a b f f' r r' false → LiveMeansAtCost tables capacity sources a b f f' r r' end
-live_means_at_cost tables capacity sources a b f f' r r' files first end are is ran =
-    let so : RunsText 0 (begun tables capacity files) end a b f f' r r' false = subst (λ (v : SessionValue). RunsText 0 v end a b f f' r r' false) is ran in
-    record {
-      means = record { text = so.text; taken = so.taken; all = read_all a b so.text so.taken so.follows; files = files; are = are; answers = so.answers };
-      costs = so.costs;
-    }
+module _ (tables : Tables) (capacity : Capacity) (sources : List (List ℕ)) (a b f f' r r' : Option (List ℕ)) (seen seen' : Bool) (files : List Ivf) (first end : SessionValue) (are : AreIvfs sources files) (is : first ≡ begun tables capacity files) (ran : RunsText 0 first end a b f f' r r' false seen seen') where
+  so : RunsText 0 (begun tables capacity files) end a b f f' r r' false seen seen'
+  so = subst (λ (v : SessionValue). RunsText 0 v end a b f f' r r' false seen seen') is ran
+
+  abbrev means : LiveMeans tables sources a b f f' r r' end.now
+  means = record { text = so.text; taken = so.taken; all = read_all a b so.text so.taken so.follows; files = files; are = are; answers = so.answers }
+
+  pub live_means_at_cost : LiveMeansAtCost tables capacity sources a b f f' r r' end
+  live_means_at_cost = record { means = means; costs = so.costs }
+
+  pub live_means_noted : LiveMeansNoted tables sources a b f f' r r' end.now seen seen'
+  live_means_noted = record { means = means; noted = so.noted }

@@ -9,7 +9,7 @@ use Rattle.frame_session.specs.Replies.{refused_line}
 use Rattle.frame_session.specs.Told.{Tells}
 
 pub tells_kept : (r m r' : Option (List ℕ)) (told : Option Refusal) → Tells r m told → Keeps m r' → Tells r r' told
-tells_kept r m r' None said kept = tt
+tells_kept r m r' None said kept = (said.0, Appends-kept r m r' said.0 said.1 kept, said.2)
 tells_kept r m r' (Some refusal) said kept = Appends-kept r m r' (refused_line refusal) said kept
 
 pub same_capacity : (source : ℕ) (id : Option ℕ) (old new : CacheValue) → CacheWithout source id old new → new.capacity ≡ old.capacity

@@ -14,5 +14,6 @@ pub mod LineCosts
 pub mod Live
 pub mod LiveSteps
 pub mod Told
+pub mod Noted
 pub mod Exported
 pub mod ExportSizes

@@ -1,5 +1,5 @@
 -- What answering lines costs a session: its packets, marks and cached outcomes after each line.
-use Rattle.std.specs.Prelude.{◌≡◌, ℕ, List, [], ◌∷◌, Option, OnOk, Result}
+use Rattle.std.specs.Prelude.{◌≡◌, ℕ, ◌&&◌, is_some, List, [], ◌∷◌, Option, IfOk, OnOk, Result}
 use Rattle.std.specs.Io.KnownBytes.{Appends}
 use Rattle.vp8_tables.specs.declared.tables.Tables.{Tables}
 use Rattle.script_nodes.specs.Shown.{Shown}
@@ -11,6 +11,7 @@ use Rattle.frame_session.specs.declared.refusal.Refusal.{Refusal}
 use Rattle.frame_session.specs.Answers.{Answer, Answers, Means, WritesAnswers, answer_to_frame, reply_only, requests_of}
 use Rattle.frame_session.specs.Cached.{CacheWithout, FrameCosts, SessionValue, begun, id_removed, packet_of_frame, stores_after}
 use Rattle.frame_session.specs.Live.{LiveMeans}
+use Rattle.frame_session.specs.Noted.{is_frame, refuses_frame}
 use Rattle.frame_session.specs.Replies.{edit_line}
 use Rattle.frame_session.specs.Sessions.{current_list}
 
@@ -31,13 +32,15 @@ LineCosts old (requests.Frame n) answer new =
 LineCosts old (requests.Edit edit) answer new = (edited : Result ℕ Refusal) × (answer ≡ reply_only (edit_line edited)) × EditCosts edit edited old new
 LineCosts old line answer new = LeavesCache old new
 
--- a line was answered, and cost what it has to; the writers gained the answer unless one failed
-pub record AnswersAtCost {A E : Type 0} (old : SessionValue) (line : Line) (frames frames' replies replies' : Option (List ℕ)) (result : Result A E) (new : SessionValue) : Type 0 where
+-- a line was answered, and cost what it has to; unless a writer failed, the writers gained the answer, and for a frame the result is a refusal exactly if
+-- the reply is one
+pub record AnswersAtCost {E : Type 0} (old : SessionValue) (line : Line) (frames frames' replies replies' : Option (List ℕ)) (result : Result (Option Refusal) E) (new : SessionValue) : Type 0 where
   pub answer : Answer
   pub means : Answers old.now line answer new.now
   pub costs : LineCosts old line answer new
   pub shown : OnOk result (Appends frames frames' answer.frames)
   pub said : OnOk result (Appends replies replies' answer.reply)
+  pub told : IfOk result (λ refusal. refuses_frame line answer ≡ (is_frame line && is_some refusal))
 
 -- lines in sequence, answers that they may have, what each costs, and the session after them
 abbrev pub RunCosts : SessionValue → List Line → List Answer → SessionValue → Type 0

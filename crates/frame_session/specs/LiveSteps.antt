@@ -1,5 +1,5 @@
 -- The steps of a live run: a part of a line, a line, and its answer.
-use Rattle.std.specs.Prelude.{◌≡◌, ℕ, ◌≤◌, Bool, true, false, List, [], ◌∷◌, ◌++◌, length, Option, OnSome, Result, Ok, Err}
+use Rattle.std.specs.Prelude.{◌≡◌, ℕ, ◌≤◌, Bool, true, false, ◌||◌, List, [], ◌∷◌, ◌++◌, length, Option, OnSome, Result, Ok, Err}
 use Rattle.std.specs.Io.{IsEmptyOrEndsWith}
 use Rattle.std.specs.Io.KnownBytes.{Consumes, IsAtEnd}
 use Rattle.std.specs.Str.Lines.{lines}
@@ -11,6 +11,7 @@ use Rattle.frame_session.specs.declared.live.Reached.TheVariants.{Within, Newlin
 use Rattle.frame_session.specs.Cached.{SessionValue}
 use Rattle.frame_session.specs.LineCosts.{RunCosts}
 use Rattle.frame_session.specs.Live.{AnswersText, HasNoNewline, IsCutOff, longest_line}
+use Rattle.frame_session.specs.Noted.{refuses_some}
 
 -- a line without a newline that is not too long
 pub record IsShort (line : List ℕ) : Type 0 where
@@ -41,11 +42,13 @@ abbrev pub MayFollow : Bool → (left left' : Option (List ℕ)) → List ℕ �
 MayFollow true left left' text = IsEmptyOrEndsWith text 10
 MayFollow false left left' text = OnSome left (IsAtEnd left')
 
--- a text of at least this many lines was read, its lines were answered, and each cost what it has to
-pub record RunsText (least : ℕ) (old new : SessionValue) (left left' frames frames' replies replies' : Option (List ℕ)) (more : Bool) : Type 0 where
+-- a text of at least this many lines was read, its lines were answered, each cost what it has to, and the observer has seen whether a request for a
+-- frame was refused
+pub record RunsText (least : ℕ) (old new : SessionValue) (left left' frames frames' replies replies' : Option (List ℕ)) (more : Bool) (seen seen' : Bool) : Type 0 where
   pub text : List ℕ
   pub taken : Consumes left left' text
   pub follows : MayFollow more left left' text
   pub many : least ≤ length (lines text)
   pub answers : AnswersText old.now text frames frames' replies replies' new.now
   pub costs : RunCosts old answers.requests answers.runs.answers new
+  pub noted : seen' ≡ (seen || refuses_some answers.requests answers.runs.answers)

@@ -1,5 +1,6 @@
 -- What the observer of a run is given.
-use Rattle.std.specs.Prelude.{ℕ, ◌+◌, List, Option, Some, None, length, option_and_then, option_map, slice_get}
+use Rattle.std.specs.Prelude.{◌≡◌, ℕ, ◌+◌, Bool, false, List, Option, Some, None, codes, length, nat_eq, option_and_then, option_map, slice_get}
+use Rattle.std.specs.List.{starts_with}
 use Rattle.std.specs.Io.KnownBytes.{Appends}
 use Rattle.packet_edits.specs.Shown.{shown_indexes, stream_of}
 use Rattle.packet_edits.specs.Sizes.{size_at}
@@ -10,9 +11,13 @@ use Rattle.frame_session.specs.Edits.{list_at}
 use Rattle.frame_session.specs.Replies.{refused_line}
 use Rattle.frame_session.specs.Sessions.{SessionState, shown_counts}
 
--- the refusal is the one that the reply reports: the replies gained its line
+-- whether a reply is a refusal
+abbrev pub is_refusal : List ℕ → Bool
+is_refusal reply = starts_with nat_eq reply (codes "refused ")
+
+-- the refusal is the one that the reply reports: the replies gained its line; without one they gained a reply that is not a refusal, or nothing
 abbrev pub Tells : (replies replies' : Option (List ℕ)) → Option Refusal → Type 0
-Tells replies replies' None = Unit {0}
+Tells replies replies' None = (reply : List ℕ) × Appends replies replies' reply × (is_refusal reply ≡ false)
 Tells replies replies' (Some refusal) = Appends replies replies' (refused_line refusal)
 
 -- the number of bytes of the packet at an index of a source, if there is one

@@ -5,11 +5,12 @@ ghost use Rattle.std.specs.Str.Lines.{strip_carriage_return};
 ghost use Rattle.frame_session.specs.Answers.{texts_of};
 ghost use Rattle.frame_session.specs.LineCosts.{LiveMeansAtCost};
 ghost use Rattle.frame_session.specs.Live.{IsAsked, LiveEnds, LiveMeans, LiveStops, live_fault_by, longest_line};
+ghost use Rattle.frame_session.specs.Noted.{LiveMeansNoted};
 ghost use Rattle.frame_session.specs.LiveSteps.{IsRead, IsShort, ReadsLine, ReadsPart, RunsText};
 ghost use Rattle.frame_session.specs.Replies.{live_fault_word};
 
 use crate::observer::{Observer, Unobserved};
-use crate::serving::{Flushing, RunFault, read_sources, serve_line};
+use crate::serving::{Flushing, RunFault, is_frame, read_sources, serve_line};
 use crate::session::Session;
 use crate::settings::Settings;
 use request_lines::{Beginning, Line, read_line, without_carriage_return};
@@ -210,7 +211,7 @@ fn answer_next<I: BufRead, F: Write, P: Write, V: Observer>(
     replies: &mut P,
     observer: &mut V,
 ) -> Result<bool, LiveFault>
-    ensures ok { IfOk result (λ more. RunsText (if more then 1 else 0) session.old session.new (I.remaining input.old) (I.remaining input.new) (F.contents frames.old) (F.contents frames.new) (P.contents replies.old) (P.contents replies.new) more) }
+    ensures ok { IfOk result (λ more. RunsText (if more then 1 else 0) session.old session.new (I.remaining input.old) (I.remaining input.new) (F.contents frames.old) (F.contents frames.new) (P.contents replies.old) (P.contents replies.new) more (V.has_refused observer.old) (V.has_refused observer.new)) }
     ensures err { IfErr result (LiveEnds session.old.now (I.remaining input.old) (I.remaining input.new) (F.contents frames.old) (F.contents frames.new) (P.contents replies.old) (P.contents replies.new)) }
     ensures capacity { session.new.cache.capacity ≡ session.old.cache.capacity }
 {
@@ -220,9 +221,10 @@ fn answer_next<I: BufRead, F: Write, P: Write, V: Observer>(
         return Ok(false);
     }
     let request = line.request(is_terminated);
+    let asks_frame = is_frame(&request);
     match serve_line(session, request, frames, replies, Flushing::EachAnswer) {
         Ok(told) => {
-            observer.answered(session, line.text(is_terminated), told);
+            observer.answered(session, line.text(is_terminated), asks_frame, told);
             Ok(is_terminated)
         }
         Err(_) => Err(LiveFault::Write),
@@ -238,7 +240,7 @@ fn serve_live<I: BufRead, F: Write, P: Write, V: Observer>(
     replies: &mut P,
     observer: &mut V,
 ) -> Result<(), LiveFault>
-    ensures ok { OnOk result (RunsText 0 session.old session.new (I.remaining input.old) (I.remaining input.new) (F.contents frames.old) (F.contents frames.new) (P.contents replies.old) (P.contents replies.new) false) }
+    ensures ok { OnOk result (RunsText 0 session.old session.new (I.remaining input.old) (I.remaining input.new) (F.contents frames.old) (F.contents frames.new) (P.contents replies.old) (P.contents replies.new) false (V.has_refused observer.old) (V.has_refused observer.new)) }
     ensures err { IfErr result (LiveEnds session.old.now (I.remaining input.old) (I.remaining input.new) (F.contents frames.old) (F.contents frames.new) (P.contents replies.old) (P.contents replies.new)) }
     ensures capacity { session.new.cache.capacity ≡ session.old.cache.capacity }
 {
@@ -265,6 +267,7 @@ pub fn run_live_over<B: FileBytes, I: BufRead, F: Write, P: Write, V: Observer>(
     requires sources { (1 ≤ length ivfs.now) × (length ivfs.now ≤ 8) }
     ensures means { IfOk result (λ session. LiveMeans settings.tables (map B.bytes ivfs.now) (I.remaining input.old) (I.remaining input.new) (F.contents frames.old) (F.contents frames.new) (P.contents replies.old) (P.contents replies.new) session.now) }
     ensures costs { IfOk result (LiveMeansAtCost settings.tables settings.capacity (map B.bytes ivfs.now) (I.remaining input.old) (I.remaining input.new) (F.contents frames.old) (F.contents frames.new) (P.contents replies.old) (P.contents replies.new)) }
+    ensures noted { IfOk result (λ session. LiveMeansNoted settings.tables (map B.bytes ivfs.now) (I.remaining input.old) (I.remaining input.new) (F.contents frames.old) (F.contents frames.new) (P.contents replies.old) (P.contents replies.new) session.now (V.has_refused observer.old) (V.has_refused observer.new)) }
     ensures capacity { IfOk result (λ session. session.cache.capacity ≡ settings.capacity) }
     ensures stops { IfErr result (LiveStops settings.tables (map B.bytes ivfs.now) (I.remaining input.old) (I.remaining input.new) (F.contents frames.old) (F.contents frames.new) (P.contents replies.old) (P.contents replies.new)) }
 {

@@ -1,5 +1,5 @@
 // Writes replies. A function that writes a whole reply returns the refusal that it reports, if it reports one.
-ghost use Rattle.std.specs.Prelude.{◌≡◌, IfOk, OnOk};
+ghost use Rattle.std.specs.Prelude.{◌≡◌, IfOk, OnOk, None, Some};
 ghost use Rattle.std.specs.Io.KnownBytes.{Appends};
 ghost use Rattle.frame_session.specs.Replies.{cause_text, count_line, edit_line, lines_line, ok_line, packet_line, refusal_text, refused_line, script_line, served_line, source_text, stats_line};
 ghost use Rattle.frame_session.specs.Told.{Tells};
@@ -15,6 +15,7 @@ use stream_files::WriteFault;
 pub fn write_served<W: Write>(w: &mut W, n: u64) -> Result<Option<Refusal>, WriteFault>
     ensures wrote { OnOk result (Appends (W.contents w.old) (W.contents w.new) (served_line n)) }
     ensures told { IfOk result (Tells (W.contents w.old) (W.contents w.new)) }
+    ensures none { IfOk result (λ refusal. refusal ≡ None) }
 {
     writeln!(w, "served {n}").map_err(|_| WriteFault::Write)?;
     Ok(None)
@@ -101,6 +102,7 @@ pub fn write_script<W: Write>(w: &mut W, script: &Script) -> Result<Option<Refus
 pub fn write_refused<W: Write>(w: &mut W, refusal: Refusal) -> Result<Option<Refusal>, WriteFault>
     ensures wrote { OnOk result (Appends (W.contents w.old) (W.contents w.new) (refused_line refusal)) }
     ensures told { IfOk result (Tells (W.contents w.old) (W.contents w.new)) }
+    ensures refusal { IfOk result (λ told. told ≡ Some refusal) }
 {
     write_text(w, "refused ")?;
     write_refusal(w, refusal)?;

@@ -8,6 +8,7 @@ ghost use Rattle.frame_session.specs.Sessions.{frame_count, packet_count};
 ghost use Rattle.request_lines.specs.Requests.{asked_by};
 ghost use Rattle.state_cache.specs.Reaching.{of_states};
 ghost use Rattle.frame_session.specs.ProofsOnly.{IsSourceRefused};
+ghost use Rattle.frame_session.specs.Noted.{MeansNoted, RunsNoted, is_frame};
 ghost use Rattle.frame_session.specs.Told.{Tells};
 ghost use Rattle.frame_session.specs.Answers.{AreIvfs, Means, RunStops, WritesAnswers, WritesAnswer, WritesUntilError, WritesFrameFirst, opening, requests_of, texts_of};
 ghost use Rattle.frame_session.specs.LineCosts.{AnswersAtCost, MeansAtCost, RunsAtCost};
@@ -125,6 +126,7 @@ fn write_answer<F: Write, P: Write>(
     ensures reply { OnOk result (Appends (P.contents replies.old) (P.contents replies.new) (served_line n)) }
     ensures frame_first { Keeps (P.contents replies.old) (P.contents replies.new) ⊎ Appends (F.contents frames.old) (F.contents frames.new) (opening head_due picture.now.width picture.now.height ++ frame_text picture.now) }
     ensures told { IfOk result (Tells (P.contents replies.old) (P.contents replies.new)) }
+    ensures none { IfOk result (λ refusal. refusal ≡ None) }
 {
     write_frame(frames, head_due, picture)?;
     flushing.flush(frames)?;
@@ -241,6 +243,13 @@ pub fn answer_line<F: Write, P: Write>(
     serve_line(session, request, frames, replies, Flushing::AtEnd)
 }
 
+/// Whether a line is a request for a frame.
+pub(crate) fn is_frame(line: &Line<'_>) -> bool
+    ensures { result ≡ is_frame line.now }
+{
+    matches!(line, Line::Frame(_))
+}
+
 /// Answers all lines of a text.
 pub(crate) fn serve_all<F: Write, P: Write, V: Observer>(
     session: &mut Session,
@@ -253,6 +262,7 @@ pub(crate) fn serve_all<F: Write, P: Write, V: Observer>(
     ensures runs { OnOk result (WritesAnswers session.old.now (requests_of requests.now) (F.contents frames.old) (F.contents frames.new) (P.contents replies.old) (P.contents replies.new) session.new.now) }
     ensures stops { OnErr result (WritesUntilError session.old.now (requests_of requests.now) (F.contents frames.old) (F.contents frames.new) (P.contents replies.old) (P.contents replies.new)) }
     ensures costs { OnOk result (RunsAtCost session.old (requests_of requests.now) (F.contents frames.old) (F.contents frames.new) (P.contents replies.old) (P.contents replies.new) session.new) }
+    ensures noted { OnOk result (RunsNoted session.old.now (requests_of requests.now) (F.contents frames.old) (F.contents frames.new) (P.contents replies.old) (P.contents replies.new) session.new.now (V.has_refused observer.old) (V.has_refused observer.new)) }
     ensures capacity { session.new.cache.capacity ≡ session.old.cache.capacity }
 {
     let mut rest = requests;
@@ -261,8 +271,9 @@ pub(crate) fn serve_all<F: Write, P: Write, V: Observer>(
             return Ok(());
         };
         let request = read_line(line).unwrap_or(Line::Unknown);
+        let asks_frame = is_frame(&request);
         let told = serve_line(session, request, frames, replies, flushing)?;
-        observer.answered(session, line, told);
+        observer.answered(session, line, asks_frame, told);
         rest = following;
     }
 }
@@ -307,6 +318,7 @@ pub fn run_over<B: FileBytes, F: Write, P: Write, V: Observer>(
     requires sources { (1 ≤ length ivfs.now) × (length ivfs.now ≤ 8) }
     ensures means { IfOk result (λ session. Means settings.tables (map B.bytes ivfs.now) requests.now (F.contents frames.old) (F.contents frames.new) (P.contents replies.old) (P.contents replies.new) session.now) }
     ensures costs { IfOk result (MeansAtCost settings.tables settings.capacity (map B.bytes ivfs.now) requests.now (F.contents frames.old) (F.contents frames.new) (P.contents replies.old) (P.contents replies.new)) }
+    ensures noted { IfOk result (λ session. MeansNoted settings.tables (map B.bytes ivfs.now) requests.now (F.contents frames.old) (F.contents frames.new) (P.contents replies.old) (P.contents replies.new) session.now (V.has_refused observer.old) (V.has_refused observer.new)) }
     ensures capacity { IfOk result (λ session. session.cache.capacity ≡ settings.capacity) }
     ensures stops { IfErr result (RunStops settings.tables (map B.bytes ivfs.now) requests.now (F.contents frames.old) (F.contents frames.new) (P.contents replies.old) (P.contents replies.new)) }
 {

@@ -5,11 +5,12 @@ ghost use Rattle.std.specs.Io.Buffered.{writer_buffer};
 use crate::answering::answer_to;
 use crate::arguments::{Arguments, parse};
 use crate::fault::Fault;
-use program_parts::{format_of, help_or_mistake, read_input, read_tables, tell, write_format};
+use program_parts::{
+    NamedFiles, format_of, help_or_mistake, read_input, read_tables, tell, write_format,
+};
 use std::convert::AsStr;
 use std::io::{BufWriter, Read, Write};
 use std::rc::RcSlice;
-use std::rt::Files;
 use stream_checks::Progress;
 use stream_files::IvfFault;
 
@@ -29,7 +30,7 @@ fn tell_input<E: Write>(path: &str, bytes: &[u8], fault: IvfFault, errors: &mut 
 }
 
 /// Writes what the arguments ask for, and returns the exit status, which is 2 if the bytes are not an IVF file.
-fn answer_given<'a, R: Files + AllocGlobal, I: Read, O: Write + Drop, E: Write, G: Progress>(
+fn answer_given<'a, R: NamedFiles + AllocGlobal, I: Read, O: Write + Drop, E: Write, G: Progress>(
     rt: &R,
     given: Arguments<'a>,
     input: &mut I,
@@ -57,7 +58,7 @@ fn answer_given<'a, R: Files + AllocGlobal, I: Read, O: Write + Drop, E: Write, 
 /// Does what a command line asks for, and returns the exit status.
 fn answer_line<
     'a,
-    R: Files + AllocGlobal,
+    R: NamedFiles + AllocGlobal,
     S: AsStr,
     I: Read,
     O: Write + Drop,
@@ -92,7 +93,14 @@ fn answer_line<
 /// The file, or the input for `-`, is read whole, up to 1,073,741,824 bytes, before the first line is written. The list,
 /// findings, help and the version go to `output`; the text of an error goes to `errors`. `progress` is
 /// called after each packet that is decoded.
-pub fn answer<R: Files + AllocGlobal, S: AsStr, I: Read, O: Write + Drop, E: Write, G: Progress>(
+pub fn answer<
+    R: NamedFiles + AllocGlobal,
+    S: AsStr,
+    I: Read,
+    O: Write + Drop,
+    E: Write,
+    G: Progress,
+>(
     rt: &R,
     words: &[S],
     input: &mut I,

@@ -5,10 +5,12 @@ ghost use Rattle.output_files.specs.Steps.Step.{Made};
 
 use crate::links::{followed, parts_of};
 use crate::log::Log;
-use crate::saving::{Call, SavePlace, SavedText, Unsaved, abandon, finish};
+use crate::saving::{
+    BYTES_AT_ONCE, Call, SavePlace, SavedFiles, SavedText, Unsaved, abandon, finish,
+};
 use std::alloc::Global;
-use std::fs::{self, Metadata, OpenFile, OpenOptions};
-use std::io::{self, ErrorKind, Write};
+use std::fs::{self, File, Metadata, OpenFile, OpenOptions};
+use std::io::{self, BufWriter, ErrorKind, Write};
 use std::os::unix::fs::{MetadataExt, OpenOptionsExt};
 use std::rt::Files;
 
@@ -151,53 +153,116 @@ impl<R: Files> SavePlace for Replaced<'_, R> {
 
 /// A save whose new file is made.
 #[derive(Drop)]
-pub struct Begun<'a, R: Files> {
-    place: Replaced<'a, R>,
-    file: NewFile<R::File>,
-    ghost made: { steps_of place.log ≡ Made ∷ [] },
+pub struct Begun<F> {
+    /// The path of the file, with links followed.
+    path: String,
+    /// The path of the new file.
+    fresh: String,
+    log: Log,
+    file: NewFile<F>,
+    ghost made: { steps_of log ≡ Made ∷ [] },
 }
 
-impl<'a, R: Files> Begun<'a, R> {
-    /// Makes the new file for a file at this path, which no link is at the end of.
-    fn make(
-        files: &'a R,
-        alloc: Global,
-        path: String,
-        old: Option<Metadata>,
-    ) -> io::Result<Begun<'a, R>> {
-        let mut place = Replaced::new(files, alloc, path, old);
-        let file = place.make()?;
-        Ok(Begun { place, file })
-    }
+/// Makes the new file for a file at this path, which no link is at the end of.
+fn make_fresh<R: Files>(
+    files: &R,
+    alloc: Global,
+    path: String,
+    old: Option<Metadata>,
+) -> io::Result<Begun<R::File>> {
+    let mut place = Replaced::new(files, alloc, path, old);
+    let file = place.make()?;
+    let Replaced {
+        files: _,
+        alloc: _,
+        path,
+        old: _,
+        fresh,
+        log,
+    } = place;
+    Ok(Begun {
+        path,
+        fresh,
+        log,
+        file,
+    })
+}
 
-    /// Writes a text, brings it to the disk, and replaces the file by it. If that fails, the file is as it was, and the new file is removed.
-    pub fn finish<T: SavedText>(self, text: &T) -> Result<(), Unsaved> {
-        let Begun { mut place, file } = self;
-        finish(place.alloc, &mut place, file, text)
-    }
-
-    /// Removes the new file.
-    pub fn abandon(self) {
-        let Begun { mut place, file: _ } = self;
-        abandon(&mut place);
-    }
+/// The file of a save that is begun, and the new file, which is open.
+fn place_begun<R: Files>(
+    files: &R,
+    alloc: Global,
+    begun: Begun<R::File>,
+) -> (Replaced<'_, R>, NewFile<R::File>)
+    ensures { steps_of result.0.log ≡ Made ∷ [] }
+{
+    let Begun {
+        path,
+        fresh,
+        log,
+        file,
+    } = begun;
+    let place = Replaced {
+        files,
+        alloc,
+        path,
+        old: None,
+        fresh,
+        log,
+    };
+    (place, file)
 }
 
 /// What a save writes.
 #[derive(Drop)]
-pub enum Target<'a, R: Files> {
+pub enum Target<F> {
     /// A device or a pipe, which is written as it is.
     AsItIs,
     /// A file, by a new file that replaces it.
-    File(Begun<'a, R>),
+    File(Begun<F>),
 }
 
-impl<R: Files> Target<'_, R> {
-    /// Removes the new file, if one was made.
-    pub fn abandon(self) {
-        match self {
-            Target::AsItIs => {}
-            Target::File(begun) => begun.abandon(),
+/// Writes a text to a device or a pipe.
+fn save_as_it_is<R: Files, T: SavedText>(
+    files: &R,
+    alloc: Global,
+    path: &str,
+    text: &T,
+) -> Result<(), Unsaved> {
+    let file = File::create(files, path).map_err(Unsaved::Make)?;
+    let mut saved = BufWriter::with_capacity(alloc, BYTES_AT_ONCE, file).map_err(
+        |_| Unsaved::NoMemory,
+    )?;
+    text.write_to(&mut saved)
+}
+
+impl SavedFiles for HostRuntime {
+    type Begun = Target<File>;
+
+    fn begin_save(&self, alloc: Global, path: &str) -> io::Result<Target<File>> {
+        begin(self, alloc, path)
+    }
+
+    fn finish_save<T: SavedText>(
+        &self,
+        alloc: Global,
+        path: &str,
+        begun: Target<File>,
+        text: &T,
+    ) -> Result<(), Unsaved> {
+        match begun {
+            Target::AsItIs => save_as_it_is(self, alloc, path, text),
+            Target::File(begun) => {
+                let (mut place, file) = place_begun(self, alloc, begun);
+                finish(alloc, &mut place, file, text)
+            }
+        }
+    }
+
+    fn abandon_save(&self, alloc: Global, begun: Target<File>) {
+        if let Target::File(begun) = begun {
+            let (mut place, _) = place_begun(self, alloc, begun);
+            abandon(&mut place);
         }
     }
 }
@@ -206,12 +271,12 @@ impl<R: Files> Target<'_, R> {
 ///
 /// An error if something is there that cannot be written, for example a folder, if the path cannot be a file's, or if the new file cannot
 /// be made.
-pub fn begin<'a, R: Files>(files: &'a R, alloc: Global, path: &str) -> io::Result<Target<'a, R>> {
+fn begin<R: Files>(files: &R, alloc: Global, path: &str) -> io::Result<Target<R::File>> {
     let known = match fs::metadata(files, path) {
         Ok(known) => known,
         Err(error) if error.kind() == ErrorKind::NotFound => {
             let path = new_path(files, alloc, path)?;
-            return Ok(Target::File(Begun::make(files, alloc, path, None)?));
+            return Ok(Target::File(make_fresh(files, alloc, path, None)?));
         }
         Err(error) => return Err(error),
     };
@@ -223,7 +288,7 @@ pub fn begin<'a, R: Files>(files: &'a R, alloc: Global, path: &str) -> io::Resul
     if !is_there(files, path.as_str(), &known) {
         return Ok(Target::AsItIs);
     }
-    Ok(Target::File(Begun::make(files, alloc, path, Some(known))?))
+    Ok(Target::File(make_fresh(files, alloc, path, Some(known))?))
 }
 
 /// The path of a file that is not there yet.

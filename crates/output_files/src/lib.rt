@@ -10,7 +10,7 @@ mod places;
 mod saving;
 
 pub use counted::{Counted, Taken};
-pub use host::{Begun, NewFile, Replaced, Target, begin};
+pub use host::{Begun, NewFile, Replaced, Target};
 pub use log::Log;
 pub use places::{Kind, Place, place_of};
-pub use saving::{Call, SavePlace, SavedText, Unsaved, abandon, finish};
+pub use saving::{Call, SavePlace, SavedFiles, SavedText, Unsaved, abandon, finish};

@@ -8,9 +8,10 @@ ghost use Rattle.output_files.specs.Steps.Step.{Made, Synced, Renamed, Removed, 
 
 use std::alloc::Global;
 use std::io::{self, BufWriter, Write};
+use std::rt::Files;
 
 /// The number of bytes that are buffered.
-const BYTES_AT_ONCE: usize = 65_536;
+pub(crate) const BYTES_AT_ONCE: usize = 65_536;
 
 /// A call of a save.
 #[derive(Clone, Copy, Debug, Default, PartialEq, Eq)]
@@ -86,6 +87,37 @@ pub trait SavedText {
         ensures written { OnOk result (Appends (writer_contents W.contents w.old) (writer_contents W.contents w.new) (text self.now)) }
         ensures flushed { OnOk result (writer_buffer w.new ≡ []) }
         ensures fault { IfErr result (λ why. why ≡ Unsaved.Write) };
+}
+
+/// Files that are saved by their paths.
+///
+/// The kit's files have no model. A contract over this trait says which texts were saved at a path. Nothing is known of the system's files: what a
+/// save calls there is the contract of `finish`.
+pub trait SavedFiles: Files {
+    /// This text was saved at a path.
+    ghost is_saved_at: { Self → List ℕ → List ℕ → Type 0 } = { λ _ _ _. Unit {0} };
+
+    /// A save that is begun.
+    type Begun: Drop;
+
+    /// Begins a save at a path, with links followed: the new file is made, unless a device or a pipe is there.
+    ///
+    /// An error if something is there that cannot be written, for example a folder, if the path cannot be a file's, or if the new file cannot
+    /// be made.
+    fn begin_save(&self, alloc: Global, path: &str) -> io::Result<Self::Begun>;
+
+    /// Saves a text at a path, as it was begun there. If that fails, a file there is as it was.
+    fn finish_save<T: SavedText>(
+        &self,
+        alloc: Global,
+        path: &str,
+        begun: Self::Begun,
+        text: &T,
+    ) -> Result<(), Unsaved>
+        ensures { OnOk result (is_saved_at self.now path.now (T.text text.now)) };
+
+    /// Gives up a save: the new file is removed, if one was made.
+    fn abandon_save(&self, alloc: Global, begun: Self::Begun);
 }
 
 /// Writes a text into a file that is open.

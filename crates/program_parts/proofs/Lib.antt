@@ -1,1 +1,2 @@
 pub mod InLines
+pub mod Known

@@ -2,6 +2,7 @@
 ghost use Rattle.std.specs.Prelude.{◌≡◌, ◌≢◌, [], IsOkUnless, OnOk, Err};
 ghost use Rattle.std.specs.Io.Buffered.{writer_buffer};
 ghost use Rattle.clap.specs.Values.{kind_of};
+ghost use Rattle.program_parts.specs.Endings.{IsHelp};
 
 use crate::fault::ArgumentFault;
 use clap::error::ErrorKind;
@@ -14,6 +15,7 @@ pub fn help_or_mistake<O: Write + Drop>(
 ) -> Result<(), ArgumentFault>
     ensures help { kind_of error ≡ ErrorKind.DisplayHelp → IsOkUnless result ArgumentFault.CannotWrite }
     ensures version { kind_of error ≡ ErrorKind.DisplayVersion → IsOkUnless result ArgumentFault.CannotWrite }
+    ensures asked { OnOk result (IsHelp error) }
     ensures flushed { OnOk result (writer_buffer output.new ≡ []) }
     ensures memory { kind_of error ≡ ErrorKind.OutOfMemory → result ≡ Err ArgumentFault.NoMemory }
     ensures mistake { kind_of error ≢ ErrorKind.DisplayHelp → kind_of error ≢ ErrorKind.DisplayVersion → kind_of error ≢ ErrorKind.OutOfMemory → result ≡ Err ArgumentFault.CommandLine }

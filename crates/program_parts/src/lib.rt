@@ -16,4 +16,4 @@ pub use fault::{ArgumentFault, FileFault};
 pub use formats::{Format, format_of, write_format};
 pub use help::help_or_mistake;
 pub use in_line::InLine;
-pub use inputs::{NO_FILE, read_file, read_input, read_tables};
+pub use inputs::{NO_FILE, NamedFiles, read_file, read_input, read_tables};

@@ -159,6 +159,10 @@ pub record IsAccepted (given : Words) (line : Accepted) : Type 0 where
 abbrev pub source_names : Accepted → List (List ℕ)
 source_names line = line.words.stream.now ∷ names_of line.more.items
 
+-- the name of the file of the tables, if there is one
+abbrev pub tables_name : Accepted → Option (List ℕ)
+tables_name line = option_map (λ path. path.now) line.words.tables
+
 -- why the command line is not accepted
 abbrev pub IsMistake : Words → Fault → Type 0
 IsMistake words faults.CommandLine = (capacity_asked words ≡ None) ⊎ (pads_nothing words ≡ true) ⊎ (restamps_nothing words ≡ true) ⊎ AreNoPaths (more_paths words)

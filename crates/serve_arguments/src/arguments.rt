@@ -78,6 +78,11 @@ fn with_flags<'a>(alloc: Global, command: Command<'a>) -> Result<Command<'a>, Al
         ))?
         .arg(flag(
             alloc,
+            "fail-refused",
+            "Exit with status 3 if a request for a frame was refused",
+        ))?
+        .arg(flag(
+            alloc,
             "explain",
             "Explain refusals and errors on standard error",
         ))
@@ -160,6 +165,7 @@ fn words_of<'a>(matches: &ArgMatches<'a>) -> Words<'a> {
         pads: matches.get_flag("pad"),
         restamps: matches.get_flag("restamp"),
         is_live: matches.get_flag("live"),
+        fails_refused: matches.get_flag("fail-refused"),
     }
 }
 

@@ -1,21 +1,22 @@
 // The files that the program reads.
-ghost use Rattle.std.specs.Prelude.{◌≡◌, ◌+◌, ◌∷◌, ℕ, List, Option, IfOk, IfErr, IfSome, codes, None, false, is_some, length, map, option_map};
-ghost use Rattle.vp8_tables.specs.Rfc.{rfc_entries};
-ghost use Rattle.program_parts.specs.Readings.{IsReadFault};
-ghost use Rattle.serve_arguments.specs.CommandLines.{names_of, source_names};
-ghost use Rattle.serve_arguments.specs.Readings.{AreNamed, AreUnread, IsInputFault};
+ghost use Rattle.std.specs.Prelude.{◌≡◌, ◌∷◌, ℕ, List, Option, IfOk, IfErr, map};
+ghost use Rattle.program_parts.specs.Readings.{IsPathFault};
+ghost use Rattle.serve_arguments.specs.CommandLines.{names_of, source_names, tables_name};
+ghost use Rattle.serve_arguments.specs.Readings.{AreNamed, AreRead, AreRequests, AreUnread, IsInputFault, IsNamed, contents_of};
 
 use crate::words::Accepted;
-use program_parts::{FileFault, NO_FILE, read_file, read_input, read_tables};
+use program_parts::{FileFault, NO_FILE, NamedFiles, read_file, read_input, read_tables};
 use std::io::Read;
-use std::rt::Files;
 use stream_files::EMPTY;
 use vp8_tables::Tables;
 
 /// The bytes of a source: those of a file with no packets if no file is given.
-fn read_source<'a, R: Files + AllocGlobal>(rt: &R, path: &'a str) -> Result<Vec<u8>, FileFault<'a>>
-    ensures empty { path.now ≡ codes "-" → IfOk result (λ all. all.items ≡ EMPTY) }
-    ensures fault { IfErr result (IsReadFault path.now None) }
+fn read_source<'a, R: NamedFiles + AllocGlobal>(
+    rt: &R,
+    path: &'a str,
+) -> Result<Vec<u8>, FileFault<'a>>
+    ensures named { IfOk result (λ all. IsNamed (contents_of (R.bytes_at rt.now) EMPTY) path.now all.items) }
+    ensures fault { IfErr result (IsPathFault (R.bytes_at rt.now) path.now) }
 {
     if path == NO_FILE {
         Vec::from_slice(rt.alloc(), &EMPTY).map_err(|_| FileFault::NoMemory)
@@ -25,13 +26,13 @@ fn read_source<'a, R: Files + AllocGlobal>(rt: &R, path: &'a str) -> Result<Vec<
 }
 
 /// The bytes of the sources: of source 0, and then of those with these paths.
-fn read_sources<'a, R: Files + AllocGlobal>(
+fn read_sources<'a, R: NamedFiles + AllocGlobal>(
     rt: &R,
     first: &'a str,
     more: &[&'a str],
 ) -> Result<Vec<Vec<u8>>, FileFault<'a>>
-    ensures named { IfOk result (λ all. AreNamed EMPTY (first.now ∷ names_of more.now) (map (λ bytes. bytes.items) all.items)) }
-    ensures fault { IfErr result (AreUnread (first.now ∷ names_of more.now)) }
+    ensures named { IfOk result (λ all. AreNamed (contents_of (R.bytes_at rt.now) EMPTY) (first.now ∷ names_of more.now) (map (λ bytes. bytes.items) all.items)) }
+    ensures fault { IfErr result (AreUnread (contents_of (R.bytes_at rt.now) EMPTY) (first.now ∷ names_of more.now)) }
 {
     let bytes = read_source(rt, first)?;
     let mut all = vec![in rt.alloc(); bytes].map_err(|_| FileFault::NoMemory)?;
@@ -61,13 +62,12 @@ pub struct Inputs {
 
 /// Reads the files of an accepted command line that come before the requests: the tables, then the sources in their order.
 #[tactic(auto, using(crate::proofs::Unread::tables_unread, crate::proofs::Unread::sources_unread))]
-pub fn read_files<'a, R: Files + AllocGlobal>(
+pub fn read_files<'a, R: NamedFiles + AllocGlobal>(
     rt: &R,
     line: &Accepted<'a>,
 ) -> Result<FilesRead, FileFault<'a>>
-    ensures rfc { is_some line.now.words.tables ≡ false → IfOk result (λ files. files.tables ≡ rfc_entries) }
-    ensures named { IfOk result (λ files. AreNamed EMPTY (source_names line.now) (map (λ bytes. bytes.items) files.sources.items)) }
-    ensures fault { IfErr result (λ fault. (left : Option (List ℕ)) → IsInputFault (option_map (λ path. path.now) line.now.words.tables) (source_names line.now) line.now.words.requests.now left left fault) }
+    ensures read { IfOk result (λ files. AreRead (contents_of (R.bytes_at rt.now) EMPTY) (tables_name line.now) (source_names line.now) files.tables (map (λ bytes. bytes.items) files.sources.items)) }
+    ensures fault { IfErr result (λ fault. (left : Option (List ℕ)) → IsInputFault (contents_of (R.bytes_at rt.now) EMPTY) (tables_name line.now) (source_names line.now) line.now.words.requests.now left left fault) }
 {
     let tables = read_tables(rt, line.words.tables)?;
     let sources = read_sources(rt, line.words.stream, line.more.as_slice())?;
@@ -76,15 +76,14 @@ pub fn read_files<'a, R: Files + AllocGlobal>(
 
 /// Reads the files of an accepted command line, and then the requests.
 #[tactic(auto, using(crate::proofs::Unread::requests_unread))]
-pub fn read_inputs<'a, R: Files + AllocGlobal, I: Read>(
+pub fn read_inputs<'a, R: NamedFiles + AllocGlobal, I: Read>(
     rt: &R,
     line: &Accepted<'a>,
     input: &mut I,
 ) -> Result<Inputs, FileFault<'a>>
-    ensures rfc { is_some line.now.words.tables ≡ false → IfOk result (λ inputs. inputs.files.tables ≡ rfc_entries) }
-    ensures named { IfOk result (λ inputs. AreNamed EMPTY (source_names line.now) (map (λ bytes. bytes.items) inputs.files.sources.items)) }
-    ensures input { line.now.words.requests.now ≡ codes "-" → IfOk result (λ inputs. IfSome (I.remaining input.old) (λ left. inputs.requests.items ≡ left)) }
-    ensures fault { IfErr result (IsInputFault (option_map (λ path. path.now) line.now.words.tables) (source_names line.now) line.now.words.requests.now (I.remaining input.old) (I.remaining input.new)) }
+    ensures read { IfOk result (λ inputs. AreRead (contents_of (R.bytes_at rt.now) EMPTY) (tables_name line.now) (source_names line.now) inputs.files.tables (map (λ bytes. bytes.items) inputs.files.sources.items)) }
+    ensures requests { IfOk result (λ inputs. AreRequests (contents_of (R.bytes_at rt.now) EMPTY) line.now.words.requests.now (I.remaining input.old) inputs.requests.items) }
+    ensures fault { IfErr result (IsInputFault (contents_of (R.bytes_at rt.now) EMPTY) (tables_name line.now) (source_names line.now) line.now.words.requests.now (I.remaining input.old) (I.remaining input.new)) }
 {
     let files = read_files(rt, line)?;
     let requests = read_input(rt, line.words.requests, input)?;

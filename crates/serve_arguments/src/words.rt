@@ -45,6 +45,8 @@ pub struct Words<'a> {
     pub restamps: bool,
     /// Whether each request line is answered as it comes.
     pub is_live: bool,
+    /// Whether the exit status is 3 if a request for a frame was refused.
+    pub fails_refused: bool,
 }
 
 impl Words<'_> {

@@ -2,19 +2,22 @@
 use Rattle.std.proofs.Common.{◌≡◌, ◌⊎◌, inl, inr, ℕ, List, Option, refl}
 use Rattle.std.specs.Io.KnownBytes.{Keeps}
 use Rattle.std.proofs.KnownBytes.{Keeps-refl}
-use Rattle.program_parts.specs.declared.fault.FileFault.{FileFault}
-use Rattle.program_parts.specs.declared.fault.FileFault.TheVariants as files
-use Rattle.serve_arguments.specs.Readings.{AreNamed, IsInputFault}
-use Rattle.serve_arguments.specs.Statuses.{file_fault}
-use Rattle.serve_arguments.specs.declared.fault.Fault.{Fault}
-use Rattle.serve_arguments.specs.declared.fault.Fault.TheVariants.{CommandLine, NamedTwice, CannotRead, TooLong, Tables, Input, NotExported, CannotWrite, NoMemory}
-use Rattle.std.specs.Prelude.{IfSome, codes}
 use Rattle.vp8_tables.specs.Tables.{TableEntries}
 use Rattle.frame_session.specs.Answers.{RunStops}
 use Rattle.frame_session.specs.Sessions.{SessionState}
 use Rattle.frame_session.specs.declared.serving.RunFault.{RunFault}
 use Rattle.frame_session.specs.declared.serving.RunFault.TheVariants as runs
-use Rattle.serve_program.specs.Endings.{AreReplied, AreStopped, IsBeforeOrAfter, IsEnded, IsExportFault, IsRefused, IsReplied, IsSaveFault, IsStopped, IsUnreplied, IsUnwritten, OverSources, fault_by_run}
+use Rattle.output_files.specs.declared.saving.Unsaved.{Unsaved}
+use Rattle.output_files.specs.declared.saving.Unsaved.TheVariants as unsaved
+use Rattle.program_parts.specs.declared.fault.FileFault.{FileFault}
+use Rattle.program_parts.specs.declared.fault.FileFault.TheVariants as files
+use Rattle.serve_arguments.specs.CommandLines.{source_names, tables_name}
+use Rattle.serve_arguments.specs.Readings.{AreRequests, IsInputFault}
+use Rattle.serve_arguments.specs.Statuses.{fault_of, file_fault}
+use Rattle.serve_arguments.specs.declared.fault.Fault.{Fault}
+use Rattle.serve_arguments.specs.declared.fault.Fault.TheVariants.{CommandLine, NamedTwice, CannotRead, TooLong, Tables, Input, NotExported, CannotWrite, NoMemory}
+use Rattle.serve_arguments.specs.declared.words.Accepted.{Accepted}
+use Rattle.serve_program.specs.Endings.{AreReplied, AreStopped, IsBeforeOrAfter, IsEnded, IsExportFault, IsOver, IsRefused, IsReplied, IsSaveFault, IsStopped, IsUnreplied, OverSources, RunFiles, fault_by_run}
 
 -- a run's error
 pub run_refused : (tables : TableEntries) (sources : List (List ℕ)) (requests : List ℕ) (f f' r r' : Option (List ℕ)) (fault : RunFault) → RunStops tables sources requests f f' r r' fault → IsRefused tables sources requests f f' r r' (fault_by_run fault)
@@ -41,70 +44,74 @@ unmade sources stopped r fault is = rw is (inl (Keeps-refl r))
 pub unheld : (sources : List (List ℕ)) (stopped : Type 0) (r : Option (List ℕ)) (fault : Fault) → fault ≡ NoMemory → IsUnreplied sources stopped r r fault
 unheld sources stopped r fault is = rw is (Keeps-refl r)
 
-module _ (unnamed : List ℕ) (tables : Option (List ℕ)) (names : List (List ℕ)) (requests : List ℕ) where
+-- a save's error as the program's
+pub save_fault : (why : Unsaved) (fault : Fault) → fault ≡ fault_of why → IsSaveFault fault
+save_fault unsaved.NoMemory fault is = inr is
+save_fault (unsaved.Make error) fault is = inl is
+save_fault unsaved.Write fault is = inl is
+save_fault (unsaved.Sync error) fault is = inl is
+save_fault (unsaved.Rename error) fault is = inl is
+
+module _ (run : RunFiles) (line : Accepted) where
   module _ (left left' : Option (List ℕ)) (replies replies' : Option (List ℕ)) (Stopped : TableEntries → List (List ℕ) → Type 0) (Replied : SessionState → TableEntries → List (List ℕ) → Type 0) where
     -- a file was not read
-    pub unread_ended : (fault : FileFault) → replies' ≡ replies → Keeps replies replies' → IsInputFault tables names requests left left' fault → IsEnded unnamed tables names requests left left' replies replies' Stopped Replied (file_fault fault)
+    pub unread_ended : (fault : FileFault) → replies' ≡ replies → Keeps replies replies' → IsInputFault run.contents (tables_name line) (source_names line) line.words.requests.now left left' fault → IsEnded run line left left' replies replies' Stopped Replied (file_fault fault)
     unread_ended (files.CannotRead path) same kept why = (why, same)
     unread_ended (files.TooLong path) same kept why = (why, same)
     unread_ended files.Tables same kept why = (why.0, why.1, same)
     unread_ended files.NoMemory same kept why = inl kept
 
-    -- the requests were not all answered
-    pub unreplied_ended : (entries : TableEntries) (sources : List (List ℕ)) (stopped : Type 0) (fault : Fault) → AreNamed unnamed names sources → (stopped → IsBeforeOrAfter unnamed names replies replies' Replied ⊎ OverSources unnamed names Stopped) → IsUnreplied sources stopped replies replies' fault → IsEnded unnamed tables names requests left left' replies replies' Stopped Replied fault
-    unreplied_ended entries sources stopped CommandLine named so why = absurd why
-    unreplied_ended entries sources stopped (NamedTwice same) named so why = absurd why
-    unreplied_ended entries sources stopped (CannotRead path) named so why = absurd why
-    unreplied_ended entries sources stopped (TooLong path) named so why = absurd why
-    unreplied_ended entries sources stopped Tables named so why = absurd why
-    unreplied_ended entries sources stopped (Input source fault) named so why = (sources, named, why.0, why.1)
-    unreplied_ended entries sources stopped (NotExported cause) named so why = absurd why
-    unreplied_ended entries sources stopped CannotWrite named so (inl kept) = inl (inl kept)
-    unreplied_ended entries sources stopped CannotWrite named so (inr why) = so why
-    unreplied_ended entries sources stopped NoMemory named so why = inl why
-
-    -- nothing was written, and the packets are not saved
-    pub save_ended : (fault : Fault) → Keeps replies replies' → IsSaveFault fault → IsEnded unnamed tables names requests left left' replies replies' Stopped Replied fault
-    save_ended CommandLine kept why = absurd why
-    save_ended (NamedTwice same) kept why = absurd why
-    save_ended (CannotRead path) kept why = absurd why
-    save_ended (TooLong path) kept why = absurd why
-    save_ended Tables kept why = absurd why
-    save_ended (Input source fault) kept why = absurd why
-    save_ended (NotExported cause) kept why = absurd why
-    save_ended CannotWrite kept why = inl (inl kept)
-    save_ended NoMemory kept why = inl kept
-
-    pub memory_ended : (fault : Fault) → Keeps replies replies' → fault ≡ NoMemory → IsEnded unnamed tables names requests left left' replies replies' Stopped Replied fault
+    pub memory_ended : (fault : Fault) → Keeps replies replies' → fault ≡ NoMemory → IsEnded run line left left' replies replies' Stopped Replied fault
     memory_ended fault kept is = rw is (inl kept)
 
-    -- all requests were answered, and the packets not saved, or the frames not exported
-    pub after_ended : (entries : TableEntries) (sources : List (List ℕ)) (end : SessionState) (fault : Fault) → AreNamed unnamed names sources → Replied end entries sources → IsSaveFault fault ⊎ IsExportFault end fault → IsEnded unnamed tables names requests left left' replies replies' Stopped Replied fault
-    after_ended entries sources end CommandLine named replied (inl why) = absurd why
-    after_ended entries sources end CommandLine named replied (inr why) = absurd why
-    after_ended entries sources end (NamedTwice same) named replied (inl why) = absurd why
-    after_ended entries sources end (NamedTwice same) named replied (inr why) = absurd why
-    after_ended entries sources end (CannotRead path) named replied (inl why) = absurd why
-    after_ended entries sources end (CannotRead path) named replied (inr why) = absurd why
-    after_ended entries sources end (TooLong path) named replied (inl why) = absurd why
-    after_ended entries sources end (TooLong path) named replied (inr why) = absurd why
-    after_ended entries sources end Tables named replied (inl why) = absurd why
-    after_ended entries sources end Tables named replied (inr why) = absurd why
-    after_ended entries sources end (Input source fault) named replied (inl why) = absurd why
-    after_ended entries sources end (Input source fault) named replied (inr why) = absurd why
-    after_ended entries sources end (NotExported cause) named replied (inl why) = absurd why
-    after_ended entries sources end (NotExported cause) named replied (inr why) = record { tables = entries; sources = sources; named = named; end = end; replied = replied; refused = why }
-    after_ended entries sources end CannotWrite named replied (inl why) = inl (inr (entries, sources, named, (end, replied)))
-    after_ended entries sources end CannotWrite named replied (inr why) = absurd why
-    after_ended entries sources end NoMemory named replied (inl why) = inr (entries, sources, named, (end, replied))
-    after_ended entries sources end NoMemory named replied (inr why) = inr (entries, sources, named, (end, replied))
+    -- nothing was written, and the packets are not saved
+    pub save_ended : (fault : Fault) → Keeps replies replies' → IsSaveFault fault → IsEnded run line left left' replies replies' Stopped Replied fault
+    save_ended fault kept (inl is) = rw is (inl (inl kept))
+    save_ended fault kept (inr is) = rw is (inl kept)
 
-  -- the requests in a list were not all answered
-  pub run_ended : (left left' replies replies' : Option (List ℕ)) (entries : TableEntries) (sources : List (List ℕ)) (lines : List ℕ) (fault : Fault) → AreNamed unnamed names sources → (requests ≡ codes "-" → IfSome left (λ bytes. lines ≡ bytes)) → IsUnreplied sources (IsStopped entries sources lines replies replies') replies replies' fault → IsEnded unnamed tables names requests left left' replies replies' (AreStopped requests left replies replies') (AreReplied requests left replies replies') fault
-  run_ended left left' replies replies' entries sources lines fault named input why =
-      unreplied_ended left left' replies replies' (AreStopped requests left replies replies') (AreReplied requests left replies replies') entries sources (IsStopped entries sources lines replies replies') fault named (λ stopped. inr (entries, sources, named, (lines, input, stopped))) why
+    module _ (tables : TableEntries) (sources : List (List ℕ)) (over : IsOver run line tables sources) where
+      -- the requests were not all answered
+      pub unreplied_ended : (stopped : Type 0) (fault : Fault) → (stopped → IsBeforeOrAfter run line replies replies' Replied ⊎ OverSources run line Stopped) → IsUnreplied sources stopped replies replies' fault → IsEnded run line left left' replies replies' Stopped Replied fault
+      unreplied_ended stopped CommandLine so why = absurd why
+      unreplied_ended stopped (NamedTwice same) so why = absurd why
+      unreplied_ended stopped (CannotRead path) so why = absurd why
+      unreplied_ended stopped (TooLong path) so why = absurd why
+      unreplied_ended stopped Tables so why = absurd why
+      unreplied_ended stopped (Input source fault) so why = (tables, sources, over, why.0, why.1)
+      unreplied_ended stopped (NotExported cause) so why = absurd why
+      unreplied_ended stopped CannotWrite so (inl kept) = inl (inl kept)
+      unreplied_ended stopped CannotWrite so (inr why) = so why
+      unreplied_ended stopped NoMemory so why = inl why
 
-  -- they were, and the packets were not saved, or the frames not exported
-  pub finish_ended : (left left' replies replies' : Option (List ℕ)) (entries : TableEntries) (sources : List (List ℕ)) (lines : List ℕ) (end : SessionState) (fault : Fault) → AreNamed unnamed names sources → (requests ≡ codes "-" → IfSome left (λ bytes. lines ≡ bytes)) → IsReplied entries sources lines replies replies' end → IsSaveFault fault ⊎ IsExportFault end fault → IsEnded unnamed tables names requests left left' replies replies' (AreStopped requests left replies replies') (AreReplied requests left replies replies') fault
-  finish_ended left left' replies replies' entries sources lines end fault named input replied why =
-      after_ended left left' replies replies' (AreStopped requests left replies replies') (AreReplied requests left replies replies') entries sources end fault named (lines, input, replied) why
+      module _ (end : SessionState) (replied : Replied end tables sources) where
+        -- all requests were answered, and the packets not saved
+        unsaved_ended : (fault : Fault) → IsSaveFault fault → IsEnded run line left left' replies replies' Stopped Replied fault
+        unsaved_ended fault (inl is) = rw is (inl (inr (tables, sources, over, (end, replied))))
+        unsaved_ended fault (inr is) = rw is (inr (tables, sources, over, (end, replied)))
+
+        -- or the frames not exported
+        unexported_ended : (fault : Fault) → IsExportFault end fault → IsEnded run line left left' replies replies' Stopped Replied fault
+        unexported_ended CommandLine why = absurd why
+        unexported_ended (NamedTwice same) why = absurd why
+        unexported_ended (CannotRead path) why = absurd why
+        unexported_ended (TooLong path) why = absurd why
+        unexported_ended Tables why = absurd why
+        unexported_ended (Input source fault) why = absurd why
+        unexported_ended (NotExported cause) why = (tables, sources, over, (end, replied, why))
+        unexported_ended CannotWrite why = absurd why
+        unexported_ended NoMemory why = inr (tables, sources, over, (end, replied))
+
+        pub after_ended : (fault : Fault) → IsSaveFault fault ⊎ IsExportFault end fault → IsEnded run line left left' replies replies' Stopped Replied fault
+        after_ended fault (inl why) = unsaved_ended fault why
+        after_ended fault (inr why) = unexported_ended fault why
+
+  module _ (left left' replies replies' : Option (List ℕ)) (tables : TableEntries) (sources : List (List ℕ)) (over : IsOver run line tables sources) (lines : List ℕ) (are : AreRequests run.contents line.words.requests.now left lines) where
+    -- the requests in a list were not all answered
+    pub run_ended : (fault : Fault) → IsUnreplied sources (IsStopped tables sources lines replies replies') replies replies' fault → IsEnded run line left left' replies replies' (AreStopped run line left replies replies') (AreReplied run line left replies replies') fault
+    run_ended fault why =
+        unreplied_ended left left' replies replies' (AreStopped run line left replies replies') (AreReplied run line left replies replies') tables sources over (IsStopped tables sources lines replies replies') fault (λ stopped. inr (tables, sources, over, (lines, are, stopped))) why
+
+    -- they were, and the packets were not saved, or the frames not exported
+    pub finish_ended : (end : SessionState) (fault : Fault) → IsReplied (run.out line.words.frames.now) tables sources lines replies replies' end → IsSaveFault fault ⊎ IsExportFault end fault → IsEnded run line left left' replies replies' (AreStopped run line left replies replies') (AreReplied run line left replies replies') fault
+    finish_ended end fault replied why =
+        after_ended left left' replies replies' (AreStopped run line left replies replies') (AreReplied run line left replies replies') tables sources over end (lines, are, replied) fault why

@@ -1,5 +1,6 @@
-pub mod Flushed
 pub mod Ended
+pub mod ExportLines
+pub mod Finished
+pub mod Flushed
 pub mod LiveEnded
 pub mod Unexported
-pub mod ExportLines

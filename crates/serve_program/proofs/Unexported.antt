@@ -13,7 +13,8 @@ use Rattle.lossless_cuts.specs.declared.faults.CutFault.TheVariants as cuts
 use Rattle.serve_arguments.specs.declared.exports.NotExported.TheVariants as unexported
 use Rattle.serve_arguments.specs.declared.fault.Fault.{Fault}
 use Rattle.serve_arguments.specs.declared.fault.Fault.TheVariants.{NotExported}
-use Rattle.serve_program.specs.Endings.{IsAfterExport, IsExportFault, fault_by_export}
+use Rattle.serve_program.specs.Endings.{IsExportFault, fault_by_export}
+use Rattle.serve_program.specs.Saved.{IsAfterExport}
 
 by_fault : (end : SessionState) (fault : ExportFault) → IsNotExported end fault → IsExportFault end (fault_by_export fault)
 by_fault end (exports.Frame frame (refusals.Packet source place cause)) why = inl (exports.Frame frame (refusals.Packet source place cause), why, refl)

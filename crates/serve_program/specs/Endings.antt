@@ -1,22 +1,18 @@
 -- The results of the parts of a run.
-use Rattle.std.specs.Prelude.{◌≡◌, ◌<◌, ◌≤◌, ◌⊎◌, Bool, false, ℕ, ◌==◌, List, [], ◌∷◌, ◌++◌, map, Option, None, IfSome, IsSome, codes, if◌then◌else◌}
+use Rattle.std.specs.Prelude.{◌≡◌, ◌≢◌, ◌<◌, ◌⊎◌, Bool, ℕ, ◌==◌, List, [], ◌∷◌, ◌++◌, Option, Some, None, IfSome, codes, if◌then◌else◌}
 use Rattle.std.specs.Fmt.{decimal}
-use Rattle.std.specs.Io.KnownBytes.{Keeps}
-use Rattle.vp8_tables.specs.Rfc.{rfc_entries}
+use Rattle.std.specs.Io.KnownBytes.{IsAtEnd, Keeps}
 use Rattle.vp8_tables.specs.Tables.{TableEntries}
-use Rattle.stream_files.specs.Texts.{written_text}
-use Rattle.stream_files.specs.declared.ivf.Head.{Head}
-use Rattle.stream_files.specs.declared.packets.Packet.{Packet}
-use Rattle.packet_edits.specs.Edits.{Listing}
-use Rattle.packet_edits.specs.Saved.{packets_of, padded_if, padded_packets_of, restamped}
-use Rattle.frame_session.specs.Edits.{list_at}
+use Rattle.program_parts.specs.Readings.{AreNoTables, Known}
 use Rattle.std.specs.Borrow.{Bor}
 use Rattle.stream_files.specs.declared.ivf.Ivf.{Ivf}
+use Rattle.stream_files.specs.declared.ivf.IvfFault.{IvfFault}
+use Rattle.stream_files.specs.declared.ivf.TheConstants.{EMPTY}
 use Rattle.frame_session.specs.Cached.{Capacity as Cached, of_bytes, of_states}
 use Rattle.frame_session.specs.Answers.{AreIvfs, Means, RunStops, SourceRefuses}
 use Rattle.frame_session.specs.ExportSizes.{saved_bytes}
 use Rattle.frame_session.specs.Exported.{IsExportFile, IsNotExported}
-use Rattle.frame_session.specs.Live.{CutsOff, LiveMeans, LiveRefuses}
+use Rattle.frame_session.specs.Live.{CutsOff, LiveMeans, LiveStops}
 use Rattle.frame_session.specs.Sessions.{SessionState, start}
 use Rattle.frame_session.specs.declared.export.Export.{Export}
 use Rattle.frame_session.specs.declared.refusal.Refusal.{Refusal}
@@ -29,19 +25,20 @@ use Rattle.frame_session.specs.declared.live.LiveFault.{LiveFault}
 use Rattle.frame_session.specs.declared.live.LiveFault.TheVariants as lives
 use Rattle.frame_session.specs.declared.serving.RunFault.{RunFault}
 use Rattle.frame_session.specs.declared.serving.RunFault.TheVariants as runs
-use Rattle.serve_arguments.specs.Readings.{AreNamed, IsUnread}
+use Rattle.serve_arguments.specs.CommandLines.{source_names, tables_name}
+use Rattle.serve_arguments.specs.Readings.{AreRead, AreRequests, Contents, IsOverlong, IsUnread, contents_of}
 use Rattle.serve_arguments.specs.declared.capacities.Capacity.{Capacity}
 use Rattle.serve_arguments.specs.declared.capacities.Capacity.TheVariants.{States, Bytes}
 use Rattle.serve_arguments.specs.declared.exports.NotExported.{NotExported as Unexported}
 use Rattle.serve_arguments.specs.declared.exports.NotExported.TheVariants as unexported
 use Rattle.serve_arguments.specs.declared.fault.Fault.{Fault}
 use Rattle.serve_arguments.specs.declared.fault.Fault.TheVariants.{CannotRead, TooLong, Tables, Input, NotExported, CannotWrite, NoMemory}
+use Rattle.serve_arguments.specs.declared.words.Accepted.{Accepted}
+use Rattle.serve_program.specs.Saved.{AreSaved, SavedAt}
 
--- why the packets were not saved
+-- why the packets were not saved: the program has two errors for that
 abbrev pub IsSaveFault : Fault → Type 0
-IsSaveFault CannotWrite = Unit {0}
-IsSaveFault NoMemory = Unit {0}
-IsSaveFault _ = ⊥
+IsSaveFault fault = (fault ≡ CannotWrite) ⊎ (fault ≡ NoMemory)
 
 -- a run's error as the program's
 abbrev pub fault_by_run : RunFault → Fault
@@ -49,29 +46,30 @@ fault_by_run (runs.Ivf source fault) = Input source fault
 fault_by_run runs.Write = CannotWrite
 fault_by_run runs.NoMemory = NoMemory
 
--- the requests were answered over the files of these bytes with these replies; it is not known where the frames went
-abbrev pub IsReplied : (tables : TableEntries) → (sources : List (List ℕ)) → (requests : List ℕ) → (replies replies' : Option (List ℕ)) → SessionState → Type 0
-IsReplied tables sources requests replies replies' end =
-    (frames : Option (List ℕ)) × (frames' : Option (List ℕ)) × Means tables sources requests frames frames' replies replies' end
+-- what the file for the frames had and has: any bytes, or those of one file
+abbrev pub Gained : Type 1
+Gained = (frames frames' : Option (List ℕ)) → Type 0
 
--- the packets of a list as they are saved: padded or not, with new time stamps or their own
-abbrev pub saved_packets : Bool → Bool → Head → Listing → List Packet
-saved_packets pads restamps head list =
-    if restamps then restamped pads head list.entries else (if pads then padded_packets_of list else packets_of list)
+-- the file that was made at a path, empty, and its bytes since; without a path there is none. `contents` has the bytes of a file, and `is_made` the files
+-- that were made at a path
+abbrev pub IsOut : {F : Type 0} → (contents : F → Option (List ℕ)) → (is_made : List ℕ → F → Type 0) → (path : List ℕ) → Gained
+IsOut {F} contents is_made path frames frames' =
+    path ≢ codes "-" → (file : F) × (file' : F) × is_made path file × IsAtEnd (contents file) × (frames ≡ contents file) × (frames' ≡ contents file')
 
--- the file of the packets of source 0 at the end
-abbrev pub saved_text : Bool → Bool → SessionState → List ℕ
-saved_text pads restamps end = written_text end.head (saved_packets pads restamps end.head (list_at end.lists 0))
+-- the requests were answered over the files of these bytes with these replies, and the file for the frames gained the frames
+abbrev pub IsReplied : Gained → (tables : TableEntries) → (sources : List (List ℕ)) → (requests : List ℕ) → (replies replies' : Option (List ℕ)) → SessionState → Type 0
+IsReplied out tables sources requests replies replies' end =
+    (frames : Option (List ℕ)) × (frames' : Option (List ℕ)) × out frames frames' × Means tables sources requests frames frames' replies replies' end
 
--- the session after the export that is asked for: only the number of steps made may have grown, and nothing if none is asked for
-pub record IsAfterExport (is_asked : Bool) (end new : SessionState) : Type 0 where
-  pub rest : new ≡ record end { decoded = new.decoded }
-  pub steps : end.decoded ≤ new.decoded
-  pub unasked : is_asked ≡ false → new ≡ end
+-- the files of a run: the bytes at a path, where they are known, the file that was made at a path, and the texts that were saved
+pub record RunFiles : Type 1 where
+  pub contents : Contents
+  pub out : List ℕ → Gained
+  pub saved : SavedAt
 
--- the file of an export, padded or not
-abbrev pub exported_text : Bool → Export → List ℕ
-exported_text pads export = written_text export.head (map (padded_if pads) export.packets)
+-- a source that is not named has no packets
+abbrev pub run_files : {F : Type 0} → Known → (contents : F → Option (List ℕ)) → (is_made : List ℕ → F → Type 0) → SavedAt → RunFiles
+run_files known contents is_made saved = record { contents = contents_of known EMPTY; out = IsOut contents is_made; saved = saved }
 
 -- the refusal of a frame that is exported
 abbrev pub fault_by_refusal : ℕ → Refusal → Fault
@@ -114,39 +112,42 @@ IsExportFault end _ = ⊥
 abbrev pub spare_text : ℕ → List ℕ
 spare_text spare = if spare == 0 then [] else codes "spare " ++ decimal spare ++ 10 ∷ []
 
--- the requests with this name were answered over the files of these bytes: those that are not named are the rest of the input
-abbrev pub AreReplied : (requests : List ℕ) → (left replies replies' : Option (List ℕ)) → SessionState → (tables : TableEntries) → (sources : List (List ℕ)) → Type 0
-AreReplied requests left replies replies' end tables sources =
-    (lines : List ℕ) × (requests ≡ codes "-" → IfSome left (λ bytes. lines ≡ bytes)) × IsReplied tables sources lines replies replies' end
-
--- they were, and then the frames of the session were exported, if that is asked for
-abbrev pub AreAnswered : (requests : List ℕ) → (left replies replies' : Option (List ℕ)) → (is_asked : Bool) → SessionState → (tables : TableEntries) → (sources : List (List ℕ)) → Type 0
-AreAnswered requests left replies replies' is_asked new tables sources =
-    (end : SessionState) × AreReplied requests left replies replies' end tables sources × IsAfterExport is_asked end new
+-- the requests of a command line were answered over the files of these bytes, with the frames in OUT
+abbrev pub AreReplied : RunFiles → Accepted → (left replies replies' : Option (List ℕ)) → SessionState → (tables : TableEntries) → (sources : List (List ℕ)) → Type 0
+AreReplied files line left replies replies' end tables sources =
+    (lines : List ℕ) × AreRequests files.contents line.words.requests.now left lines × IsReplied (files.out line.words.frames.now) tables sources lines replies replies' end
 
 -- the capacity of the cache of a session by that of a command line
 abbrev pub cached_by : Capacity → Cached
 cached_by (States count) = of_states count
 cached_by (Bytes bytes) = of_bytes bytes
 
--- requests were answered over the sources with these names: a source that is not named has the bytes `unnamed`, and without a file of tables the tables
--- are those of RFC 6386. The cache had the capacity of the command line
-pub record IsServed (unnamed : List ℕ) (names : List (List ℕ)) (has_tables : Bool) (capacity : Capacity) (cached : Cached) (Replied : TableEntries → List (List ℕ) → Type 0) : Type 0 where
-  pub tables : TableEntries
-  pub sources : List (List ℕ)
-  pub replied : Replied tables sources
-  pub named : AreNamed unnamed names sources
-  pub rfc : has_tables ≡ false → tables ≡ rfc_entries
-  pub cached_is : cached ≡ cached_by capacity
+-- the tables and the bytes of the sources that a command line names
+abbrev pub IsOver : RunFiles → Accepted → TableEntries → List (List ℕ) → Type 0
+IsOver files line tables sources = AreRead files.contents (tables_name line) (source_names line) tables sources
 
--- all requests were answered over the sources with these names, and then the frames of the session were not exported for this reason
-pub record IsUnexported (unnamed : List ℕ) (names : List (List ℕ)) (Replied : SessionState → TableEntries → List (List ℕ) → Type 0) (why : Unexported) : Type 0 where
+-- what is said of tables and the bytes of sources
+abbrev pub OfSources : Type 1
+OfSources = TableEntries → List (List ℕ) → Type 0
+
+-- all requests of a command line were answered over its sources and tables, by a cache of the capacity of the command line, and then what it asks for was
+-- saved
+pub record IsServed (files : RunFiles) (line : Accepted) (cached : Cached) (Replied : SessionState → OfSources) (new : SessionState) : Type 0 where
   pub tables : TableEntries
   pub sources : List (List ℕ)
-  pub named : AreNamed unnamed names sources
+  pub over : IsOver files line tables sources
   pub end : SessionState
   pub replied : Replied end tables sources
-  pub refused : IsRefusedExport end why
+  pub saved : AreSaved files.saved line.words end new
+  pub cached_is : cached ≡ cached_by line.capacity
+
+-- some tables, and bytes of the sources
+abbrev pub OverSources : RunFiles → Accepted → OfSources → Type 0
+OverSources files line Holds = (tables : TableEntries) × (sources : List (List ℕ)) × IsOver files line tables sources × Holds tables sources
+
+-- all requests were answered, and then the frames of the session were not exported for this reason
+abbrev pub IsUnexported : RunFiles → Accepted → (Replied : SessionState → OfSources) → Unexported → Type 0
+IsUnexported files line Replied why = OverSources files line (λ tables sources. (end : SessionState) × Replied end tables sources × IsRefusedExport end why)
 
 -- a writer returned an error: the answers were written up to one of them, no reply before its whole frame; or all were written, and were not flushed
 abbrev pub IsUnwritten : (tables : TableEntries) → (sources : List (List ℕ)) → (requests : List ℕ) → (frames frames' replies replies' : Option (List ℕ)) → Type 0
@@ -171,56 +172,58 @@ IsUnreplied sources Stopped replies replies' _ = ⊥
 abbrev pub IsStopped : (tables : TableEntries) → (sources : List (List ℕ)) → (requests : List ℕ) → (replies replies' : Option (List ℕ)) → Type 0
 IsStopped tables sources requests replies replies' = (frames : Option (List ℕ)) × (frames' : Option (List ℕ)) × IsUnwritten tables sources requests frames frames' replies replies'
 
--- a writer stopped the answers to the requests with this name
-abbrev pub AreStopped : (requests : List ℕ) → (left replies replies' : Option (List ℕ)) → (tables : TableEntries) → (sources : List (List ℕ)) → Type 0
-AreStopped requests left replies replies' tables sources =
-    (lines : List ℕ) × (requests ≡ codes "-" → IfSome left (λ bytes. lines ≡ bytes)) × IsStopped tables sources lines replies replies'
-
--- some tables, and bytes of the sources with these names
-abbrev pub OverSources : (unnamed : List ℕ) → (names : List (List ℕ)) → (TableEntries → List (List ℕ) → Type 0) → Type 0
-OverSources unnamed names Holds = (tables : TableEntries) × (sources : List (List ℕ)) × AreNamed unnamed names sources × Holds tables sources
+-- a writer stopped the answers to the requests of a command line
+abbrev pub AreStopped : RunFiles → Accepted → (left replies replies' : Option (List ℕ)) → (tables : TableEntries) → (sources : List (List ℕ)) → Type 0
+AreStopped files line left replies replies' tables sources =
+    (lines : List ℕ) × AreRequests files.contents line.words.requests.now left lines × IsStopped tables sources lines replies replies'
 
 -- no reply was written, or all requests were answered
-abbrev pub IsBeforeOrAfter : (unnamed : List ℕ) → (names : List (List ℕ)) → (replies replies' : Option (List ℕ)) → (Replied : SessionState → TableEntries → List (List ℕ) → Type 0) → Type 0
-IsBeforeOrAfter unnamed names replies replies' Replied = Keeps replies replies' ⊎ OverSources unnamed names (λ tables sources. (end : SessionState) × Replied end tables sources)
+abbrev pub IsBeforeOrAfter : RunFiles → Accepted → (replies replies' : Option (List ℕ)) → (Replied : SessionState → OfSources) → Type 0
+IsBeforeOrAfter files line replies replies' Replied = Keeps replies replies' ⊎ OverSources files line (λ tables sources. (end : SessionState) × Replied end tables sources)
+
+-- a file with this name could not be read, and no reply was written
+abbrev pub IsUnreadFile : RunFiles → Accepted → (left left' replies replies' : Option (List ℕ)) → (name : List ℕ) → Type 0
+IsUnreadFile files line left left' replies replies' name = IsUnread files.contents (tables_name line) (source_names line) line.words.requests.now left left' name × (replies' ≡ replies)
+
+-- it has too many bytes
+abbrev pub IsLongFile : RunFiles → Accepted → (left left' replies replies' : Option (List ℕ)) → (name : List ℕ) → Type 0
+IsLongFile files line left left' replies replies' name = IsOverlong files.contents (tables_name line) (source_names line) line.words.requests.now left left' name × (replies' ≡ replies)
+
+-- the bytes of a source are not a file of packets, and no reply was written
+abbrev pub IsNoStream : RunFiles → Accepted → (replies replies' : Option (List ℕ)) → (source : ℕ) → IvfFault → Type 0
+IsNoStream files line replies replies' source fault = OverSources files line (λ tables sources. SourceRefuses sources source fault × Keeps replies replies')
 
 -- why the program exits without doing all that it was asked, in the order of its parts: a reading error comes before the first reply, a reading error of
 -- the tables or a source before the first byte of the requests is read, and an error in a source's bytes before the first reply. Memory runs
 -- out before the first reply, or after the last one, as the frames are exported or the packets saved. A writer's error comes then too, or stops the answers
-abbrev pub IsEnded : (unnamed : List ℕ) → (tables : Option (List ℕ)) → (names : List (List ℕ)) → (requests : List ℕ) → (left left' replies replies' : Option (List ℕ)) → (Stopped : TableEntries → List (List ℕ) → Type 0) → (Replied : SessionState → TableEntries → List (List ℕ) → Type 0) → Fault → Type 0
-IsEnded unnamed tables names requests left left' replies replies' Stopped Replied (CannotRead path) = IsUnread tables names requests left left' path.now × (replies' ≡ replies)
-IsEnded unnamed tables names requests left left' replies replies' Stopped Replied (TooLong path) = IsUnread tables names requests left left' path.now × (replies' ≡ replies)
-IsEnded unnamed tables names requests left left' replies replies' Stopped Replied Tables = IsSome tables × (left' ≡ left) × (replies' ≡ replies)
-IsEnded unnamed tables names requests left left' replies replies' Stopped Replied (Input source fault) =
-    (sources : List (List ℕ)) × AreNamed unnamed names sources × SourceRefuses sources source fault × Keeps replies replies'
-IsEnded unnamed tables names requests left left' replies replies' Stopped Replied (NotExported why) = IsUnexported unnamed names Replied why
-IsEnded unnamed tables names requests left left' replies replies' Stopped Replied CannotWrite =
-    IsBeforeOrAfter unnamed names replies replies' Replied ⊎ OverSources unnamed names Stopped
-IsEnded unnamed tables names requests left left' replies replies' Stopped Replied NoMemory = IsBeforeOrAfter unnamed names replies replies' Replied
-IsEnded unnamed tables names requests left left' replies replies' Stopped Replied _ = ⊥
+abbrev pub IsEnded : RunFiles → Accepted → (left left' replies replies' : Option (List ℕ)) → (Stopped : OfSources) → (Replied : SessionState → OfSources) → Fault → Type 0
+IsEnded files line left left' replies replies' Stopped Replied (CannotRead path) = IsUnreadFile files line left left' replies replies' path.now
+IsEnded files line left left' replies replies' Stopped Replied (TooLong path) = IsLongFile files line left left' replies replies' path.now
+IsEnded files line left left' replies replies' Stopped Replied Tables = AreNoTables files.contents.known (tables_name line) × (left' ≡ left) × (replies' ≡ replies)
+IsEnded files line left left' replies replies' Stopped Replied (Input source fault) = IsNoStream files line replies replies' source fault
+IsEnded files line left left' replies replies' Stopped Replied (NotExported why) = IsUnexported files line Replied why
+IsEnded files line left left' replies replies' Stopped Replied CannotWrite = IsBeforeOrAfter files line replies replies' Replied ⊎ OverSources files line Stopped
+IsEnded files line left left' replies replies' Stopped Replied NoMemory = IsBeforeOrAfter files line replies replies' Replied
+IsEnded files line left left' replies replies' Stopped Replied _ = ⊥
 
 -- Requests that are answered as they come. `given` is what their reader gives, if it is known.
 
--- if no file of requests is named, their reader is the input
-abbrev pub IsInput : (requests : List ℕ) → (left given : Option (List ℕ)) → Type 0
-IsInput requests left given = requests ≡ codes "-" → given ≡ left
+-- the reader of the requests with this name: the input if they are not named
+abbrev pub IsInput : Contents → (requests : List ℕ) → (left given : Option (List ℕ)) → Type 0
+IsInput contents requests left given = (requests ≡ codes "-" → given ≡ left) × (requests ≢ codes "-" → IfSome (contents.known requests) (λ there. given ≡ Some there))
 
--- all lines that the reader gave were answered over the files of these bytes with these replies; it is not known where the frames went
-pub record IsLiveReplied (tables : TableEntries) (sources : List (List ℕ)) (given replies replies' : Option (List ℕ)) (end : SessionState) : Type 0 where
+-- all lines that the reader gave were answered over the files of these bytes with these replies, and the file for the frames gained the frames
+pub record IsLiveReplied (out : Gained) (tables : TableEntries) (sources : List (List ℕ)) (given replies replies' : Option (List ℕ)) (end : SessionState) : Type 0 where
   pub given' : Option (List ℕ)
   pub frames : Option (List ℕ)
   pub frames' : Option (List ℕ)
+  pub gained : out frames frames'
   pub means : LiveMeans tables sources given given' frames frames' replies replies' end
 
--- the lines of the requests with this name were answered over the files of these bytes
-abbrev pub AreLiveReplied : (requests : List ℕ) → (left replies replies' : Option (List ℕ)) → SessionState → (tables : TableEntries) → (sources : List (List ℕ)) → Type 0
-AreLiveReplied requests left replies replies' end tables sources =
-    (given : Option (List ℕ)) × IsInput requests left given × IsLiveReplied tables sources given replies replies' end
-
--- they were, and then the frames of the session were exported, if that is asked for
-abbrev pub AreLiveAnswered : (requests : List ℕ) → (left replies replies' : Option (List ℕ)) → (is_asked : Bool) → SessionState → (tables : TableEntries) → (sources : List (List ℕ)) → Type 0
-AreLiveAnswered requests left replies replies' is_asked new tables sources =
-    (end : SessionState) × AreLiveReplied requests left replies replies' end tables sources × IsAfterExport is_asked end new
+-- the lines of the requests of a command line were answered over the files of these bytes, with the frames in OUT
+abbrev pub AreLiveReplied : RunFiles → Accepted → (left replies replies' : Option (List ℕ)) → SessionState → (tables : TableEntries) → (sources : List (List ℕ)) → Type 0
+AreLiveReplied files line left replies replies' end tables sources =
+    (given : Option (List ℕ)) × IsInput files.contents line.words.requests.now left given × IsLiveReplied (files.out line.words.frames.now) tables sources given replies replies' end
 
 -- the lines before one that the reader did not give whole were answered over the files of these bytes with these replies
 pub record IsInterrupted (tables : TableEntries) (sources : List (List ℕ)) (given replies replies' : Option (List ℕ)) (fault : LiveFault) : Type 0 where
@@ -231,14 +234,17 @@ pub record IsInterrupted (tables : TableEntries) (sources : List (List ℕ)) (gi
   pub frames' : Option (List ℕ)
   pub cut : CutsOff (start tables files) given given' frames frames' replies replies' fault
 
--- a writer refused an answer, after which no line was read
+-- a writer returned an error: no line was read after the one whose answer it refused; or all were answered, and the frames were not flushed
+abbrev pub IsLiveUnwritten : (tables : TableEntries) → (sources : List (List ℕ)) → (given given' frames frames' replies replies' : Option (List ℕ)) → Type 0
+IsLiveUnwritten tables sources given given' frames frames' replies replies' =
+    LiveStops tables sources given given' frames frames' replies replies' lives.Write ⊎ ((end : SessionState) × LiveMeans tables sources given given' frames frames' replies replies' end)
+
+-- it did, and it is not known where the frames went
 pub record IsLiveStopped (tables : TableEntries) (sources : List (List ℕ)) (given replies replies' : Option (List ℕ)) : Type 0 where
-  pub files : List Ivf
-  pub are : AreIvfs sources files
   pub given' : Option (List ℕ)
   pub frames : Option (List ℕ)
   pub frames' : Option (List ℕ)
-  pub refuses : LiveRefuses (start tables files) given given' frames frames' replies replies'
+  pub unwritten : IsLiveUnwritten tables sources given given' frames frames' replies replies'
 
 -- why not all lines were answered, if it is not known where frames went
 abbrev pub IsLiveFault : (tables : TableEntries) → (sources : List (List ℕ)) → (given replies replies' : Option (List ℕ)) → LiveFault → Type 0
@@ -256,35 +262,36 @@ fault_by_live path lives.Endless = TooLong path
 fault_by_live path lives.Write = CannotWrite
 fault_by_live path lives.NoMemory = NoMemory
 
--- the requests with this name were interrupted
-pub record IsCutShort (tables : TableEntries) (sources : List (List ℕ)) (requests : List ℕ) (left replies replies' : Option (List ℕ)) (fault : Fault) : Type 0 where
+-- the requests of a command line were interrupted
+pub record IsCutShort (files : RunFiles) (line : Accepted) (tables : TableEntries) (sources : List (List ℕ)) (left replies replies' : Option (List ℕ)) (fault : Fault) : Type 0 where
   pub path : Bor (List ℕ)
-  pub is_theirs : path.now ≡ requests
+  pub is_theirs : path.now ≡ line.words.requests.now
   pub why : LiveFault
   pub reported : fault ≡ fault_by_live path why
   pub given : Option (List ℕ)
-  pub input : IsInput requests left given
+  pub input : IsInput files.contents line.words.requests.now left given
   pub interrupted : IsInterrupted tables sources given replies replies' why
 
 -- the file of the requests could not be opened, and no reply was written
-abbrev pub IsUnopened : (requests : List ℕ) → (replies replies' : Option (List ℕ)) → Fault → Type 0
-IsUnopened requests replies replies' (CannotRead path) = (path.now ≡ requests) × (replies' ≡ replies)
-IsUnopened requests replies replies' _ = ⊥
+abbrev pub IsUnopened : RunFiles → Accepted → (replies replies' : Option (List ℕ)) → Fault → Type 0
+IsUnopened files line replies replies' (CannotRead path) = (path.now ≡ line.words.requests.now) × (files.contents.known path.now ≡ None) × (replies' ≡ replies)
+IsUnopened files line replies replies' _ = ⊥
 
--- a writer stopped the answers to the lines of the requests with this name
-abbrev pub AreLiveStopped : (requests : List ℕ) → (left replies replies' : Option (List ℕ)) → (tables : TableEntries) → (sources : List (List ℕ)) → Type 0
-AreLiveStopped requests left replies replies' tables sources = (given : Option (List ℕ)) × IsInput requests left given × IsLiveStopped tables sources given replies replies'
+-- a writer stopped the answers to the lines of the requests of a command line
+abbrev pub AreLiveStopped : RunFiles → Accepted → (left replies replies' : Option (List ℕ)) → (tables : TableEntries) → (sources : List (List ℕ)) → Type 0
+AreLiveStopped files line left replies replies' tables sources =
+    (given : Option (List ℕ)) × IsInput files.contents line.words.requests.now left given × IsLiveStopped tables sources given replies replies'
 
--- why not all requests with this name were answered: as for requests in a list, or they were interrupted
-abbrev pub IsLiveRefused : (tables : TableEntries) → (sources : List (List ℕ)) → (requests : List ℕ) → (left replies replies' : Option (List ℕ)) → Fault → Type 0
-IsLiveRefused tables sources requests left replies replies' fault =
-    IsUnreplied sources (AreLiveStopped requests left replies replies' tables sources) replies replies' fault
-    ⊎ IsUnopened requests replies replies' fault
-    ⊎ IsCutShort tables sources requests left replies replies' fault
+-- why not all requests of a command line were answered: as for requests in a list, or they were interrupted
+abbrev pub IsLiveRefused : RunFiles → Accepted → (tables : TableEntries) → (sources : List (List ℕ)) → (left replies replies' : Option (List ℕ)) → Fault → Type 0
+IsLiveRefused files line tables sources left replies replies' fault =
+    IsUnreplied sources (AreLiveStopped files line left replies replies' tables sources) replies replies' fault
+    ⊎ IsUnopened files line replies replies' fault
+    ⊎ IsCutShort files line tables sources left replies replies' fault
 
 -- why the program exits with requests that come one after another: as for requests in a list, or the requests were interrupted, and the lines before
 -- that were answered
-abbrev pub IsLiveEnded : (unnamed : List ℕ) → (tables : Option (List ℕ)) → (names : List (List ℕ)) → (requests : List ℕ) → (left left' replies replies' : Option (List ℕ)) → Fault → Type 0
-IsLiveEnded unnamed tables names requests left left' replies replies' fault =
-    IsEnded unnamed tables names requests left left' replies replies' (AreLiveStopped requests left replies replies') (AreLiveReplied requests left replies replies') fault
-    ⊎ OverSources unnamed names (λ entries sources. IsCutShort entries sources requests left replies replies' fault)
+abbrev pub IsLiveEnded : RunFiles → Accepted → (left left' replies replies' : Option (List ℕ)) → Fault → Type 0
+IsLiveEnded files line left left' replies replies' fault =
+    IsEnded files line left left' replies replies' (AreLiveStopped files line left replies replies') (AreLiveReplied files line left replies replies') fault
+    ⊎ OverSources files line (λ tables sources. IsCutShort files line tables sources left replies replies' fault)

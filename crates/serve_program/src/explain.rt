@@ -28,11 +28,11 @@ pub fn is_asked<S: AsStr>(words: &[S]) -> bool
     words.iter().any(|word| word.as_str() == "--explain")
 }
 
-/// Names the option `--explain` after a run that ended with an error, unless it was given.
+/// Names the option `--explain` after a run that ended with an error, unless it was given. A refused frame is no error.
 pub fn name_explain<S: AsStr, E: Write>(words: &[S], status: u8, errors: &mut E) -> io::Result<()>
-    ensures { OnOk result (Appends (E.contents errors.old) (E.contents errors.new) (if status == 0 || list_any (λ word. pointwise nat_eq (S.text word) (codes "--explain")) words.now then [] else codes "with --explain the next line says why, and what to do\n")) }
+    ensures { OnOk result (Appends (E.contents errors.old) (E.contents errors.new) (if status == 0 || status == 3 || list_any (λ word. pointwise nat_eq (S.text word) (codes "--explain")) words.now then [] else codes "with --explain the next line says why, and what to do\n")) }
 {
-    if status == 0 || is_asked(words) {
+    if status == 0 || status == 3 || is_asked(words) {
         return Ok(());
     }
     errors.write_all(b"with --explain the next line says why, and what to do\n")

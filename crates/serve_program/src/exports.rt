@@ -1,7 +1,8 @@
 // The export of the frames of a session.
 ghost use Rattle.std.specs.Prelude.{◌≡◌, IfErr, IfOk, IfSome, is_some, true};
 ghost use Rattle.frame_session.specs.Exported.{IsExportFile};
-ghost use Rattle.serve_program.specs.Endings.{IsAfterExport, IsExportFault, fault_by_cut, fault_by_export, fault_by_refusal};
+ghost use Rattle.serve_program.specs.Endings.{IsExportFault, fault_by_cut, fault_by_export, fault_by_refusal};
+ghost use Rattle.serve_program.specs.Saved.{IsAfterExport};
 
 use frame_session::{CutFault, Export, ExportFault, Refusal, Session};
 use serve_arguments::{Fault, NotExported, Words};

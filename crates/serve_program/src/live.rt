@@ -1,30 +1,28 @@
 // Requests that are answered as they come.
-ghost use Rattle.std.specs.Prelude.{◌≡◌, ◌≤◌, ◌⊎◌, IfErr, IfOk, is_some, length, map, option_map};
+ghost use Rattle.std.specs.Prelude.{◌≡◌, ◌≤◌, ◌⊎◌, IfErr, IfOk, is_some, length, map};
 ghost use Rattle.std.specs.Io.KnownBytes.{Keeps};
 ghost use Rattle.std.specs.Rc.{rc_slice_items};
 ghost use Rattle.frame_session.specs.Sessions.{SessionState};
 ghost use Rattle.serve_arguments.specs.Capacities.{IsGiven};
-ghost use Rattle.serve_arguments.specs.CommandLines.{source_names};
-ghost use Rattle.serve_program.specs.Endings.{AreLiveAnswered, AreLiveReplied, IsAfterExport, IsExportFault, IsLiveEnded, IsLiveFault, IsLiveRefused, IsLiveReplied, IsSaveFault, IsServed, cached_by};
+ghost use Rattle.serve_program.specs.Endings.{AreLiveReplied, IsExportFault, IsLiveEnded, IsLiveFault, IsLiveRefused, IsLiveReplied, IsOut, IsSaveFault, IsServed, OverSources, run_files, cached_by};
+ghost use Rattle.serve_program.specs.Noted.{AreLiveNoted, IsLiveNoted};
+ghost use Rattle.serve_program.specs.Saved.{AreSaved};
 
 use crate::exports::with_export;
 use crate::messages::Messages;
-use crate::program::{BYTES_AT_ONCE, finish, taken_by};
+use crate::program::{BYTES_AT_ONCE, Served, finish, flush_buffer, taken_by};
 use crate::runs::{live_fault, settings_with, shared};
-use crate::saving::{Saves, begin_saves};
+use crate::saving::{Saves, abandon_saves, begin_saves};
 use frame_session::{LiveFault, Session, Settings, run_live_over};
-use output_files::Counted;
-use program_parts::NO_FILE;
+use output_files::{Counted, SavedFiles};
+use program_parts::{NO_FILE, NamedFiles};
 use serve_arguments::{Accepted, Fault, FilesRead, read_files};
-use std::fs::File;
 use std::io::{self, BufRead, BufReader, BufWriter, Read, Write};
 use std::rc::RcSlice;
-use std::rt::Files;
-use stream_files::EMPTY;
 
 /// Answers the lines of `requests` with frames that go to the file at `path`, which is created now, or nowhere.
 #[tactic(auto, using(crate::proofs::LiveEnded::live_stopped, crate::proofs::LiveEnded::live_unmade, crate::proofs::LiveEnded::live_unheld))]
-fn run_to_path<R: Files + AllocGlobal, I: BufRead, P: Write, E: Write>(
+fn run_to_path<R: NamedFiles + AllocGlobal, I: BufRead, P: Write, E: Write>(
     rt: &R,
     settings: Settings,
     sources: &[RcSlice<u8>],
@@ -35,7 +33,8 @@ fn run_to_path<R: Files + AllocGlobal, I: BufRead, P: Write, E: Write>(
 ) -> Result<Session, LiveFault>
     requires capacity { (1 ≤ settings.capacity.states) × (settings.capacity.states ≤ 4096) }
     requires sources { (1 ≤ length sources.now) × (length sources.now ≤ 8) }
-    ensures replied { IfOk result (λ session. IsLiveReplied settings.tables (map rc_slice_items sources.now) (I.remaining requests.old) (P.contents replies.old) (P.contents replies.new) session.now) }
+    ensures replied { IfOk result (λ session. IsLiveReplied (IsOut R.Made.contents (R.is_made_at rt.now) path.now) settings.tables (map rc_slice_items sources.now) (I.remaining requests.old) (P.contents replies.old) (P.contents replies.new) session.now) }
+    ensures noted { IfOk result (λ session. IsLiveNoted settings.tables (map rc_slice_items sources.now) (I.remaining requests.old) (P.contents replies.old) (P.contents replies.new) messages.old.has_refused messages.new.has_refused) }
     ensures capacity { IfOk result (λ session. session.cache.capacity ≡ settings.capacity) }
     ensures fault { IfErr result (IsLiveFault settings.tables (map rc_slice_items sources.now) (I.remaining requests.old) (P.contents replies.old) (P.contents replies.new)) }
 {
@@ -51,7 +50,7 @@ fn run_to_path<R: Files + AllocGlobal, I: BufRead, P: Write, E: Write>(
             messages,
         );
     }
-    let file = match File::create(rt, path) {
+    let file = match rt.make_named(path) {
         Ok(file) => file,
         Err(error) => {
             messages.cannot_create(error);
@@ -70,14 +69,20 @@ fn run_to_path<R: Files + AllocGlobal, I: BufRead, P: Write, E: Write>(
         replies,
         messages,
     );
-    if answered.is_err() {
-        messages.taken = Some(taken_by(&mut frames));
+    match answered {
+        Ok(session) => {
+            flush_buffer(&mut frames).map_err(|_| LiveFault::Write)?;
+            Ok(session)
+        }
+        Err(fault) => {
+            messages.taken = Some(taken_by(&mut frames));
+            Err(fault)
+        }
     }
-    answered
 }
 
 /// Answers the lines of a reader that is not buffered, through a buffer.
-fn run_over<R: Files + AllocGlobal, I: Read, P: Write, E: Write>(
+fn run_over<R: NamedFiles + AllocGlobal, I: Read, P: Write, E: Write>(
     rt: &R,
     settings: Settings,
     sources: &[RcSlice<u8>],
@@ -88,7 +93,8 @@ fn run_over<R: Files + AllocGlobal, I: Read, P: Write, E: Write>(
 ) -> Result<Session, LiveFault>
     requires capacity { (1 ≤ settings.capacity.states) × (settings.capacity.states ≤ 4096) }
     requires sources { (1 ≤ length sources.now) × (length sources.now ≤ 8) }
-    ensures replied { IfOk result (λ session. IsLiveReplied settings.tables (map rc_slice_items sources.now) (I.remaining reader.old) (P.contents replies.old) (P.contents replies.new) session.now) }
+    ensures replied { IfOk result (λ session. IsLiveReplied (IsOut R.Made.contents (R.is_made_at rt.now) path.now) settings.tables (map rc_slice_items sources.now) (I.remaining reader.old) (P.contents replies.old) (P.contents replies.new) session.now) }
+    ensures noted { IfOk result (λ session. IsLiveNoted settings.tables (map rc_slice_items sources.now) (I.remaining reader.old) (P.contents replies.old) (P.contents replies.new) messages.old.has_refused messages.new.has_refused) }
     ensures capacity { IfOk result (λ session. session.cache.capacity ≡ settings.capacity) }
     ensures fault { IfErr result (IsLiveFault settings.tables (map rc_slice_items sources.now) (I.remaining reader.old) (P.contents replies.old) (P.contents replies.new)) }
 {
@@ -106,7 +112,7 @@ fn run_over<R: Files + AllocGlobal, I: Read, P: Write, E: Write>(
 
 /// Answers the request lines as they come: those of `input` if no file is given.
 #[tactic(auto, using(crate::proofs::LiveEnded::requests_refused))]
-fn run_requests<'a, R: Files + AllocGlobal, I: Read, P: Write, E: Write>(
+fn run_requests<'a, R: NamedFiles + SavedFiles + AllocGlobal, I: Read, P: Write, E: Write>(
     rt: &R,
     line: &Accepted<'a>,
     settings: Settings,
@@ -117,9 +123,10 @@ fn run_requests<'a, R: Files + AllocGlobal, I: Read, P: Write, E: Write>(
 ) -> Result<Session, Fault<'a>>
     requires capacity { (1 ≤ settings.capacity.states) × (settings.capacity.states ≤ 4096) }
     requires sources { (1 ≤ length sources.now) × (length sources.now ≤ 8) }
-    ensures replied { IfOk result (λ session. AreLiveReplied line.now.words.requests.now (I.remaining input.old) (P.contents replies.old) (P.contents replies.new) session.now settings.tables (map rc_slice_items sources.now)) }
+    ensures replied { IfOk result (λ session. AreLiveReplied (run_files (R.bytes_at rt.now) R.Made.contents (R.is_made_at rt.now) (R.is_saved_at rt.now)) line.now (I.remaining input.old) (P.contents replies.old) (P.contents replies.new) session.now settings.tables (map rc_slice_items sources.now)) }
+    ensures noted { IfOk result (λ session. AreLiveNoted (run_files (R.bytes_at rt.now) R.Made.contents (R.is_made_at rt.now) (R.is_saved_at rt.now)) line.now (I.remaining input.old) (P.contents replies.old) (P.contents replies.new) messages.old.has_refused messages.new.has_refused settings.tables (map rc_slice_items sources.now)) }
     ensures capacity { IfOk result (λ session. session.cache.capacity ≡ settings.capacity) }
-    ensures refused { IfErr result (IsLiveRefused settings.tables (map rc_slice_items sources.now) line.now.words.requests.now (I.remaining input.old) (P.contents replies.old) (P.contents replies.new)) }
+    ensures refused { IfErr result (IsLiveRefused (run_files (R.bytes_at rt.now) R.Made.contents (R.is_made_at rt.now) (R.is_saved_at rt.now)) line.now settings.tables (map rc_slice_items sources.now) (I.remaining input.old) (P.contents replies.old) (P.contents replies.new)) }
 {
     let path = line.words.requests;
     let frames = line.words.frames;
@@ -129,7 +136,7 @@ fn run_requests<'a, R: Files + AllocGlobal, I: Read, P: Write, E: Write>(
             Err(fault) => Err(live_fault(fault, path)),
         };
     }
-    let mut file = File::open(rt, path).map_err(|_| Fault::CannotRead(path))?;
+    let mut file = rt.open_named(path).map_err(|_| Fault::CannotRead(path))?;
     match run_over(rt, settings, sources, &mut file, frames, replies, messages) {
         Ok(session) => Ok(session),
         Err(fault) => Err(live_fault(fault, path)),
@@ -138,23 +145,26 @@ fn run_requests<'a, R: Files + AllocGlobal, I: Read, P: Write, E: Write>(
 
 /// Exports the frames if that is asked for, saves what was begun, and reports trailing bytes. If the frames are not exported, what was begun is given
 /// up. Returns the session.
-fn finish_live<R: Files + AllocGlobal, E: Write>(
+#[tactic(auto, using(crate::proofs::Finished::all_saved))]
+fn finish_live<R: SavedFiles + AllocGlobal, E: Write>(
     rt: &R,
     session: Session,
     line: &Accepted<'_>,
     sources: &[RcSlice<u8>],
-    saves: Saves<'_, R>,
+    saves: Saves<R::Begun>,
     messages: &mut Messages<'_, E>,
 ) -> Result<Session, Fault<'static>>
-    requires { IsGiven line.now.capacity }
-    ensures after { IfOk result (λ new. IsAfterExport (is_some line.now.words.exported) session.now new.now) }
+    requires capacity { IsGiven line.now.capacity }
+    requires packets { is_some saves.packets ≡ is_some line.now.words.saved }
+    requires frames { is_some saves.frames ≡ is_some line.now.words.exported }
+    ensures saved { IfOk result (λ new. AreSaved (R.is_saved_at rt.now) line.now.words session.now new.now) }
     ensures capacity { IfOk result (λ new. new.cache.capacity ≡ session.cache.capacity) }
     ensures fault { IfErr result (λ fault. IsSaveFault fault ⊎ IsExportFault session.now fault) }
 {
     match with_export(session, line.words) {
         Ok(done) => finish(rt, done, line, sources, saves, messages),
         Err(fault) => {
-            saves.abandon();
+            abandon_saves(rt, saves);
             Err(fault)
         }
     }
@@ -162,20 +172,20 @@ fn finish_live<R: Files + AllocGlobal, E: Write>(
 
 /// Answers the request lines over the files that were read, as they come, exports the frames and saves the packets of source 0 if that is asked for:
 /// the new files are made before the first line is read.
-/// Returns the session after that.
-fn answer_files<'a, R: Files + AllocGlobal, I: Read, O: Write, E: Write>(
+fn answer_files<'a, R: NamedFiles + SavedFiles + AllocGlobal, I: Read, O: Write, E: Write>(
     rt: &R,
     line: &Accepted<'a>,
     files: FilesRead,
     input: &mut I,
     output: &mut O,
     messages: &mut Messages<'_, E>,
-) -> Result<Session, Fault<'a>>
+) -> Result<Served, Fault<'a>>
     requires capacity { IsGiven line.now.capacity }
     requires sources { (1 ≤ length files.sources.items) × (length files.sources.items ≤ 8) }
-    ensures replied { IfOk result (λ session. AreLiveAnswered line.now.words.requests.now (I.remaining input.old) (O.contents output.old) (O.contents output.new) (is_some line.now.words.exported) session.now files.tables (map (λ bytes. bytes.items) files.sources.items)) }
-    ensures capacity { IfOk result (λ session. session.cache.capacity ≡ cached_by line.now.capacity) }
-    ensures refused { IfErr result (λ fault. IsLiveRefused files.tables (map (λ bytes. bytes.items) files.sources.items) line.now.words.requests.now (I.remaining input.old) (O.contents output.old) (O.contents output.new) fault ⊎ (IsSaveFault fault × Keeps (O.contents output.old) (O.contents output.new)) ⊎ ((end : SessionState) × AreLiveReplied line.now.words.requests.now (I.remaining input.old) (O.contents output.old) (O.contents output.new) end files.tables (map (λ bytes. bytes.items) files.sources.items) × (IsSaveFault fault ⊎ IsExportFault end fault))) }
+    ensures replied { IfOk result (λ served. (end : SessionState) × AreLiveReplied (run_files (R.bytes_at rt.now) R.Made.contents (R.is_made_at rt.now) (R.is_saved_at rt.now)) line.now (I.remaining input.old) (O.contents output.old) (O.contents output.new) end files.tables (map (λ bytes. bytes.items) files.sources.items) × AreSaved (R.is_saved_at rt.now) line.now.words end served.session.now) }
+    ensures noted { IfOk result (λ served. AreLiveNoted (run_files (R.bytes_at rt.now) R.Made.contents (R.is_made_at rt.now) (R.is_saved_at rt.now)) line.now (I.remaining input.old) (O.contents output.old) (O.contents output.new) messages.old.has_refused served.has_refused files.tables (map (λ bytes. bytes.items) files.sources.items)) }
+    ensures capacity { IfOk result (λ served. served.session.cache.capacity ≡ cached_by line.now.capacity) }
+    ensures refused { IfErr result (λ fault. IsLiveRefused (run_files (R.bytes_at rt.now) R.Made.contents (R.is_made_at rt.now) (R.is_saved_at rt.now)) line.now files.tables (map (λ bytes. bytes.items) files.sources.items) (I.remaining input.old) (O.contents output.old) (O.contents output.new) fault ⊎ (IsSaveFault fault × Keeps (O.contents output.old) (O.contents output.new)) ⊎ ((end : SessionState) × AreLiveReplied (run_files (R.bytes_at rt.now) R.Made.contents (R.is_made_at rt.now) (R.is_saved_at rt.now)) line.now (I.remaining input.old) (O.contents output.old) (O.contents output.new) end files.tables (map (λ bytes. bytes.items) files.sources.items) × (IsSaveFault fault ⊎ IsExportFault end fault))) }
 {
     let FilesRead { tables, sources } = files;
     let sources = shared(rt.alloc(), sources)?;
@@ -190,27 +200,35 @@ fn answer_files<'a, R: Files + AllocGlobal, I: Read, O: Write, E: Write>(
         output,
         messages,
     );
+    let has_refused = messages.has_refused();
     match answered {
-        Ok(session) => finish_live(rt, session, line, sources.as_slice(), saves, messages),
+        Ok(session) => {
+            let session = finish_live(rt, session, line, sources.as_slice(), saves, messages)?;
+            Ok(Served {
+                session,
+                has_refused,
+            })
+        }
         Err(fault) => {
-            saves.abandon();
+            abandon_saves(rt, saves);
             Err(fault)
         }
     }
 }
 
-/// Does what an accepted command line with `--live` asks for. Returns the session after the last line.
-pub fn answer_live<'a, R: Files + AllocGlobal, I: Read, O: Write, E: Write>(
+/// Does what an accepted command line with `--live` asks for.
+pub fn answer_live<'a, R: NamedFiles + SavedFiles + AllocGlobal, I: Read, O: Write, E: Write>(
     rt: &R,
     line: &Accepted<'a>,
     input: &mut I,
     output: &mut O,
     messages: &mut Messages<'_, E>,
-) -> Result<Session, Fault<'a>>
+) -> Result<Served, Fault<'a>>
     requires capacity { IsGiven line.now.capacity }
     requires paths { length line.now.more.items ≤ 7 }
-    ensures served { IfOk result (λ session. IsServed EMPTY (source_names line.now) (is_some line.now.words.tables) line.now.capacity session.cache.capacity (AreLiveAnswered line.now.words.requests.now (I.remaining input.old) (O.contents output.old) (O.contents output.new) (is_some line.now.words.exported) session.now)) }
-    ensures ended { IfErr result (IsLiveEnded EMPTY (option_map (λ path. path.now) line.now.words.tables) (source_names line.now) line.now.words.requests.now (I.remaining input.old) (I.remaining input.new) (O.contents output.old) (O.contents output.new)) }
+    ensures served { IfOk result (λ served. IsServed (run_files (R.bytes_at rt.now) R.Made.contents (R.is_made_at rt.now) (R.is_saved_at rt.now)) line.now served.session.cache.capacity (AreLiveReplied (run_files (R.bytes_at rt.now) R.Made.contents (R.is_made_at rt.now) (R.is_saved_at rt.now)) line.now (I.remaining input.old) (O.contents output.old) (O.contents output.new)) served.session.now) }
+    ensures noted { IfOk result (λ served. OverSources (run_files (R.bytes_at rt.now) R.Made.contents (R.is_made_at rt.now) (R.is_saved_at rt.now)) line.now (AreLiveNoted (run_files (R.bytes_at rt.now) R.Made.contents (R.is_made_at rt.now) (R.is_saved_at rt.now)) line.now (I.remaining input.old) (O.contents output.old) (O.contents output.new) messages.old.has_refused served.has_refused)) }
+    ensures ended { IfErr result (IsLiveEnded (run_files (R.bytes_at rt.now) R.Made.contents (R.is_made_at rt.now) (R.is_saved_at rt.now)) line.now (I.remaining input.old) (I.remaining input.new) (O.contents output.old) (O.contents output.new)) }
 {
     let files = read_files(rt, line)?;
     answer_files(rt, line, files, input, output, messages)

@@ -1,6 +1,7 @@
 // What goes to standard error.
 ghost use Rattle.std.specs.Prelude.{◌≡◌, ◌+◌, ◌-◌, ◌*◌, ◌/◌, ◌^◌, min, None, Some, false, option_map, slice_index_or};
 ghost use Rattle.output_files.specs.Counts.{whole_pieces};
+ghost use Rattle.frame_session.specs.Noted.{Notes};
 ghost use Rattle.serve_program.specs.Frames.{frame_length};
 ghost use Rattle.serve_arguments.specs.Statuses.{fault_of};
 
@@ -34,6 +35,8 @@ pub struct Messages<'a, E> {
     no_text: u64,
     /// Whether an edit of this source was accepted.
     edited: [bool; 8],
+    /// Whether a request for a frame was refused.
+    has_refused: bool,
     /// Why the file for the frames could not be created, if it could not be.
     pub refused: Option<io::Error>,
     /// The file that was not saved, if one was not.
@@ -50,6 +53,7 @@ impl<'a, E: Write> Messages<'a, E> {
         ensures explains { result.explains ≡ explains }
         ensures answered { result.answered ≡ 0 }
         ensures no_text { result.no_text ≡ 0 }
+        ensures has_refused { result.has_refused ≡ false }
         ensures refused { result.refused ≡ None }
         ensures unsaved { result.unsaved ≡ None }
         ensures size { result.size ≡ None }
@@ -61,6 +65,7 @@ impl<'a, E: Write> Messages<'a, E> {
             answered: 0,
             no_text: 0,
             edited: [false; 8],
+            has_refused: false,
             refused: None,
             unsaved: None,
             size: None,
@@ -73,6 +78,13 @@ impl<'a, E: Write> Messages<'a, E> {
         ensures { result ≡ min (self.now.answered + 1) (2 ^ 64 - 1) }
     {
         self.answered.saturating_add(1)
+    }
+
+    /// Whether a request for a frame was refused.
+    pub fn has_refused(&self) -> bool
+        ensures { result ≡ self.now.has_refused }
+    {
+        self.has_refused
     }
 
     /// The error of a file for the frames that could not be created.
@@ -88,6 +100,7 @@ impl<'a, E: Write> Messages<'a, E> {
     pub fn not_saved(&mut self, file: UnsavedFile) -> Fault<'static>
         ensures fault { result ≡ fault_of file.why }
         ensures unsaved { self.new.unsaved ≡ Some file }
+        ensures has_refused { self.new.has_refused ≡ self.old.has_refused }
     {
         self.unsaved = Some(file);
         Fault::from(file.why)
@@ -124,8 +137,19 @@ impl<E: Write> Messages<'_, E> {
         }
     }
 
+    /// Takes note of a request for a frame that was refused.
+    fn note_refusal(&mut self, asks_frame: bool, refusal: Option<Refusal>)
+        ensures { Notes self.old.has_refused self.new.has_refused asks_frame refusal }
+    {
+        if asks_frame && refusal.is_some() {
+            self.has_refused = true;
+        }
+    }
+
     /// Takes note of an edit that was accepted.
-    fn note_edit(&mut self, session: &Session, line: &[u8]) {
+    fn note_edit(&mut self, session: &Session, line: &[u8])
+        ensures { self.new.has_refused ≡ self.old.has_refused }
+    {
         if !matches!(read_line(line), Ok(Line::Edit(_))) {
             return;
         }
@@ -136,7 +160,9 @@ impl<E: Write> Messages<'_, E> {
 
     /// Whether a refused line is explained: of requests that are no text only the first lines are. Before the first of
     /// these a line says so.
-    fn is_explained(&mut self, line: &[u8], refusal: Refusal) -> bool {
+    fn is_explained(&mut self, line: &[u8], refusal: Refusal) -> bool
+        ensures { self.new.has_refused ≡ self.old.has_refused }
+    {
         if refusal != Refusal::Line || self.no_text == 0 && !is_no_text(line) {
             return true;
         }
@@ -152,8 +178,17 @@ impl<E: Write> Messages<'_, E> {
 }
 
 impl<E: Write> Observer for Messages<'_, E> {
-    fn answered(&mut self, session: &Session, line: &[u8], refusal: Option<Refusal>) {
+    ghost has_refused = { λ messages. messages.has_refused };
+
+    fn answered(
+        &mut self,
+        session: &Session,
+        line: &[u8],
+        asks_frame: bool,
+        refusal: Option<Refusal>,
+    ) {
         self.answered = self.answered.saturating_add(1);
+        self.note_refusal(asks_frame, refusal);
         if !self.explains {
             return;
         }

@@ -1,14 +1,20 @@
 // The program over a reader and two writers.
-ghost use Rattle.std.specs.Prelude.{◌≡◌, ◌≤◌, ◌⊎◌, ℕ, [], IfOk, IfErr, IfSome, List, None, OnOk, Option, codes, is_some, length, map, option_map};
-ghost use Rattle.std.specs.Io.Buffered.{writer_buffer};
-ghost use Rattle.std.specs.Io.KnownBytes.{Appends};
+ghost use Rattle.std.specs.Prelude.{◌≡◌, ◌≤◌, ◌⊎◌, ℕ, [], false, true, IfOk, IfErr, IfSome, List, OnOk, Option, codes, is_some, length, map, nat_eq};
+ghost use Rattle.std.specs.Cmp.Lexicographic.{pointwise};
+ghost use Rattle.std.specs.List.{list_any};
+ghost use Rattle.std.specs.Io.Buffered.{writer_buffer, writer_contents};
+ghost use Rattle.std.specs.Io.KnownBytes.{Appends, Keeps};
 ghost use Rattle.std.specs.Rc.{rc_slice_items};
 ghost use Rattle.frame_session.specs.Answers.{Means};
+ghost use Rattle.frame_session.specs.Noted.{MeansNoted};
 ghost use Rattle.frame_session.specs.Sessions.{SessionState};
+ghost use Rattle.program_parts.specs.Endings.{IsHelp};
 ghost use Rattle.serve_arguments.specs.Capacities.{IsGiven};
-ghost use Rattle.serve_arguments.specs.CommandLines.{source_names};
-ghost use Rattle.serve_arguments.specs.Readings.{AreNamed};
-ghost use Rattle.serve_program.specs.Endings.{AreAnswered, AreReplied, AreStopped, IsAfterExport, IsEnded, IsExportFault, IsRefused, IsReplied, IsSaveFault, IsServed, IsStopped, IsUnreplied, spare_text, cached_by};
+ghost use Rattle.serve_arguments.specs.Readings.{AreRequests, contents_of};
+ghost use Rattle.serve_program.specs.Done.{IsDone, IsExitStatus, IsServedAs};
+ghost use Rattle.serve_program.specs.Endings.{AreReplied, AreStopped, IsEnded, IsExportFault, IsOut, IsOver, IsRefused, IsReplied, IsSaveFault, IsServed, IsStopped, IsUnreplied, OverSources, run_files, spare_text, cached_by};
+ghost use Rattle.serve_program.specs.Noted.{AreNoted, IsNoted, IsNotedAs, status_after};
+ghost use Rattle.serve_program.specs.Saved.{ArePacketsSaved, AreSaved, IsExportSaved};
 
 use crate::explain::{explain_end, explain_export, explain_fault, is_asked};
 use crate::exports::{Answered, with_export};
@@ -17,20 +23,18 @@ use crate::messages::Messages;
 use crate::runs::{run_fault, settings_with, shared};
 use crate::saving::{Saves, begin_saves, finish_saves};
 use frame_session::{Observer, Session, Settings, run_over};
-use output_files::{Counted, Taken};
-use program_parts::{NO_FILE, exit_status, help_or_mistake};
+use output_files::{Counted, SavedFiles, Taken};
+use program_parts::{NO_FILE, NamedFiles, exit_status, help_or_mistake};
 use serve_arguments::{
-    Accepted, Fault, FilesRead, Inputs, check_places, parse, read_inputs, report_cache,
+    Accepted, Fault, FilesRead, Inputs, Words, check_places, read_inputs, report_cache,
 };
 use std::alloc::Global;
 use std::convert::AsStr;
-use std::fs::File;
 use std::io::{self, BufWriter, Read, Write};
 use std::rc::RcSlice;
-use std::rt::Files;
 use stream_files::{EMPTY, FileBytes};
 
-/// The number of bytes of frames or packets that are buffered.
+/// The number of bytes of frames that are buffered.
 pub const BYTES_AT_ONCE: usize = 65_536;
 
 /// Runs the requests over the files of the sources, 1 to 8, whose bytes are borrowed or shared, and flushes the frames and then the replies. The
@@ -48,6 +52,7 @@ pub fn run_to<B: FileBytes, F: Write, P: Write, V: Observer>(
     requires capacity { (1 ≤ settings.capacity.states) × (settings.capacity.states ≤ 4096) }
     requires sources { (1 ≤ length sources.now) × (length sources.now ≤ 8) }
     ensures answered { IfOk result (λ session. Means settings.tables (map B.bytes sources.now) requests.now (F.contents frames.old) (F.contents frames.new) (P.contents replies.old) (P.contents replies.new) session.now) }
+    ensures noted { IfOk result (λ session. MeansNoted settings.tables (map B.bytes sources.now) requests.now (F.contents frames.old) (F.contents frames.new) (P.contents replies.old) (P.contents replies.new) session.now (V.has_refused observer.old) (V.has_refused observer.new)) }
     ensures capacity { IfOk result (λ session. session.cache.capacity ≡ settings.capacity) }
     ensures refused { IfErr result (IsRefused settings.tables (map B.bytes sources.now) requests.now (F.contents frames.old) (F.contents frames.new) (P.contents replies.old) (P.contents replies.new)) }
 {
@@ -68,7 +73,7 @@ pub fn run_to<B: FileBytes, F: Write, P: Write, V: Observer>(
 
 /// Runs the requests with frames that go to the file at `path`, which is created now, or nowhere.
 #[tactic(auto, using(crate::proofs::Ended::unreplied, crate::proofs::Ended::unmade, crate::proofs::Ended::unheld))]
-fn run_to_path<R: Files + AllocGlobal, P: Write, E: Write>(
+fn run_to_path<R: NamedFiles + AllocGlobal, P: Write, E: Write>(
     rt: &R,
     settings: Settings,
     sources: &[RcSlice<u8>],
@@ -79,7 +84,8 @@ fn run_to_path<R: Files + AllocGlobal, P: Write, E: Write>(
 ) -> Result<Session, Fault<'static>>
     requires capacity { (1 ≤ settings.capacity.states) × (settings.capacity.states ≤ 4096) }
     requires sources { (1 ≤ length sources.now) × (length sources.now ≤ 8) }
-    ensures replied { IfOk result (λ session. IsReplied settings.tables (map rc_slice_items sources.now) requests.now (P.contents replies.old) (P.contents replies.new) session.now) }
+    ensures replied { IfOk result (λ session. IsReplied (IsOut R.Made.contents (R.is_made_at rt.now) path.now) settings.tables (map rc_slice_items sources.now) requests.now (P.contents replies.old) (P.contents replies.new) session.now) }
+    ensures noted { IfOk result (λ session. IsNoted settings.tables (map rc_slice_items sources.now) requests.now (P.contents replies.old) (P.contents replies.new) messages.old.has_refused messages.new.has_refused) }
     ensures capacity { IfOk result (λ session. session.cache.capacity ≡ settings.capacity) }
     ensures refused { IfErr result (IsUnreplied (map rc_slice_items sources.now) (IsStopped settings.tables (map rc_slice_items sources.now) requests.now (P.contents replies.old) (P.contents replies.new)) (P.contents replies.old) (P.contents replies.new)) }
 {
@@ -95,7 +101,7 @@ fn run_to_path<R: Files + AllocGlobal, P: Write, E: Write>(
             messages,
         );
     }
-    let file = match File::create(rt, path) {
+    let file = match rt.make_named(path) {
         Ok(file) => file,
         Err(error) => return Err(messages.cannot_create(error)),
     };
@@ -111,10 +117,25 @@ fn run_to_path<R: Files + AllocGlobal, P: Write, E: Write>(
         replies,
         messages,
     );
-    if answered.is_err() {
-        messages.taken = Some(taken_by(&mut frames));
+    match answered {
+        Ok(session) => {
+            flush_buffer(&mut frames)?;
+            Ok(session)
+        }
+        Err(fault) => {
+            messages.taken = Some(taken_by(&mut frames));
+            Err(fault)
+        }
     }
-    answered
+}
+
+/// Flushes a buffer.
+pub fn flush_buffer<O: Write + Drop>(output: &mut BufWriter<O>) -> Result<(), Fault<'static>>
+    ensures flushed { OnOk result (writer_buffer output.new ≡ []) }
+    ensures kept { Keeps (writer_contents O.contents output.old) (writer_contents O.contents output.new) }
+    ensures fault { IfErr result (λ fault. fault ≡ Fault.CannotWrite) }
+{
+    output.flush().map_err(|_| Fault::CannotWrite)
 }
 
 /// How many bytes a file took of a run that failed: what is left in the buffer is written now.
@@ -157,16 +178,20 @@ fn end<E: Write>(
 }
 
 /// Saves the packets of source 0 and the export of the frames as they were begun, and reports trailing bytes. Returns the session.
-pub fn finish<R: Files + AllocGlobal, E: Write>(
+pub fn finish<R: SavedFiles + AllocGlobal, E: Write>(
     rt: &R,
     done: Answered,
     line: &Accepted<'_>,
     sources: &[RcSlice<u8>],
-    saves: Saves<'_, R>,
+    saves: Saves<R::Begun>,
     messages: &mut Messages<'_, E>,
 ) -> Result<Session, Fault<'static>>
-    requires { IsGiven line.now.capacity }
+    requires capacity { IsGiven line.now.capacity }
+    requires packets { is_some saves.packets ≡ is_some line.now.words.saved }
+    requires frames { is_some saves.frames ≡ is_some line.now.words.exported }
     ensures session { IfOk result (λ session. session ≡ done.session) }
+    ensures packets { OnOk result (ArePacketsSaved (R.is_saved_at rt.now) line.now.words done.session.now) }
+    ensures frames { OnOk result (IfSome done.export (IsExportSaved (R.is_saved_at rt.now) line.now.words)) }
     ensures fault { IfErr result IsSaveFault }
 {
     finish_saves(rt, &done, line.words, saves, messages)?;
@@ -176,7 +201,8 @@ pub fn finish<R: Files + AllocGlobal, E: Write>(
 }
 
 /// Exports the frames if that is asked for, then begins the saves and finishes them. Returns the session.
-fn finish_batch<R: Files + AllocGlobal, E: Write>(
+#[tactic(auto, using(crate::proofs::Finished::all_saved))]
+fn finish_batch<R: SavedFiles + AllocGlobal, E: Write>(
     rt: &R,
     session: Session,
     line: &Accepted<'_>,
@@ -184,7 +210,7 @@ fn finish_batch<R: Files + AllocGlobal, E: Write>(
     messages: &mut Messages<'_, E>,
 ) -> Result<Session, Fault<'static>>
     requires { IsGiven line.now.capacity }
-    ensures after { IfOk result (λ new. IsAfterExport (is_some line.now.words.exported) session.now new.now) }
+    ensures saved { IfOk result (λ new. AreSaved (R.is_saved_at rt.now) line.now.words session.now new.now) }
     ensures capacity { IfOk result (λ new. new.cache.capacity ≡ session.cache.capacity) }
     ensures fault { IfErr result (λ fault. IsSaveFault fault ⊎ IsExportFault session.now fault) }
 {
@@ -193,22 +219,29 @@ fn finish_batch<R: Files + AllocGlobal, E: Write>(
     finish(rt, done, line, sources, saves, messages)
 }
 
-/// Answers the requests over what was read, exports the frames and saves the packets of source 0 if that is asked for. Returns the session after
-/// that.
+/// What was asked is done: the session after that, and whether a request for a frame was refused.
+#[derive(Drop)]
+pub struct Served {
+    pub session: Session,
+    pub has_refused: bool,
+}
+
+/// Answers the requests over what was read, exports the frames and saves the packets of source 0 if that is asked for.
 #[tactic(auto, using(crate::proofs::Ended::run_ended, crate::proofs::Ended::memory_ended, crate::proofs::Ended::finish_ended))]
-fn answer_inputs<R: Files + AllocGlobal, O: Write, E: Write>(
+fn answer_inputs<R: NamedFiles + SavedFiles + AllocGlobal, O: Write, E: Write>(
     rt: &R,
     line: &Accepted<'_>,
     inputs: Inputs,
     output: &mut O,
     messages: &mut Messages<'_, E>,
-) -> Result<Session, Fault<'static>>
+) -> Result<Served, Fault<'static>>
     requires capacity { IsGiven line.now.capacity }
     requires paths { length line.now.more.items ≤ 7 }
-    requires named { AreNamed EMPTY (source_names line.now) (map (λ bytes. bytes.items) inputs.files.sources.items) }
-    ensures replied { IfOk result (λ session. (end : SessionState) × IsReplied inputs.files.tables (map (λ bytes. bytes.items) inputs.files.sources.items) inputs.requests.items (O.contents output.old) (O.contents output.new) end × IsAfterExport (is_some line.now.words.exported) end session.now) }
-    ensures capacity { IfOk result (λ session. session.cache.capacity ≡ cached_by line.now.capacity) }
-    ensures ended { IfErr result (λ fault. (left : Option (List ℕ)) → (left' : Option (List ℕ)) → (line.now.words.requests.now ≡ codes "-" → IfSome left (λ bytes. inputs.requests.items ≡ bytes)) → IsEnded EMPTY (option_map (λ path. path.now) line.now.words.tables) (source_names line.now) line.now.words.requests.now left left' (O.contents output.old) (O.contents output.new) (AreStopped line.now.words.requests.now left (O.contents output.old) (O.contents output.new)) (AreReplied line.now.words.requests.now left (O.contents output.old) (O.contents output.new)) fault) }
+    requires read { IsOver (run_files (R.bytes_at rt.now) R.Made.contents (R.is_made_at rt.now) (R.is_saved_at rt.now)) line.now inputs.files.tables (map (λ bytes. bytes.items) inputs.files.sources.items) }
+    ensures replied { IfOk result (λ served. (end : SessionState) × IsReplied (IsOut R.Made.contents (R.is_made_at rt.now) line.now.words.frames.now) inputs.files.tables (map (λ bytes. bytes.items) inputs.files.sources.items) inputs.requests.items (O.contents output.old) (O.contents output.new) end × AreSaved (R.is_saved_at rt.now) line.now.words end served.session.now) }
+    ensures noted { IfOk result (λ served. IsNoted inputs.files.tables (map (λ bytes. bytes.items) inputs.files.sources.items) inputs.requests.items (O.contents output.old) (O.contents output.new) messages.old.has_refused served.has_refused) }
+    ensures capacity { IfOk result (λ served. served.session.cache.capacity ≡ cached_by line.now.capacity) }
+    ensures ended { IfErr result (λ fault. (left : Option (List ℕ)) → (left' : Option (List ℕ)) → AreRequests (contents_of (R.bytes_at rt.now) EMPTY) line.now.words.requests.now left inputs.requests.items → IsEnded (run_files (R.bytes_at rt.now) R.Made.contents (R.is_made_at rt.now) (R.is_saved_at rt.now)) line.now left left' (O.contents output.old) (O.contents output.new) (AreStopped (run_files (R.bytes_at rt.now) R.Made.contents (R.is_made_at rt.now) (R.is_saved_at rt.now)) line.now left (O.contents output.old) (O.contents output.new)) (AreReplied (run_files (R.bytes_at rt.now) R.Made.contents (R.is_made_at rt.now) (R.is_saved_at rt.now)) line.now left (O.contents output.old) (O.contents output.new)) fault) }
 {
     let Inputs { files, requests } = inputs;
     let FilesRead { tables, sources } = files;
@@ -223,66 +256,120 @@ fn answer_inputs<R: Files + AllocGlobal, O: Write, E: Write>(
         output,
         messages,
     )?;
-    finish_batch(rt, session, line, sources.as_slice(), messages)
+    let has_refused = messages.has_refused();
+    let session = finish_batch(rt, session, line, sources.as_slice(), messages)?;
+    Ok(Served {
+        session,
+        has_refused,
+    })
 }
 
-/// Does what an accepted command line asks for. Returns the session after the last request.
+/// Does what an accepted command line asks for.
 #[tactic(auto, using(crate::proofs::Ended::unread_ended))]
-fn answer<'a, R: Files + AllocGlobal, I: Read, O: Write, E: Write>(
+fn answer<'a, R: NamedFiles + SavedFiles + AllocGlobal, I: Read, O: Write, E: Write>(
     rt: &R,
     line: &Accepted<'a>,
     input: &mut I,
     output: &mut O,
     messages: &mut Messages<'_, E>,
-) -> Result<Session, Fault<'a>>
+) -> Result<Served, Fault<'a>>
     requires capacity { IsGiven line.now.capacity }
     requires paths { length line.now.more.items ≤ 7 }
-    ensures served { IfOk result (λ session. IsServed EMPTY (source_names line.now) (is_some line.now.words.tables) line.now.capacity session.cache.capacity (AreAnswered line.now.words.requests.now (I.remaining input.old) (O.contents output.old) (O.contents output.new) (is_some line.now.words.exported) session.now)) }
-    ensures ended { IfErr result (IsEnded EMPTY (option_map (λ path. path.now) line.now.words.tables) (source_names line.now) line.now.words.requests.now (I.remaining input.old) (I.remaining input.new) (O.contents output.old) (O.contents output.new) (AreStopped line.now.words.requests.now (I.remaining input.old) (O.contents output.old) (O.contents output.new)) (AreReplied line.now.words.requests.now (I.remaining input.old) (O.contents output.old) (O.contents output.new))) }
+    ensures served { IfOk result (λ served. IsServed (run_files (R.bytes_at rt.now) R.Made.contents (R.is_made_at rt.now) (R.is_saved_at rt.now)) line.now served.session.cache.capacity (AreReplied (run_files (R.bytes_at rt.now) R.Made.contents (R.is_made_at rt.now) (R.is_saved_at rt.now)) line.now (I.remaining input.old) (O.contents output.old) (O.contents output.new)) served.session.now) }
+    ensures noted { IfOk result (λ served. OverSources (run_files (R.bytes_at rt.now) R.Made.contents (R.is_made_at rt.now) (R.is_saved_at rt.now)) line.now (AreNoted (run_files (R.bytes_at rt.now) R.Made.contents (R.is_made_at rt.now) (R.is_saved_at rt.now)) line.now (I.remaining input.old) (O.contents output.old) (O.contents output.new) messages.old.has_refused served.has_refused)) }
+    ensures ended { IfErr result (IsEnded (run_files (R.bytes_at rt.now) R.Made.contents (R.is_made_at rt.now) (R.is_saved_at rt.now)) line.now (I.remaining input.old) (I.remaining input.new) (O.contents output.old) (O.contents output.new) (AreStopped (run_files (R.bytes_at rt.now) R.Made.contents (R.is_made_at rt.now) (R.is_saved_at rt.now)) line.now (I.remaining input.old) (O.contents output.old) (O.contents output.new)) (AreReplied (run_files (R.bytes_at rt.now) R.Made.contents (R.is_made_at rt.now) (R.is_saved_at rt.now)) line.now (I.remaining input.old) (O.contents output.old) (O.contents output.new))) }
 {
     let inputs = read_inputs(rt, line, input)?;
     answer_inputs(rt, line, inputs, output, messages)
 }
 
-/// Flushes the replies.
-fn flush_replies<O: Write + Drop>(output: &mut BufWriter<O>) -> Result<(), Fault<'static>>
-    ensures { OnOk result (writer_buffer output.new ≡ []) }
+/// Does what an accepted command line asks for, as its requests come or after all of them were read.
+fn answer_accepted<'a, R: NamedFiles + SavedFiles + AllocGlobal, I: Read, O: Write, E: Write>(
+    rt: &R,
+    line: &Accepted<'a>,
+    input: &mut I,
+    output: &mut O,
+    messages: &mut Messages<'_, E>,
+) -> Result<Served, Fault<'a>>
+    requires capacity { IsGiven line.now.capacity }
+    requires paths { length line.now.more.items ≤ 7 }
+    ensures served { IfOk result (λ served. IsServedAs (run_files (R.bytes_at rt.now) R.Made.contents (R.is_made_at rt.now) (R.is_saved_at rt.now)) line.now served.session.cache.capacity (I.remaining input.old) (O.contents output.old) (O.contents output.new) served.session.now) }
+    ensures noted { IfOk result (λ served. IsNotedAs (run_files (R.bytes_at rt.now) R.Made.contents (R.is_made_at rt.now) (R.is_saved_at rt.now)) line.now (I.remaining input.old) (O.contents output.old) (O.contents output.new) messages.old.has_refused served.has_refused) }
 {
-    output.flush().map_err(|_| Fault::CannotWrite)
+    if line.words.is_live {
+        answer_live(rt, line, input, output, messages)
+    } else {
+        answer(rt, line, input, output, messages)
+    }
 }
 
-/// Does what a command line asks for, flushes the replies, and returns the exit status.
-fn answer_line<'a, R: Files + AllocGlobal, S: AsStr, I: Read, O: Write + Drop, E: Write>(
+/// Does what the values of a command line ask for, and flushes the replies. Returns whether a request for a frame was refused.
+#[tactic(auto, using(crate::proofs::Finished::done))]
+fn answer_words<'a, R: NamedFiles + SavedFiles + AllocGlobal, I: Read, O: Write + Drop, E: Write>(
     rt: &R,
-    words: &'a [S],
+    words: Words<'a>,
+    input: &mut I,
+    output: &mut BufWriter<O>,
+    messages: &mut Messages<'_, E>,
+) -> Result<bool, Fault<'a>>
+    requires fresh { messages.has_refused ≡ false }
+    ensures done { IfOk result (IsDone (run_files (R.bytes_at rt.now) R.Made.contents (R.is_made_at rt.now) (R.is_saved_at rt.now)) words.entry (I.remaining input.old) (writer_contents O.contents output.old) (writer_contents O.contents output.new)) }
+    ensures flushed { OnOk result (writer_buffer output.new ≡ []) }
+{
+    let line = words.accept(rt.alloc())?;
+    check_places(rt, &line)?;
+    let served = answer_accepted(rt, &line, input, output, messages)?;
+    flush_buffer(output)?;
+    Ok(served.has_refused)
+}
+
+/// Whether the option `--fail-refused` is among the arguments.
+fn names_fail_refused<S: AsStr>(words: &[S]) -> bool
+    ensures { result ≡ list_any (λ word. pointwise nat_eq (S.text word) (codes "--fail-refused")) words.now }
+{
+    words.iter().any(|word| word.as_str() == "--fail-refused")
+}
+
+/// The exit status after all requests were answered.
+fn status_after(fails_refused: bool, has_refused: bool) -> u8
+    ensures value { result ≡ status_after fails_refused has_refused }
+    ensures either { (result ≡ 0) ⊎ (result ≡ 3) }
+{
+    if fails_refused && has_refused { 3 } else { 0 }
+}
+
+/// Does what a parsed command line asks for, flushes the replies, and returns the exit status. `is_named` says whether `--fail-refused` is among
+/// the arguments: no contract says which argument sets the flag of an option.
+fn answer_line<'a, R: NamedFiles + SavedFiles + AllocGlobal, I: Read, O: Write + Drop, E: Write>(
+    rt: &R,
+    parsed: Result<Words<'a>, clap::Error>,
+    is_named: bool,
     input: &mut I,
     output: &mut BufWriter<O>,
     messages: &mut Messages<'_, E>,
 ) -> Result<u8, Fault<'a>>
-    ensures status { IfOk result (λ status. status ≡ 0) }
+    requires fresh { messages.has_refused ≡ false }
+    ensures status { IfOk result (λ status. (status ≡ 0) ⊎ (status ≡ 3)) }
+    ensures asked { IfOk result (λ status. status ≡ 3 → is_named ≡ true) }
+    ensures done { IfOk result (IsExitStatus (run_files (R.bytes_at rt.now) R.Made.contents (R.is_made_at rt.now) (R.is_saved_at rt.now)) parsed.entry is_named (I.remaining input.old) (writer_contents O.contents output.old) (writer_contents O.contents output.new)) }
     ensures flushed { OnOk result (writer_buffer output.new ≡ []) }
 {
-    let words = match parse(rt.alloc(), words) {
-        Ok(words) => words,
+    match parsed {
+        Ok(words) => {
+            let has_refused = answer_words(rt, words, input, output, messages)?;
+            Ok(status_after(is_named && words.fails_refused, has_refused))
+        }
         Err(error) => {
             help_or_mistake(error, output)?;
-            return Ok(0);
+            Ok(0)
         }
-    };
-    let line = words.accept(rt.alloc())?;
-    check_places(rt, &line)?;
-    if line.words.is_live {
-        answer_live(rt, &line, input, output, messages)?;
-    } else {
-        answer(rt, &line, input, output, messages)?;
     }
-    flush_replies(output)?;
-    Ok(0)
 }
 
-/// Runs the program on a command line, whose first argument is the program's name, and returns its exit
-/// status: 0 if every request was answered, also by a refusal, and for help and the version; 2 for a
-/// mistake on the command line; 1 for every other error. At 0 nothing is left in the buffer of `output`.
+/// Runs the program on a command line, whose first argument is the program's name and which was parsed by `parse`, and returns its exit
+/// status: 0 if every request was answered, also by a refusal, and for help and the version; with `--fail-refused` 3 instead of 0 if a
+/// request for a frame was refused; 2 for a mistake on the command line; 1 for every other error. At 0 and 3 nothing is left in the
+/// buffer of `output`.
 ///
 /// All files are read whole, up to 1,073,741,824 bytes each, before the file for the frames is created: the
 /// tables, IN, the files of `--sources` in their order, the requests. The packets of source 0 are saved after the last
@@ -293,18 +380,30 @@ fn answer_line<'a, R: Files + AllocGlobal, S: AsStr, I: Read, O: Write + Drop, E
 /// run without one the number of trailing bytes of all sources together, if there are any, go to `errors`. With `--explain`
 /// each of them is followed by a line that explains it, each refused request has a line, and after a run that made as many decoding steps as
 /// states are cached a line says what a state takes.
-pub fn serve<R: Files + AllocGlobal, S: AsStr, I: Read, O: Write + Drop, E: Write>(
+pub fn serve<
+    'a,
+    R: NamedFiles + SavedFiles + AllocGlobal,
+    S: AsStr,
+    I: Read,
+    O: Write + Drop,
+    E: Write,
+>(
     rt: &R,
-    words: &[S],
+    words: &'a [S],
+    parsed: Result<Words<'a>, clap::Error>,
     input: &mut I,
     output: &mut BufWriter<O>,
     errors: &mut E,
 ) -> u8
-    ensures status { result ≤ 2 }
+    ensures status { result ≤ 3 }
+    ensures done { (result ≡ 0) ⊎ (result ≡ 3) → IsExitStatus (run_files (R.bytes_at rt.now) R.Made.contents (R.is_made_at rt.now) (R.is_saved_at rt.now)) parsed.entry (list_any (λ word. pointwise nat_eq (S.text word) (codes "--fail-refused")) words.now) (I.remaining input.old) (writer_contents O.contents output.old) (writer_contents O.contents output.new) result }
     ensures flushed { result ≡ 0 → writer_buffer output.new ≡ [] }
+    ensures failed { result ≡ 3 → writer_buffer output.new ≡ [] }
+    ensures asked { result ≡ 3 → list_any (λ word. pointwise nat_eq (S.text word) (codes "--fail-refused")) words.now ≡ true }
 {
     let mut messages = Messages::new(errors, is_asked(words));
-    let answer = answer_line(rt, words, input, output, &mut messages);
+    let is_named = names_fail_refused(words);
+    let answer = answer_line(rt, parsed, is_named, input, output, &mut messages);
     let status = exit_status(answer, messages.errors);
     if messages.explains {
         if let Err(fault) = answer {

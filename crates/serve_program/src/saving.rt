@@ -1,17 +1,15 @@
 // Saves the packets of a session, and the export of its frames.
-ghost use Rattle.std.specs.Prelude.{◌≡◌, ◌≢◌, IfErr};
+ghost use Rattle.std.specs.Prelude.{◌≡◌, ◌≢◌, IfErr, IfOk, IfSome, OnOk, is_some};
 ghost use Rattle.std.specs.IoError.{error_kind};
-ghost use Rattle.serve_program.specs.Endings.{IsSaveFault, exported_text, saved_text};
+ghost use Rattle.serve_program.specs.Endings.{IsSaveFault};
+ghost use Rattle.serve_program.specs.Saved.{ArePacketsSaved, IsExportSaved, exported_text, saved_text};
 
 use crate::exports::Answered;
 use crate::messages::{Messages, UnsavedFile};
-use crate::program::BYTES_AT_ONCE;
 use frame_session::{Export, Session};
-use output_files::{SavedText, Target, Unsaved, begin};
+use output_files::{SavedFiles, SavedText, Unsaved};
 use serve_arguments::{Argument, Fault, Words};
-use std::fs::File;
 use std::io::{self, BufWriter, ErrorKind, Write};
-use std::rt::Files;
 
 /// The packets of source 0 as they are saved.
 #[derive(Clone, Copy)]
@@ -57,41 +55,42 @@ impl SavedText for Frames<'_> {
 
 /// The saves that are begun: of the packets, and of the export of the frames.
 #[derive(Drop)]
-pub struct Saves<'a, R: Files> {
-    packets: Option<Target<'a, R>>,
-    frames: Option<Target<'a, R>>,
+pub struct Saves<B> {
+    packets: Option<B>,
+    frames: Option<B>,
 }
 
-impl<R: Files> Saves<'_, R> {
-    /// Gives up what was begun.
-    pub fn abandon(self) {
-        let Saves { packets, frames } = self;
-        abandon(packets);
-        abandon(frames);
+/// Gives up a save, if one was begun.
+fn abandon<R: SavedFiles + AllocGlobal>(rt: &R, begun: Option<R::Begun>) {
+    if let Some(begun) = begun {
+        rt.abandon_save(rt.alloc(), begun);
     }
 }
 
-/// Gives up a save that was begun.
-fn abandon<R: Files>(target: Option<Target<'_, R>>) {
-    if let Some(target) = target {
-        target.abandon();
-    }
+/// Gives up the saves that were begun.
+pub fn abandon_saves<R: SavedFiles + AllocGlobal>(rt: &R, saves: Saves<R::Begun>) {
+    let Saves { packets, frames } = saves;
+    abandon(rt, packets);
+    abandon(rt, frames);
 }
 
 /// Begins a save at the path of this option, if there is one: the new file is made, unless a device or a pipe is there.
-fn begin_at<'a, R: Files + AllocGlobal, E: Write>(
-    rt: &'a R,
+#[tactic(auto, using(crate::proofs::Ended::save_fault))]
+fn begin_at<R: SavedFiles + AllocGlobal, E: Write>(
+    rt: &R,
     option: Argument,
     path: Option<&str>,
     messages: &mut Messages<'_, E>,
-) -> Result<Option<Target<'a, R>>, Fault<'static>>
-    ensures { IfErr result IsSaveFault }
+) -> Result<Option<R::Begun>, Fault<'static>>
+    ensures begun { IfOk result (λ begun. is_some begun ≡ is_some path.entry) }
+    ensures fault { IfErr result IsSaveFault }
+    ensures has_refused { messages.new.has_refused ≡ messages.old.has_refused }
 {
     let Some(path) = path else {
         return Ok(None);
     };
-    match begin(rt, rt.alloc(), path) {
-        Ok(target) => Ok(Some(target)),
+    match rt.begin_save(rt.alloc(), path) {
+        Ok(begun) => Ok(Some(begun)),
         Err(error) => Err(messages.not_saved(UnsavedFile {
             option,
             why: unmade(error),
@@ -100,18 +99,21 @@ fn begin_at<'a, R: Files + AllocGlobal, E: Write>(
 }
 
 /// Begins the saves that the arguments ask for. If the second cannot be begun, the first is given up.
-pub fn begin_saves<'a, R: Files + AllocGlobal, E: Write>(
-    rt: &'a R,
+pub fn begin_saves<R: SavedFiles + AllocGlobal, E: Write>(
+    rt: &R,
     words: Words<'_>,
     messages: &mut Messages<'_, E>,
-) -> Result<Saves<'a, R>, Fault<'static>>
-    ensures { IfErr result IsSaveFault }
+) -> Result<Saves<R::Begun>, Fault<'static>>
+    ensures packets { IfOk result (λ saves. is_some saves.packets ≡ is_some words.entry.saved) }
+    ensures frames { IfOk result (λ saves. is_some saves.frames ≡ is_some words.entry.exported) }
+    ensures fault { IfErr result IsSaveFault }
+    ensures has_refused { messages.new.has_refused ≡ messages.old.has_refused }
 {
     let packets = begin_at(rt, Argument::Save, words.saved, messages)?;
     match begin_at(rt, Argument::Export, words.exported, messages) {
         Ok(frames) => Ok(Saves { packets, frames }),
         Err(fault) => {
-            abandon(packets);
+            abandon(rt, packets);
             Err(fault)
         }
     }
@@ -127,66 +129,82 @@ fn unmade(error: io::Error) -> Unsaved
     Unsaved::Make(error)
 }
 
-/// Saves a text as it was begun.
-fn finish_one<R: Files + AllocGlobal, T: SavedText>(
+/// Saves a text at a path, if there is one, as it was begun.
+fn finish_one<R: SavedFiles + AllocGlobal, T: SavedText>(
     rt: &R,
     path: Option<&str>,
-    target: Option<Target<'_, R>>,
+    begun: Option<R::Begun>,
     text: &T,
-) -> Result<(), Unsaved> {
-    match (path, target) {
-        (Some(path), Some(Target::AsItIs)) => save_as_it_is(rt, path, text),
-        (_, Some(Target::File(begun))) => begun.finish(text),
-        _ => Ok(()),
+) -> Result<(), Unsaved>
+    requires { is_some begun ≡ is_some path }
+    ensures { OnOk result (IfSome path.entry (λ path. R.is_saved_at rt.now path.now (T.text text.now))) }
+{
+    let Some(path) = path else {
+        return Ok(());
+    };
+    match begun {
+        Some(begun) => rt.finish_save(rt.alloc(), path, begun, text),
+        None => Ok(()),
     }
 }
 
 /// Saves the packets of source 0 of a session as it was begun.
-fn finish_packets<R: Files + AllocGlobal>(
+fn finish_packets<R: SavedFiles + AllocGlobal>(
     rt: &R,
     session: &Session,
     words: Words<'_>,
-    target: Option<Target<'_, R>>,
-) -> Result<(), Unsaved> {
+    begun: Option<R::Begun>,
+) -> Result<(), Unsaved>
+    requires { is_some begun ≡ is_some words.saved }
+    ensures { OnOk result (ArePacketsSaved (R.is_saved_at rt.now) words.entry session.now.now) }
+{
     let packets = Packets {
         session,
         pads: words.pads,
         restamps: words.restamps,
     };
-    finish_one(rt, words.saved, target, &packets)
+    finish_one(rt, words.saved, begun, &packets)
 }
 
 /// Saves the export of the frames as it was begun.
-fn finish_frames<R: Files + AllocGlobal>(
+fn finish_frames<R: SavedFiles + AllocGlobal>(
     rt: &R,
     export: Option<&Export>,
     words: Words<'_>,
-    target: Option<Target<'_, R>>,
-) -> Result<(), Unsaved> {
+    begun: Option<R::Begun>,
+) -> Result<(), Unsaved>
+    requires { is_some begun ≡ is_some words.exported }
+    ensures { OnOk result (IfSome export.entry (λ export. IsExportSaved (R.is_saved_at rt.now) words.entry export.now)) }
+{
     let Some(export) = export else {
-        abandon(target);
+        abandon(rt, begun);
         return Ok(());
     };
     let frames = Frames {
         export,
         pads: words.pads,
     };
-    finish_one(rt, words.exported, target, &frames)
+    finish_one(rt, words.exported, begun, &frames)
 }
 
 /// Saves the packets of source 0 of a session, and then the export of its frames, as they were begun. If the first fails, the second is given up.
-pub fn finish_saves<R: Files + AllocGlobal, E: Write>(
+#[tactic(auto, using(crate::proofs::Ended::save_fault))]
+pub fn finish_saves<R: SavedFiles + AllocGlobal, E: Write>(
     rt: &R,
     done: &Answered,
     words: Words<'_>,
-    saves: Saves<'_, R>,
+    saves: Saves<R::Begun>,
     messages: &mut Messages<'_, E>,
 ) -> Result<(), Fault<'static>>
-    ensures { IfErr result IsSaveFault }
+    requires packets { is_some saves.packets ≡ is_some words.saved }
+    requires frames { is_some saves.frames ≡ is_some words.exported }
+    ensures packets { OnOk result (ArePacketsSaved (R.is_saved_at rt.now) words.entry done.now.session.now) }
+    ensures frames { OnOk result (IfSome done.now.export (IsExportSaved (R.is_saved_at rt.now) words.entry)) }
+    ensures fault { IfErr result IsSaveFault }
 {
     let Saves { packets, frames } = saves;
     if let Err(why) = finish_packets(rt, &done.session, words, packets) {
-        abandon(frames);
+        abandon(rt, frames);
         return Err(messages.not_saved(UnsavedFile {
             option: Argument::Save,
             why,
@@ -199,17 +217,4 @@ pub fn finish_saves<R: Files + AllocGlobal, E: Write>(
             why,
         })),
     }
-}
-
-/// Writes a text to a device or a pipe.
-fn save_as_it_is<R: Files + AllocGlobal, T: SavedText>(
-    rt: &R,
-    path: &str,
-    text: &T,
-) -> Result<(), Unsaved> {
-    let file = File::create(rt, path).map_err(Unsaved::Make)?;
-    let mut saved = BufWriter::with_capacity(rt.alloc(), BYTES_AT_ONCE, file).map_err(
-        |_| Unsaved::NoMemory,
-    )?;
-    text.write_to(&mut saved)
 }

@@ -1,9 +1,10 @@
 // The cached states, by their number and by the bytes of their pictures.
 use crate::expected::{ONE, clear, expect, put, run_line};
 use frame_session::Session;
+use output_files::SavedFiles;
 use pixel_planes::Plane;
+use program_parts::NamedFiles;
 use std::process::Abort;
-use std::rt::Files;
 use std::test::Fail;
 use stream_files::ivf_read;
 use vp8_tables::Tables;
@@ -74,7 +75,11 @@ fn counts_each_size(rt: HostRuntime) {
 }
 
 /// Whether these are the last replies to requests over 33 packets, of which the last is decoded first.
-fn ends_with<R: Abort + Files + AllocGlobal>(rt: &R, line: &str, last: &str) -> Result<bool, Fail> {
+fn ends_with<R: Abort + NamedFiles + SavedFiles + AllocGlobal>(
+    rt: &R,
+    line: &str,
+    last: &str,
+) -> Result<bool, Fail> {
     let mut requests = Vec::from_slice(rt.alloc(), b"blank 0 16 16\n")?;
     for _ in 0..32 {
         requests.extend_from_slice(b"hold 1\n")?;

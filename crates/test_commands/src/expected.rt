@@ -1,5 +1,7 @@
 // Runs the program, and compares what it leaves.
-use serve_program::serve;
+use output_files::SavedFiles;
+use program_parts::NamedFiles;
+use serve_program::{parse, serve};
 use std::alloc::AllocError;
 use std::fs;
 use std::io::{self, BufWriter, ErrorKind, Read, Write};
@@ -29,7 +31,7 @@ pub fn push_frame(frames: &mut Vec<u8>) -> Result<(), AllocError> {
 }
 
 /// Runs the program on a command line, whose words single spaces separate, and checks its replies, its messages and its exit status.
-pub fn expect<R: Abort + Files + AllocGlobal>(
+pub fn expect<R: Abort + NamedFiles + SavedFiles + AllocGlobal>(
     rt: &R,
     line: &str,
     requests: &str,
@@ -41,7 +43,7 @@ pub fn expect<R: Abort + Files + AllocGlobal>(
 }
 
 /// Runs the program with the requests of a reader, and checks its replies, its messages and its exit status.
-pub fn expect_from<R: Abort + Files + AllocGlobal, I: Read>(
+pub fn expect_from<R: Abort + NamedFiles + SavedFiles + AllocGlobal, I: Read>(
     rt: &R,
     line: &str,
     requests: &mut I,
@@ -61,7 +63,7 @@ pub fn expect_from<R: Abort + Files + AllocGlobal, I: Read>(
 }
 
 /// Runs the program on a command line, and returns its exit status.
-pub fn run_line<R: Abort + Files + AllocGlobal, I: Read, O: Write, E: Write>(
+pub fn run_line<R: Abort + NamedFiles + SavedFiles + AllocGlobal, I: Read, O: Write, E: Write>(
     rt: &R,
     line: &str,
     requests: &mut I,
@@ -74,7 +76,7 @@ pub fn run_line<R: Abort + Files + AllocGlobal, I: Read, O: Write, E: Write>(
 }
 
 /// Runs the program on the words of a command line, with a buffer before `output`, and returns its exit status.
-fn run_words<R: Abort + Files + AllocGlobal, I: Read, O: Write, E: Write>(
+fn run_words<R: Abort + NamedFiles + SavedFiles + AllocGlobal, I: Read, O: Write, E: Write>(
     rt: &R,
     words: &[&str],
     requests: &mut I,
@@ -82,11 +84,16 @@ fn run_words<R: Abort + Files + AllocGlobal, I: Read, O: Write, E: Write>(
     errors: &mut E,
 ) -> u8 {
     let mut output = BufWriter::new(rt.alloc(), output).expect(rt, "memory for a buffer");
-    serve(rt, words, requests, &mut output, errors)
+    let parsed = parse(rt.alloc(), words);
+    serve(rt, words, parsed, requests, &mut output, errors)
 }
 
 /// Checks that a command line is refused with this text, before any request is answered, and the same with `--live`.
-pub fn expect_fault<R: Abort + Files + AllocGlobal>(rt: &R, line: &str, text: &str) {
+pub fn expect_fault<R: Abort + NamedFiles + SavedFiles + AllocGlobal>(
+    rt: &R,
+    line: &str,
+    text: &str,
+) {
     let words: Result<Vec<&str>, AllocError> = line.split(' ').collect(rt.alloc());
     let mut words = words.expect(rt, "memory for the words");
     expect_refused(rt, words.as_slice(), text);
@@ -95,7 +102,11 @@ pub fn expect_fault<R: Abort + Files + AllocGlobal>(rt: &R, line: &str, text: &s
 }
 
 /// Checks that the words of a command line are refused with this text.
-fn expect_refused<R: Abort + Files + AllocGlobal>(rt: &R, words: &[&str], text: &str) {
+fn expect_refused<R: Abort + NamedFiles + SavedFiles + AllocGlobal>(
+    rt: &R,
+    words: &[&str],
+    text: &str,
+) {
     let mut output = Vec::new(rt.alloc());
     let mut told = Vec::new(rt.alloc());
     let mut requests = b"frame 0\n".as_slice();

@@ -2,10 +2,11 @@
 use crate::expected::{ONE, clear, expect, expect_from, put, run_line};
 use crate::live::Pieces;
 use message_writer::MessageWriter;
+use output_files::SavedFiles;
+use program_parts::NamedFiles;
 use serve_program::name_explain;
 use std::io::Write;
 use std::process::Abort;
-use std::rt::Files;
 
 /// Requests that are refused, and their replies and explanations. Lines 7 and 8 have no reply.
 const REQUESTS: &str = "\
@@ -238,6 +239,7 @@ fn names_explain(rt: HostRuntime) {
     expect_named(&rt, &["vp8serve", "--pad"], 2, told);
     expect_named(&rt, &["vp8serve", "no.ivf"], 1, told);
     expect_named(&rt, &["vp8serve", "--help"], 0, "");
+    expect_named(&rt, &["vp8serve", "--fail-refused"], 3, "");
     expect_named(&rt, &["vp8serve", "--pad", "--explain"], 2, "");
 }
 
@@ -283,7 +285,7 @@ fn names_the_line_that_was_not_answered(rt: HostRuntime) {
 }
 
 /// Checks the explanation of a run whose reader fails after some pieces.
-fn expect_cut_off<R: Abort + Files + AllocGlobal>(
+fn expect_cut_off<R: Abort + NamedFiles + SavedFiles + AllocGlobal>(
     rt: &R,
     pieces: &[&str],
     replies: &str,
@@ -307,7 +309,12 @@ fn expect_cut_off<R: Abort + Files + AllocGlobal>(
 }
 
 /// Checks the message of an error and the line after it.
-fn expect_end<R: Abort + Files + AllocGlobal>(rt: &R, line: &str, told: &str, status: u8) {
+fn expect_end<R: Abort + NamedFiles + SavedFiles + AllocGlobal>(
+    rt: &R,
+    line: &str,
+    told: &str,
+    status: u8,
+) {
     expect(rt, line, "", "", told, status);
 }
 
@@ -364,7 +371,7 @@ fn explains_files(rt: HostRuntime) {
 }
 
 /// Checks the reason for which a file is not read.
-fn expect_kind<R: Abort + Files + AllocGlobal>(
+fn expect_kind<R: Abort + NamedFiles + SavedFiles + AllocGlobal>(
     rt: &R,
     line: &str,
     name: &str,

@@ -1,7 +1,8 @@
 // Errors that end the program: their texts, their statuses, and which of two is reported.
 use crate::expected::{Broken, ONE, check, clear, expect, expect_fault, put};
 use frame_header::Cause;
-use program_parts::tell;
+use output_files::SavedFiles;
+use program_parts::{NamedFiles, tell};
 use serve_arguments::{Argument, Fault, NotExported, SameFile};
 use std::fs::hard_link;
 use std::os::unix::fs::symlink;
@@ -108,7 +109,7 @@ fn tells_what_is_not_exported(rt: HostRuntime) {
 }
 
 /// Checks each line of a table: a command line, and the text of its error.
-fn expect_table<R: Abort + Files + AllocGlobal>(rt: &R, table: &str) {
+fn expect_table<R: Abort + NamedFiles + SavedFiles + AllocGlobal>(rt: &R, table: &str) {
     for case in table.lines() {
         let (line, text) = case.split_once(" => ").expect(rt, "a case");
         expect_fault(rt, line, text);
@@ -237,7 +238,12 @@ fn finds_faults_in_order(rt: HostRuntime) {
 }
 
 /// Checks the word of a header whose byte at an index is another one.
-fn expect_word<R: Abort + Files + AllocGlobal>(rt: &R, at: usize, byte: u8, text: &str) {
+fn expect_word<R: Abort + NamedFiles + SavedFiles + AllocGlobal>(
+    rt: &R,
+    at: usize,
+    byte: u8,
+    text: &str,
+) {
     let mut file = EMPTY;
     if at < file.len() {
         file[at] = byte;

@@ -1,9 +1,9 @@
 // Help and the version.
 use crate::expected::expect;
 use list_program::answer;
+use program_parts::NamedFiles;
 use std::io::BufWriter;
 use std::process::Abort;
-use std::rt::Files;
 use stream_checks::Unwatched;
 
 const HELP: &str = "\
@@ -52,6 +52,7 @@ Options:
       --pad                 With --save or --export: a byte 00 after packets that other players do not show
       --restamp             With --save: new time stamps, without the gaps and jumps of edits
       --live                Answer each request line as it comes, before the next is read
+      --fail-refused        Exit with status 3 if a request for a frame was refused
       --explain             Explain refusals and errors on standard error
   -h, --help                Print help
   -V, --version             Print version
@@ -250,7 +251,7 @@ Options:
 ";
 
 /// Checks what vp8list prints for the words of a command line that reads no file.
-fn expect_list<R: Abort + Files + AllocGlobal>(rt: &R, words: &[&str], text: &str) {
+fn expect_list<R: Abort + NamedFiles + AllocGlobal>(rt: &R, words: &[&str], text: &str) {
     let mut output = Vec::new(rt.alloc());
     let mut errors = Vec::new(rt.alloc());
     let mut input = b"".as_slice();
@@ -284,11 +285,11 @@ fn shows_its_version(rt: HostRuntime) {
         &rt,
         "vp8serve --version",
         "frame 0\n",
-        "vp8serve 0.12.0\n",
+        "vp8serve 0.13.0\n",
         "",
         0,
     );
-    expect(&rt, "vp8serve -V", "frame 0\n", "vp8serve 0.12.0\n", "", 0);
+    expect(&rt, "vp8serve -V", "frame 0\n", "vp8serve 0.13.0\n", "", 0);
 }
 
 #[test]
@@ -299,6 +300,6 @@ fn shows_help_of_the_list(rt: HostRuntime) {
 
 #[test]
 fn shows_the_version_of_the_list(rt: HostRuntime) {
-    expect_list(&rt, &["vp8list", "--version"], "vp8list 0.12.0\n");
-    expect_list(&rt, &["vp8list", "-V"], "vp8list 0.12.0\n");
+    expect_list(&rt, &["vp8list", "--version"], "vp8list 0.13.0\n");
+    expect_list(&rt, &["vp8list", "-V"], "vp8list 0.13.0\n");
 }

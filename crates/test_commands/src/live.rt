@@ -1,10 +1,11 @@
 // Tests of requests that are answered as they come.
 use crate::expected::{check, clear, expect, expect_from, put, run_line};
+use output_files::SavedFiles;
+use program_parts::NamedFiles;
 use std::alloc::{AllocError, Global};
 use std::cell::Cell;
 use std::io::{self, ErrorKind, Read, Write};
 use std::process::Abort;
-use std::rt::Files;
 use std::test::Fail;
 use stream_files::EMPTY;
 
@@ -136,7 +137,7 @@ const LINES: &str = "blank 0 16 16\r\n\n# none\nframe 0\r\n\rcount\nhold 1\r\nco
 const ANSWERS: &str = "ok 1\nserved 0\nrefused Line\nok 2\nrefused Line\n";
 
 /// Answers the requests in pieces, the last of which is followed by the end.
-fn expect_pieces<R: Abort + Files + AllocGlobal>(rt: &R, pieces: &[&str]) {
+fn expect_pieces<R: Abort + NamedFiles + SavedFiles + AllocGlobal>(rt: &R, pieces: &[&str]) {
     let mut input = Pieces {
         pieces,
         fails: false,
@@ -220,7 +221,10 @@ fn repeated(alloc: Global, text: &[u8], times: usize) -> Result<Vec<u8>, AllocEr
 }
 
 /// Answers requests that one read after another gives one byte of, and returns the replies.
-fn replies_to<R: Abort + Files + AllocGlobal>(rt: &R, requests: &[u8]) -> Vec<u8> {
+fn replies_to<R: Abort + NamedFiles + SavedFiles + AllocGlobal>(
+    rt: &R,
+    requests: &[u8],
+) -> Vec<u8> {
     let mut input = Bytewise { rest: requests };
     let mut replies = Vec::new(rt.alloc());
     let mut errors = Vec::new(rt.alloc());

@@ -3,9 +3,10 @@ use crate::expected::{
     Broken, CODED, NONE, ONE, OPENING, check, clear, expect, push_frame, put, run_line,
 };
 use frame_session::{RunFault, run};
+use output_files::SavedFiles;
+use program_parts::NamedFiles;
 use std::alloc::Global;
 use std::process::Abort;
-use std::rt::Files;
 use std::test::Fail;
 use stream_files::EMPTY;
 use vp8_tables::Tables;
@@ -241,6 +242,46 @@ fn tells_an_export_that_fails(rt: HostRuntime) {
     clear(&rt, "kept.ivf");
 }
 
+/// With `--fail-refused` the exit status is 3 if a frame was refused, and files are saved all the same.
+#[test]
+fn fails_if_a_frame_is_refused(rt: HostRuntime) {
+    put(&rt, "failing.ivf", ONE);
+    let requests = "frame 1\nframe 0\n";
+    let replies = "refused NoSuchFrame\nserved 0\n";
+    for (line, status) in [
+        ("vp8serve failing.ivf --save failed.ivf", 0),
+        ("vp8serve failing.ivf --save failed.ivf --live", 0),
+        ("vp8serve failing.ivf --save failed.ivf --fail-refused", 3),
+        (
+            "vp8serve failing.ivf --save failed.ivf --fail-refused --live",
+            3,
+        ),
+    ] {
+        put(&rt, "failed.ivf", NONE);
+        expect(&rt, line, requests, replies, "", status);
+        check(&rt, "failed.ivf", ONE);
+    }
+    clear(&rt, "failing.ivf failed.ivf");
+}
+
+/// Only a refused request for a frame is a failure: not a refused edit, question or line that is not a request.
+#[test]
+fn only_refused_frames_fail(rt: HostRuntime) {
+    let requests =
+        "delete 0\nframe\nuse 9\npacket 0\norigins 1 1\nscript x\nblank 0 16 16\nframe 0\n";
+    let replies =
+        "refused Place\nrefused Line\nrefused Source\nrefused Place\nrefused NoSuchFrame\nrefused Syntax\nok 1\nserved 0\n";
+    expect(&rt, "vp8serve --fail-refused", requests, replies, "", 0);
+    expect(
+        &rt,
+        "vp8serve --fail-refused --live",
+        requests,
+        replies,
+        "",
+        0,
+    );
+}
+
 /// A save that fails is reported after the replies, and then trailing bytes are not reported.
 #[test]
 fn tells_a_save_that_fails(rt: HostRuntime) {
@@ -270,7 +311,7 @@ fn takes_numbers_of_cached_states(rt: HostRuntime) {
 }
 
 /// The frame of `CODED`, as written with these tables.
-fn frame_with(alloc: Global, tables: Tables) -> Result<Vec<u8>, RunFault> {
+pub fn frame_with(alloc: Global, tables: Tables) -> Result<Vec<u8>, RunFault> {
     let mut frames = Vec::new(alloc);
     let mut replies = Vec::new(alloc);
     run(
@@ -286,7 +327,10 @@ fn frame_with(alloc: Global, tables: Tables) -> Result<Vec<u8>, RunFault> {
 }
 
 /// Serves the frame of `CODED` with tables whose entries are all the same, and returns it.
-fn coded_frame<R: Abort + Files + AllocGlobal>(rt: &R, entry: u8) -> Result<Vec<u8>, Fail> {
+fn coded_frame<R: Abort + NamedFiles + SavedFiles + AllocGlobal>(
+    rt: &R,
+    entry: u8,
+) -> Result<Vec<u8>, Fail> {
     let frame = frame_with(rt.alloc(), Tables::read(&[entry; 3012])?)?;
     put(rt, "entries.bin", &[entry; 3012]);
     let line = "vp8serve coded.ivf - coded.y4m --tables entries.bin";

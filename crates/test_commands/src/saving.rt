@@ -5,7 +5,8 @@ ghost use Rattle.std.specs.Io.KnownBytes.{Appends};
 ghost use Rattle.output_files.specs.Logs.{steps_of};
 
 use crate::expected::{NONE, ONE, check, clear, expect, put};
-use output_files::{Call, Log, SavePlace, SavedText, Unsaved, finish};
+use output_files::{Call, Log, SavePlace, SavedFiles, SavedText, Unsaved, finish};
+use program_parts::NamedFiles;
 use std::fs;
 use std::io::{self, BufWriter, ErrorKind, Write};
 use std::os::unix::fs::{MetadataExt, PermissionsExt, symlink};
@@ -219,7 +220,7 @@ fn keeps_a_file_whole(rt: HostRuntime) {
 const FRESH: &str = "vp8serve-unfinished-save-1";
 
 /// Runs a command line that saves one packet less than the stream has, and checks what was saved.
-fn expect_saved<R: Abort + Files + AllocGlobal>(rt: &R, line: &str, saved: &str) {
+fn expect_saved<R: Abort + NamedFiles + SavedFiles + AllocGlobal>(rt: &R, line: &str, saved: &str) {
     expect(rt, line, "delete 0\n", "ok 0\n", "", 0);
     check(rt, saved, NONE);
     assert!(rt; !fs::exists(rt, FRESH).unwrap_or(true), "{line}");

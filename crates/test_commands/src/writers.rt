@@ -1,6 +1,8 @@
 // Readers and writers that fail.
 use crate::expected::{Broken, ONE, OPENING, run_line};
 use frame_session::{Capacity, LiveFault, Settings, Unobserved, run_live};
+use output_files::SavedFiles;
+use program_parts::NamedFiles;
 use serve_program::{Fault, run_to};
 use std::cell::Cell;
 use std::io::{self, BufWriter, Read, Write};
@@ -11,7 +13,7 @@ use stream_files::EMPTY;
 use vp8_tables::Tables;
 
 /// Checks the message of a run whose replies go to this writer.
-fn expect_failing<R: Abort + Files + AllocGlobal, I: Read, O: Write>(
+fn expect_failing<R: Abort + NamedFiles + SavedFiles + AllocGlobal, I: Read, O: Write>(
     rt: &R,
     line: &str,
     requests: &mut I,
@@ -131,6 +133,18 @@ impl Write for Counted<'_> {
     fn flush(&mut self) -> io::Result<()> {
         Ok(())
     }
+}
+
+/// After a run the frames leave their buffer before the replies leave theirs.
+#[test]
+fn flushes_frames_before_replies(rt: HostRuntime) -> Result<(), Fail> {
+    let taken = Cell::new(0);
+    let mut frames = BufWriter::new(rt.alloc(), Broken {})?;
+    let mut replies = BufWriter::new(rt.alloc(), Counted { taken: &taken })?;
+    let unwritten = fault_of(&rt, &mut frames, &mut replies);
+    assert!(rt; unwritten == Some(Fault::CannotWrite));
+    assert!(rt; taken.get() == 0);
+    Ok(())
 }
 
 /// A writer of replies. At each flush it notes how many bytes of frames have left their buffer.

@@ -4,7 +4,7 @@
 
 use message_writer::MessageWriter;
 use program_parts::{exit_status, given};
-use serve_program::{Fault, name_explain, name_help, serve};
+use serve_program::{Fault, name_explain, name_help, parse, serve};
 use std::fs::File;
 use std::io::{BufWriter, IsTerminal, Write};
 use std::os::fd::AsRawFd;
@@ -31,7 +31,15 @@ fn start<E: Write>(
     }
     let mut output = BufWriter::new(rt.alloc(), rt.stdout()).map_err(|_| Fault::NoMemory)?;
     let mut input = rt.stdin();
-    let status = serve(rt, words.as_slice(), &mut input, &mut output, errors);
+    let parsed = parse(rt.alloc(), words.as_slice());
+    let status = serve(
+        rt,
+        words.as_slice(),
+        parsed,
+        &mut input,
+        &mut output,
+        errors,
+    );
     if is_terminal {
         let _ = name_explain(words.as_slice(), status, errors);
     }

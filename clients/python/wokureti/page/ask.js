@@ -2,7 +2,7 @@
 
 const find = (id) => document.getElementById(id);
 
-/** Asks for values; `fields` are objects with name, label, value, and kind or choices. `note` is a sentence below them. Returns the values, or
+/** Asks for values; `fields` are objects with name, label, value, and choices, or the most and the step of a number. `note` is a sentence below them. Returns the values, or
  * null. */
 export function ask(title, action, fields, note = "") {
   const dialog = find("ask");
@@ -11,7 +11,7 @@ export function ask(title, action, fields, note = "") {
   const place = dialog.querySelector(".fields");
   place.replaceChildren();
   const inputs = {};
-  for (const { name, label, value, choices, most } of fields) {
+  for (const { name, label, value, choices, most, step } of fields) {
     const line = document.createElement("label");
     const input = document.createElement(choices ? "select" : "input");
     if (choices) {
@@ -19,7 +19,7 @@ export function ask(title, action, fields, note = "") {
     } else {
       input.type = "number";
       input.min = 0;
-      if (name === "seconds") input.step = "any";
+      if (step) input.step = step;
       input.required = true;
       if (most !== undefined) input.max = most;
     }

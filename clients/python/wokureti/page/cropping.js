@@ -82,8 +82,8 @@ export class Cropping {
   async take(found) {
     const { width, height } = this.picture.now;
     const fields = [
-      { name: "x", label: "Column, even", value: found.x, most: width - 1 },
-      { name: "y", label: "Row, even", value: found.y, most: height - 1 },
+      { name: "x", label: "Column, even", value: found.x, most: width - 1, step: 2 },
+      { name: "y", label: "Row, even", value: found.y, most: height - 1, step: 2 },
       { name: "width", label: "Width", value: found.width, most: width },
       { name: "height", label: "Height", value: found.height, most: height },
     ];

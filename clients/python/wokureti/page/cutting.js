@@ -77,6 +77,13 @@ export function still(script, count, at, length, isBlack) {
   return between(found, last, count, { first: at, end: at });
 }
 
+/** After the last frame those of a source are shown. */
+export function followed(script, source) {
+  const [nodes, last] = base(script);
+  if (source === 0) return [...nodes, `splice ${last} 0`];
+  return [...nodes, `source ${source}`, `splice ${last} ${last + 1}`];
+}
+
 export class Cutting {
   constructor(model, editing, status) {
     Object.assign(this, { model, editing, status });
@@ -150,6 +157,13 @@ export class Cutting {
     else await this.set(this.changed((shots) => parts.without(shots, range), () => without(session.script, frames, range)), `frames ${range.first} to ${range.end - 1} are cut out`, Math.max(0, range.first - 1));
   }
 
+  /** Shows all frames of a source after the last one. */
+  async join(source) {
+    const { session, frames } = this.model;
+    const nodes = this.changed((shots) => parts.followed(shots, source, session.source_frames), () => followed(session.script, source));
+    await this.set(nodes, `${session.names[source]} is shown after frame ${frames - 1}`, frames);
+  }
+
   async more() {
     const { model } = this;
     const { frame, frames, rate, session, selection } = model;
@@ -158,12 +172,17 @@ export class Cutting {
       ["show black", "black"],
     ];
     if (selection) choices.unshift(["fade in the selected frames", "in"], ["fade out the selected frames", "out"]);
+    session.names.forEach((name, source) => choices.push([`join: after the last frame those of ${source}: ${name}`, `join ${source}`]));
     const fields = [
       { name: "what", label: "What", value: choices[0][1], choices },
-      { name: "seconds", label: `Seconds, before frame ${frame}`, value: 1 },
+      { name: "seconds", label: `Seconds, before frame ${frame}`, value: 1, step: "any" },
     ];
-    const found = await ask("Frames by the script", "Do it", fields, `Frame ${frame} is at ${timeText(frame, rate, model.times)}. No packet is changed. A fade takes the selection.`);
+    const found = await ask("Frames by the script", "Do it", fields, `Frame ${frame} is at ${timeText(frame, rate, model.times)}. No packet is changed. A fade takes the selection; a join takes no seconds.`);
     if (!found) return;
+    if (found.what.startsWith("join ")) {
+      await this.join(Number(found.what.slice(5)));
+      return;
+    }
     if (found.what === "in" || found.what === "out") {
       const range = await this.range();
       const nodes = range && this.changed((shots) => parts.fading(shots, range, found.what === "in"), () => faded(session.script, frames, range, found.what === "in"));

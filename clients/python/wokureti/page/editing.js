@@ -124,11 +124,12 @@ export class Editing {
     }
     return this.inTurn(async () => {
       try {
-        const path = await server.save(source);
+        const { reply: path, renumbered } = await server.save(source);
         await this.model.load();
         const what = source === 0 && this.model.session.script !== "-" ? "The packets were saved, without the script, to" : source ? `The packets of ${names[source]} were saved to` : "Saved to";
-        notice(`${what} ${path}`, { id: "saved" });
-        this.status.say(`${what[0].toLowerCase()}${what.slice(1)} ${path}`);
+        const said = `${what} ${path}${renumbered ? "; times were numbered anew" : ""}`;
+        notice(said, { id: "saved" });
+        this.status.say(`${said[0].toLowerCase()}${said.slice(1)}`);
       } catch (error) {
         await this.refuse(error);
       }

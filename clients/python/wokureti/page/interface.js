@@ -68,9 +68,9 @@ export async function change(lines, revision, title = "") {
   return (await post("edits", body, "edit")).json();
 }
 
-/** Saves the packets of a source, and returns the name of the file. */
+/** Saves the packets of a source, and returns the name of the file, `reply`, and whether times were `renumbered`. */
 export async function save(source) {
-  return (await (await post("edits", { line: "save", source }, "the packets to be saved")).json()).reply;
+  return (await post("edits", { line: "save", source }, "the packets to be saved")).json();
 }
 
 /** The frames that are shown as a file: its bytes, its name, and what it has. */

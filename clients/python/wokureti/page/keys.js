@@ -3,7 +3,7 @@
 const find = (id) => document.getElementById(id);
 
 /** Each key has names as `KeyboardEvent.key` has them, a text, and what it does. */
-export function keysOf({ model, player, timeline, editing, findings, viewer, macroblocks, cutting, palette }) {
+export function keysOf({ model, player, sound, timeline, editing, findings, viewer, macroblocks, cutting, palette }) {
   const step = (count) => () => model.step(count);
   const playOn = (direction) => () => {
     const same = Math.sign(player.speed) === direction;
@@ -26,6 +26,7 @@ export function keysOf({ model, player, timeline, editing, findings, viewer, mac
     { keys: ["j", "J"], show: "J", text: "play backward; again: faster", act: playOn(-1) },
     { keys: ["k", "K"], show: "K", text: "stop", act: () => player.stop() },
     { keys: ["l", "L"], show: "L", text: "play forward; again: faster", act: playOn(1) },
+    { keys: ["u", "U"], show: "U", text: "the sound of playback on or off", act: () => sound.toggle() },
     { keys: ["i", "I"], show: "I", text: "the selection begins here", act: () => mark(model, true) },
     { keys: ["o", "O"], show: "O", text: "the selection ends here", act: () => mark(model, false) },
     { keys: ["Ctrl+a"], show: "Ctrl A", text: "select all packets", act: () => model.select(0, model.packets) },
@@ -36,7 +37,7 @@ export function keysOf({ model, player, timeline, editing, findings, viewer, mac
     { keys: ["e", "E"], show: "E", text: "show only the frames of the selection", act: () => cutting.keep() },
     { keys: ["x", "X"], show: "X", text: "cut the frames of the selection out: no packet is changed", act: () => cutting.cutOut() },
     { keys: ["v", "V"], show: "V", text: "show the frames of the selection before the current frame", act: () => cutting.moveHere() },
-    { keys: ["r", "R"], show: "R", text: "fade, or show black or a frame for a time", act: () => cutting.more() },
+    { keys: ["r", "R"], show: "R", text: "fade, show black or a frame for a time, or join a source", act: () => cutting.more() },
     { keys: ["Ctrl+c"], show: "Ctrl C", text: "remember them", act: () => editing.copy(false) },
     { keys: ["Ctrl+x"], show: "Ctrl X", text: "remember them, to move them", act: () => editing.copy(true) },
     { keys: ["Ctrl+v"], show: "Ctrl V", text: "insert them before the current packet", act: () => editing.paste() },

@@ -18,6 +18,7 @@ import { Model } from "./model.js";
 import { PacketFacts } from "./packet_facts.js";
 import { Player } from "./player.js";
 import { ScriptPanel } from "./script.js";
+import { Sound } from "./sound.js";
 import { Status, notice } from "./status.js";
 import { Strip } from "./strip.js";
 import { frameOf, timeText } from "./times.js";
@@ -33,7 +34,8 @@ const frames = new Frames(model);
 const timeline = new Timeline(model);
 const viewer = new Viewer(model, frames, status);
 const macroblocks = new Macroblocks(model, viewer, status);
-const player = new Player(model, frames, viewer);
+const sound = new Sound(model, status);
+const player = new Player(model, frames, viewer, sound);
 const editing = new Editing(model, status);
 const findings = new Findings(model, viewer, editing, timeline, status);
 const packetFacts = new PacketFacts(model);
@@ -193,7 +195,7 @@ const palette = {
   showKeys: () => find("keys").showModal(),
   fullScreen: () => (document.fullscreenElement ? document.exitFullscreen() : find("viewer").requestFullscreen()),
 };
-const list = keys.keysOf({ model, player, timeline, editing, findings, viewer, macroblocks, cutting, palette });
+const list = keys.keysOf({ model, player, sound, timeline, editing, findings, viewer, macroblocks, cutting, palette });
 keys.write(list);
 keys.listen(list, viewer.loupe, macroblocks);
 find("help").addEventListener("click", palette.showKeys);
@@ -276,7 +278,7 @@ async function begin() {
 }
 
 // For tests.
-window.wokureti = { model, frames, viewer, macroblocks, player, timeline, editing, findings, editList, scriptPanel, cutting, thumbs, curves, strip };
+window.wokureti = { model, frames, viewer, macroblocks, player, sound, timeline, editing, findings, editList, scriptPanel, cutting, thumbs, curves, strip };
 begin().catch((error) => {
   status.say(error.message);
   notice(error.message, { isBad: true });

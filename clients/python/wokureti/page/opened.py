@@ -18,10 +18,13 @@ from .views import Pool, View
 
 # Seconds between two pages of a list in the background, and packets that a preview asks for at a time.
 PAUSE, PAGE = 0.001, 256
-# The packets of a group that a preview checks, at most.
-MOST_GROUP = 1000
+# The packets of a group that a preview checks, at most; how many of the last edits a preview makes one by one,
+# so that others can follow those before them.
+MOST_GROUP, MOST_SINGLE = 1000, 500
 # Checks whose findings are stored.
 MOST_CHECKS = 8
+# Seconds that a frame waits for a step of edits before another program shows it as it was before the step.
+PATIENCE = 0.3
 
 
 class Opened(live.Live):
@@ -32,7 +35,9 @@ class Opened(live.Live):
         self.current, self.pool, self.known_runs = None, None, (None, None)
         self.check_lock, self.check, self.checks, self.count = threading.Lock(), None, [], 0
         # Programs beside the one of the stream: of edits that are not made, and of packets that no frame shows.
-        self.originals, self.preview, self.aside = {}, Preview(options), Preview(options)
+        self.originals, self.preview, self.aside, self.meanwhile = {}, Preview(options), Preview(options), Preview(options)
+        # While an edit is made: the revision before it, the rate of the frames, and the edits that were made by then.
+        self.before = None
         # What goes on: a word, how much of it is done, of how much, and since when.
         self.doing = None
         super().__init__(options, edits, save, stems)
@@ -120,9 +125,9 @@ class Opened(live.Live):
     def forget(self):
         super().forget()
         self.current, self.pool = None, None
-        for other in (self.preview, self.aside):
+        for other in (self.preview, self.aside, self.meanwhile):
             other.close()
-        self.preview, self.aside = Preview(self.options), Preview(self.options)
+        self.preview, self.aside, self.meanwhile = Preview(self.options), Preview(self.options), Preview(self.options)
         threading.Thread(target=self.list_files, daemon=True).start()
 
     # Edits
@@ -130,9 +135,26 @@ class Opened(live.Live):
     def make(self, edit):
         self.doing = ("edit", 0, 1, time.monotonic())
         try:
-            return super().make(edit)
+            with self.lock:
+                view = self.current
+                if view is not None and view.revision == self.revision and not self.session.is_over:
+                    self.before = (view.revision, view.rate, list(self.session.edits))
+                return super().make(edit)
         finally:
-            self.doing = None
+            self.doing = self.before = None
+
+    def look(self, numbers):
+        """Frames do not wait for all of a large step: another program shows them as they were before it."""
+        if not self.lock.acquire(timeout=PATIENCE):
+            before = self.before
+            if before is not None:
+                revision, rate, lines = before
+                return revision, rate, self.meanwhile.pictures(lines, numbers)
+            self.lock.acquire()
+        try:
+            return super().look(numbers)
+        finally:
+            self.lock.release()
 
     def on_progress(self, done, total):
         self.doing = ("edit", done, total, self.doing[3])
@@ -146,8 +168,8 @@ class Opened(live.Live):
         for original in self.originals.values():
             interrupt(original)
             original.close()
-        self.preview.close()
-        self.aside.close()
+        for other in (self.preview, self.aside, self.meanwhile):
+            other.close()
         super().close()
 
     def is_known_saved(self):
@@ -204,14 +226,22 @@ class Preview:
         while len(mine) > common:
             self.live.run("undo")
             mine = list(self.live.session.edits)
-        for line in lines[len(mine) :]:
+        rest = lines[len(mine) :]
+        together, alone = rest[:-MOST_SINGLE], rest[-MOST_SINGLE:]
+        if together:
+            self.live.run_step(together)
+        for line in alone:
             self.live.run(line)
 
     def picture(self, lines, frame):
         """The width, height and samples of a frame after these edits."""
+        return self.pictures(lines, [frame])[0]
+
+    def pictures(self, lines, frames):
+        """The same of several frames of one size."""
         with self.lock:
             self.follow(lines)
-            return self.live.picture(frame)
+            return self.live.pictures(frames)
 
     def packet(self, lines, source, packet, frame=None):
         """The picture of a packet of a source after these edits, without the script. `frame` is its frame in the source, if that is known."""

@@ -19,9 +19,12 @@ from ..session.frames import MARK
 from ..session.lines import EDITS, first_word, is_edit
 from ..server.live import Changed
 from .proposals import Proposals
+from .sounding import Sounding, has_sound
+from ..server import ranges
 from ..server.routes import Routes, until_ended
 from .views import MOST_ENTRIES
 from ..server.virtual import header_of
+from ..tools.sounds import Cannot
 from ..server.web import Refuse, Response, as_json
 
 KINDS = {
@@ -34,8 +37,8 @@ CONTAINERS = {".ivf": "video/x-ivf", ".webm": "video/webm", ".mkv": "video/x-mat
 REFUSALS = (404, 409, 412)
 # The steps of `wokureti repair` that act on packets.
 STEPS = frozenset(("double", "sort", "hold"))
-# The edits of one request, at most.
-MOST_LINES = 20000
+# The edits of one request, at most. A body of 8 MiB has some 400,000.
+MOST_LINES = 1 << 20
 # Frames whose origins are told at a time, at most; seconds that one search for a frame that differs takes.
 MOST_ORIGINS, SEARCH_TIME = 4096, 0.25
 # Frames that are served together, at most; packets whose key packets are asked for.
@@ -57,6 +60,7 @@ class PageRoutes(Routes):
         self.titles, self.files = titles, files_of_page()
         # The streams that the command names, and those that were added.
         self.paths, self.added = list(paths), []
+        self.sounding = Sounding(live.room.name)
         self.posts[("sources",)] = self.add_source
         self.posts[("preview",)] = self.preview
         self.posts[("paste",)] = self.paste
@@ -85,6 +89,7 @@ class PageRoutes(Routes):
                 ("exported",): self.exported,
                 ("files",): self.list_files,
                 ("times",): self.times,
+                ("sound.webm",): self.sound,
             }
         )
 
@@ -137,6 +142,7 @@ class PageRoutes(Routes):
             "frames": view.frames,
             "rate": list(view.rate),
             "varies": view.times() is not None,
+            "sounds": has_sound(view.contents),
             "sources": [len(stream) for stream in view.streams],
             "source": view.source,
             "script": view.script,
@@ -258,13 +264,11 @@ class PageRoutes(Routes):
         first, last = int(found.group(1)), int(found.group(2))
         if not 0 <= last - first < MOST_TOGETHER:
             raise Refuse(400, f"1 to {MOST_TOGETHER} frames are served together")
-        with self.live.lock:
-            etag, rate = f'"{self.live.instance}-{self.live.revision}"', self.live.rate()
-            pictures = self.live.pictures(range(first, last + 1))
+        revision, rate, pictures = self.live.look(range(first, last + 1))
         size = pictures[0][:2]
         length = len(header_of(size, rate)) + sum(len(MARK) + len(samples) for _, _, samples in pictures)
         pieces = itertools.chain([header_of(size, rate)], *((MARK, samples) for _, _, samples in pictures))
-        return Response(200, "video/x-yuv4mpeg", length=length, headers=[("ETag", etag)], pieces=pieces)
+        return Response(200, "video/x-yuv4mpeg", length=length, headers=[("ETag", self.tag_of(revision))], pieces=pieces)
 
     def step_of(self, request):
         return -1 if request.query.get("step") == "-1" else 1
@@ -543,6 +547,28 @@ class PageRoutes(Routes):
         view = self.live.current_view()
         return as_json({"revision": view.revision, "times": view.times()})
 
+    def sound(self, request):
+        """The sound of the frames that are shown. `revision` only names it."""
+        self.only(request, "revision", "instance")
+        view = self.live.current_view()
+        try:
+            file = self.sounding.open(view)
+        except Cannot as error:
+            raise Refuse(409, str(error)) from None
+        if file is None:
+            raise Refuse(404, "no stream has sound")
+        etag = self.tag_of(view.revision)
+        length, headers = os.fstat(file.fileno()).st_size, [("Accept-Ranges", "bytes"), ("ETag", etag)]
+        try:
+            found = ranges.wanted(request.headers, length, etag) if request.method == "GET" else None
+        except Refuse:
+            file.close()
+            raise
+        start, end = found or (0, length)
+        if found:
+            headers.append(("Content-Range", f"bytes {start}-{end - 1}/{length}"))
+        return Response(206 if found else 200, "audio/webm", length=end - start, headers=headers, pieces=pieces_of(file, start, end))
+
     def list_files(self, request):
         """The streams that can be added."""
         self.only(request)
@@ -621,7 +647,6 @@ class PageRoutes(Routes):
                 raise Refuse(400, str(error)) from None
             return as_json({"reply": reply, "revision": self.live.revision})
 
-
     def save(self, members):
         """Saves the packets of a source."""
         source = members["source"]
@@ -631,19 +656,22 @@ class PageRoutes(Routes):
             if source >= len(self.live.contents().streams):
                 raise Refuse(404, "there is no such source")
             try:
-                path = self.live.make(lambda: self.live.save(source))
+                path, renumbered = self.live.make(lambda: (self.live.save(source), self.live.renumbers(source)))
             except ValueError as error:
                 raise Refuse(409, str(error)) from None
-            return as_json({"reply": path, "revision": self.live.revision})
+            return as_json({"reply": path, "revision": self.live.revision, "renumbered": renumbered})
 
 
-def pieces_of(file):
-    """The bytes of a file, which is closed after them."""
+def pieces_of(file, start=0, end=None):
+    """The bytes of a file from one place to another, which is closed after them."""
     with file:
-        while True:
-            piece = file.read(1 << 20)
+        file.seek(start)
+        left = os.fstat(file.fileno()).st_size - start if end is None else end - start
+        while left > 0:
+            piece = file.read(min(left, 1 << 20))
             if not piece:
                 return
+            left -= len(piece)
             yield piece
 
 

@@ -51,10 +51,8 @@ export function groupsOf(frames) {
 }
 
 export class Player {
-  constructor(model, frames, viewer) {
-    this.model = model;
-    this.frames = frames;
-    this.viewer = viewer;
+  constructor(model, frames, viewer, sound) {
+    Object.assign(this, { model, frames, viewer, sound });
     this.speed = 0;
     this.isLoop = false;
     this.flying = 0;
@@ -116,6 +114,7 @@ export class Player {
   stop() {
     if (!this.speed) return;
     this.speed = 0;
+    this.sound.stop();
     cancelAnimationFrame(this.asked);
     this.viewer.isPlaying = false;
     this.model.isPlaying = false;
@@ -175,6 +174,7 @@ export class Player {
     if (origin && origin.source === this.model.source) this.model.packet = origin.packet;
     else this.model.origin(due).catch(() => {});
     this.viewer.present(frame);
+    this.sound.at(due, this.speed);
     this.model.send("frame");
     this.onframe?.();
   }

@@ -25,10 +25,10 @@ export function nodeOf(reason) {
   return found ? Number(found[1]) : null;
 }
 
-/** Whether a node is a crop with an odd number. */
-export function isOddCrop(node = "") {
-  const [word, , ...numbers] = node.split(" ");
-  return word === "crop" && numbers.some((number) => Number(number) % 2 === 1);
+/** Whether a node is a crop that begins at an odd column or row. */
+export function isOddCrop(node) {
+  const [word, , x, y] = node.split(" ");
+  return word === "crop" && [x, y].some((number) => Number(number) % 2 === 1);
 }
 
 /** The first and the last character of a node in a text. */
@@ -86,7 +86,7 @@ export class ScriptPanel {
       refused: (error) => {
         if (!error.reply) return false;
         const reason = error.reason || error.reply;
-        this.complain(`${reason}${isOddCrop(nodesOf(this.text.value)[(nodeOf(reason) ?? 1) - 1]) ? "; column, row, width and height of a crop are even" : ""}`);
+        this.complain(`${reason}${nodesOf(this.text.value).some(isOddCrop) ? "; column and row of a crop are even" : ""}`);
         return true;
       },
     });

@@ -124,6 +124,11 @@ export function moved(shots, { first, end }, at) {
   return together(parts.map(([from, to]) => slice(shots, from, to)));
 }
 
+/** The shots, and then all frames of a source. */
+export function followed(shots, source, frames) {
+  return joined([...shots, shot(source, 0, frames[source])]);
+}
+
 /** Frames that fade in or out are a shot that ends or begins with the fade, if they are in one. */
 export function fading(shots, { first, end }, isIn) {
   const [before, middle, after] = [slice(shots, 0, first), slice(shots, first, end), slice(shots, end, Infinity)];

@@ -204,6 +204,14 @@ class Live:
         self.changed.notify_all()
         return path
 
+    def renumbers(self, source=0):
+        """Whether a save gives the packets of a source other time stamps than they have."""
+        contents = self.contents()
+        stream = contents.streams[source]
+        if self.keeps_stamps or not contents.is_edited(source, stream):
+            return False
+        return any(stamp != contents.stamp(number) for stamp, number in zip(contents.stamps(source, stream)[0], stream))
+
     def is_saved(self):
         """Whether the packets of all sources are as they were opened or saved."""
         with self.lock:
@@ -228,6 +236,11 @@ class Live:
             return self.view(session, numbers)
 
         return self.ask(view)
+
+    def look(self, numbers):
+        """The revision, the rate of the frames, and some of them, of one size."""
+        with self.lock:
+            return self.revision, self.rate(), self.pictures(numbers)
 
     def details(self, word, source, packet):
         """What `header` or `macroblocks` reports of a packet of a source now, line by line."""

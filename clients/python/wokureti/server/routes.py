@@ -147,6 +147,10 @@ class Routes:
         status = 206 if found else 200
         return Response(status, "video/x-yuv4mpeg", length=end - start, headers=headers, pieces=until_ended(clip.pieces(start, end)))
 
+    def tag_of(self, revision):
+        """The ETag of frames of a revision."""
+        return f'"{self.live.instance}-{revision}"'
+
     def frame(self, request, name):
         """A frame."""
         self.only(request, *(("matrix", "full") if name.endswith(".png") else ()))
@@ -154,17 +158,15 @@ class Routes:
         if not NUMBER.fullmatch(number) or kind not in ("y4m", "png", "i420"):
             raise Refuse(404, "there is nothing here")
         number = int(number)
-        with self.live.lock:
-            etag = f'"{self.live.instance}-{self.live.revision}"'
-            condition = request.headers.get("if-none-match")
-            if condition is not None and ranges.is_etag_of(condition, etag):
-                return Response(304, None, length=0, headers=[("ETag", etag)])
-            width, height, samples = self.live.picture(number)
-        headers = [("ETag", etag)]
+        condition, etag = request.headers.get("if-none-match"), self.tag_of(self.live.revision)
+        if condition is not None and ranges.is_etag_of(condition, etag):
+            return Response(304, None, length=0, headers=[("ETag", etag)])
+        revision, rate, [(width, height, samples)] = self.live.look([number])
+        headers = [("ETag", self.tag_of(revision))]
         if kind == "i420":
             return Response(200, "application/octet-stream", bytes(samples), headers=headers)
         if kind == "y4m":
-            return Response(200, "video/x-yuv4mpeg", header_of((width, height), self.live.rate()) + b"FRAME\n" + samples, headers=headers)
+            return Response(200, "video/x-yuv4mpeg", header_of((width, height), rate) + b"FRAME\n" + samples, headers=headers)
         matrix, full = request.query.get("matrix", "601"), request.query.get("full", "0")
         if matrix not in ("601", "709") or full not in ("0", "1"):
             raise Refuse(400, "matrix is 601 or 709, full is 0 or 1")

@@ -83,17 +83,18 @@ def cluster(start, blocks):
     return element(CLUSTER, unsigned("e7", start), *blocks)
 
 
-def clusters(blocks):
-    """The clusters of blocks: the time of each in milliseconds, whether it begins with a key packet of track 1, and its text."""
+def clusters(blocks, has_video=True):
+    """The clusters of blocks: the time of each in milliseconds, whether it begins with a key packet of the video, which is track 1, and its text. Without
+    a video a player can begin at each."""
     start, group, has_key = 0, [], False
     for time, number, is_key, data in blocks:
         time = (time + MS // 2) // MS
-        begins = is_key and number == 1
+        begins = is_key and number == 1 and has_video
         if group and (begins or time - start > MOST_CLUSTER):
             yield start, has_key, cluster(start, group)
             group = []
         if not group:
-            start, has_key = time, begins
+            start, has_key = time, begins or not has_video
         group.append(block(number, time - start, is_key, data))
     if group:
         yield start, has_key, cluster(start, group)
@@ -108,9 +109,9 @@ def cue(time, place):
     return element("bb", unsigned("b3", time), element("b7", unsigned("f7", 1), unsigned("f1", place)))
 
 
-def write(file, kind, parts, blocks):
+def write(file, kind, parts, blocks, has_video=True):
     """Writes a file of this kind, `webm` or `matroska`. `parts` are the texts of INFO, TRACKS and TAGS; `blocks` are (time, track, whether it is a key
-    packet, bytes), in the order of their times, which are nanoseconds, 0 or more; track 1 is the video. What cannot seek, as a pipe, gets no index."""
+    packet, bytes), in the order of their times, which are nanoseconds, 0 or more; track 1 is the video, if there is one. What cannot seek, as a pipe, gets no index."""
     file.write(head(kind))
     file.write(bytes.fromhex(SEGMENT) + b"\x01" + b"\xff" * 7)
     can_seek, room, cues = file.seekable(), len(seek_head(dict.fromkeys((*parts, CUES), 0))), []
@@ -120,7 +121,7 @@ def write(file, kind, parts, blocks):
     for number, part in parts.items():
         places[number] = place
         place += file.write(part)
-    for time, has_key, part in clusters(blocks):
+    for time, has_key, part in clusters(blocks, has_video):
         if has_key:
             cues.append(cue(time, place))
         place += file.write(part)

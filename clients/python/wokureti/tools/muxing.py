@@ -55,6 +55,16 @@ def write(path, video, spans, mode, say):
             matroska.write(file, FORMATS[ending], parts_of(video, tracks), blocks_of(video, tracks))
 
 
+def write_sound(path, spans):
+    """Writes the first track of sound of spans as a WebM file without a picture, for a player beside the pictures."""
+    with rooms.Room() as room:
+        [track, *_] = sounds.outputs(spans, ".webm", None, lambda text: None, room) or [None]
+        entries = [] if track is None else [matroska.sound(1, track.codec, track.private, track.rate, track.channels, track.delay)]
+        parts = {matroska.INFO: matroska.info("", sum(span.length for span in spans)), matroska.TRACKS: matroska.element(matroska.TRACKS, *entries)}
+        with files.whole(path) as file:
+            matroska.write(file, "webm", parts, () if track is None else sound_blocks(1, track), has_video=False)
+
+
 def parts_of(video, tracks):
     """The facts of a file, of its tracks, and their tags."""
     media = video.media

@@ -1,6 +1,6 @@
 use Rattle.std.proofs.Common.{◌≡◌, length, map, ◌∙◌, arith}
 use Rattle.std.proofs.lemmas.List.{length-map}
-use Rattle.frame_session.proofs.LiveRuns.{live_means_at_cost}
+use Rattle.frame_session.proofs.LiveRuns.{live_means_at_cost, live_means_noted}
 use Rattle.frame_session.proofs.Sources.{are_as_many, are_few}
 use Rattle.frame_session.proofs.live.run_live_over.Goals as goal
 
@@ -17,4 +17,13 @@ returns-clause-costs g c =
     let i = g.I.Read.remaining in
     let f = g.F.Write.contents in
     let r = g.P.Write.contents in
-    live_means_at_cost c.args.settings.tables c.args.settings.capacity (map g.B.FileBytes.bytes c.args.ivfs.now) (i c.args.input.now) (i c.serve_live.new.input) (f c.args.frames.now) (f c.serve_live.new.frames) (r c.args.replies.now) (r c.serve_live.new.replies) c.in_ok-files.files.items c.in-Ok.session c.serve_live.new.session c.in_ok-files.ensures.are c.in-Ok.ensures c.in_ok-serve_live.ensures.ok
+    let o = g.V.Observer.has_refused in
+    live_means_at_cost c.args.settings.tables c.args.settings.capacity (map g.B.FileBytes.bytes c.args.ivfs.now) (i c.args.input.now) (i c.serve_live.new.input) (f c.args.frames.now) (f c.serve_live.new.frames) (r c.args.replies.now) (r c.serve_live.new.replies) (o c.args.observer.now) (o c.serve_live.new.observer) c.in_ok-files.files.items c.in-Ok.session c.serve_live.new.session c.in_ok-files.ensures.are c.in-Ok.ensures c.in_ok-serve_live.ensures.ok
+
+pub returns-clause-noted : goal.returns-clause-noted
+returns-clause-noted g c =
+    let i = g.I.Read.remaining in
+    let f = g.F.Write.contents in
+    let r = g.P.Write.contents in
+    let o = g.V.Observer.has_refused in
+    live_means_noted c.args.settings.tables c.args.settings.capacity (map g.B.FileBytes.bytes c.args.ivfs.now) (i c.args.input.now) (i c.serve_live.new.input) (f c.args.frames.now) (f c.serve_live.new.frames) (r c.args.replies.now) (r c.serve_live.new.replies) (o c.args.observer.now) (o c.serve_live.new.observer) c.in_ok-files.files.items c.in-Ok.session c.serve_live.new.session c.in_ok-files.ensures.are c.in-Ok.ensures c.in_ok-serve_live.ensures.ok

@@ -133,14 +133,14 @@ pub returns-in-Silent-clause-costs : goal.returns-in-Silent-clause-costs
 returns-in-Silent-clause-costs g c =
     let f = g.F.Write.contents c.args.frames.now in
     let r = g.P.Write.contents c.args.replies.now in
-    rw c.in-Silent.is (replied _ c.args.session.now f f r r requests.Silent [] c.args.session.now (refl, refl) (record { stores = refl; cache = refl }) (Appends-nil r))
+    rw c.in-Silent.is (replied _ c.args.session.now f f r r requests.Silent [] c.args.session.now (refl, refl) (record { stores = refl; cache = refl }) (Appends-nil r) refl)
 
 pub returns-in-Unknown-clause-costs : goal.returns-in-Unknown-clause-costs
 returns-in-Unknown-clause-costs g c =
     let f = g.F.Write.contents c.args.frames.now in
     let r = g.P.Write.contents c.args.replies.now in
     let r' = g.P.Write.contents c.write_refused.new.w in
-    rw c.in-Unknown.is (replied c.write_refused.result c.args.session.now f f r r' requests.Unknown _ c.args.session.now (refl, refl) (record { stores = refl; cache = refl }) c.write_refused.ensures.wrote)
+    rw c.in-Unknown.is (replied c.write_refused.result c.args.session.now f f r r' requests.Unknown _ c.args.session.now (refl, refl) (record { stores = refl; cache = refl }) c.write_refused.ensures.wrote refl)
 
 pub returns-in-Use-clause-costs : goal.returns-in-Use-clause-costs
 returns-in-Use-clause-costs g c =
@@ -169,14 +169,14 @@ returns-in-Count-clause-costs g c =
     let f = g.F.Write.contents c.args.frames.now in
     let r = g.P.Write.contents c.args.replies.now in
     let r' = g.P.Write.contents c.report_count.new.replies in
-    rw c.in-Count.is (replied c.report_count.result c.args.session.now f f r r' requests.Count _ c.args.session.now (refl, refl) (record { stores = refl; cache = refl }) c.report_count.ensures.wrote)
+    rw c.in-Count.is (replied c.report_count.result c.args.session.now f f r r' requests.Count _ c.args.session.now (refl, refl) (record { stores = refl; cache = refl }) c.report_count.ensures.wrote refl)
 
 pub returns-in-Stats-clause-costs : goal.returns-in-Stats-clause-costs
 returns-in-Stats-clause-costs g c =
     let f = g.F.Write.contents c.args.frames.now in
     let r = g.P.Write.contents c.args.replies.now in
     let r' = g.P.Write.contents c.write_stats.new.w in
-    rw c.in-Stats.is (replied c.write_stats.result c.args.session.now f f r r' requests.Stats _ c.args.session.now (refl, refl) (record { stores = refl; cache = refl }) (rw c.decoded.ensures.value at c.write_stats.ensures.wrote))
+    rw c.in-Stats.is (replied c.write_stats.result c.args.session.now f f r r' requests.Stats _ c.args.session.now (refl, refl) (record { stores = refl; cache = refl }) (rw c.decoded.ensures.value at c.write_stats.ensures.wrote) refl)
 
 pub returns-in-Ask-clause-costs : goal.returns-in-Ask-clause-costs
 returns-in-Ask-clause-costs g c =
@@ -190,4 +190,4 @@ returns-in-Lost-clause-costs g c =
     let f = g.F.Write.contents c.args.frames.now in
     let r = g.P.Write.contents c.args.replies.now in
     let r' = g.P.Write.contents c.write_refused-in-Lost.new.w in
-    rw c.in-Lost.is (replied c.write_refused-in-Lost.result c.args.session.now f f r r' requests.Lost _ c.args.session.now (refl, refl) (record { stores = refl; cache = refl }) c.write_refused-in-Lost.ensures.wrote)
+    rw c.in-Lost.is (replied c.write_refused-in-Lost.result c.args.session.now f f r r' requests.Lost _ c.args.session.now (refl, refl) (record { stores = refl; cache = refl }) c.write_refused-in-Lost.ensures.wrote refl)

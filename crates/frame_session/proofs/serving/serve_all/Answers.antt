@@ -1,4 +1,4 @@
-use Rattle.std.proofs.Common.{◌≡◌, ◌∷◌, [], ◌++◌, Result, ap, refl, rules, ◌∙◌}
+use Rattle.std.proofs.Common.{◌≡◌, ◌∷◌, [], ◌++◌, Result, ap, refl, rules, sym, ◌∙◌}
 use Rattle.std.specs.Result.{result_unwrap_or}
 use Rattle.std.specs.Str.Lines.{lines}
 use Rattle.request_lines.specs.declared.lines.Line.{Line}
@@ -6,6 +6,7 @@ use Rattle.request_lines.specs.declared.lines.Line.TheVariants.{Unknown}
 use Rattle.request_lines.specs.declared.misfit.Misfit.{Misfit}
 use Rattle.frame_session.specs.Answers.{requests_of}
 use Rattle.frame_session.proofs.AtCost.{all_at_cost, costs_more, serves_of}
+use Rattle.frame_session.proofs.Noted.{all_noted, noted_append, noted_line, or_false}
 use Rattle.frame_session.proofs.Served.{all_more, runs_more, runs_none}
 use Rattle.frame_session.proofs.serving.serve_all.Goals as goal
 
@@ -15,6 +16,8 @@ lines-preserved g c = record {
   whole = all_more c.lines.invariant.done c.unwrap_or-request.result c.in-Some.line.now (lines c.lines.rest.now) (lines c.in-Some.following.now) _ (c.unwrap_or-request.ensures ∙ ap (λ (read : Result Line Misfit). result_unwrap_or read Unknown) c.read_line.ensures) c.in-Some.ensures.next c.lines.invariant.whole;
   ran = runs_more _ _ _ _ _ _ _ _ _ _ _ c.lines.invariant.ran (serves_of _ _ _ _ _ _ _ _ c.in_ok-told.ensures.costs);
   costs = costs_more c.args.session.now c.lines.session c.serve_line.new.session c.lines.invariant.done c.lines.invariant.ran.answers c.unwrap_or-request.result c.in_ok-told.ensures.costs.answer c.lines.invariant.costs c.in_ok-told.ensures.costs.means c.in_ok-told.ensures.costs.costs;
+  noted = noted_append c.args.session.now.now c.lines.session.now c.lines.invariant.done (c.unwrap_or-request.result ∷ []) c.lines.invariant.ran.answers (c.in_ok-told.ensures.costs.answer ∷ []) (g.V.Observer.has_refused c.args.observer.now) (g.V.Observer.has_refused c.lines.observer) (g.V.Observer.has_refused c.answered.new.self) c.lines.invariant.ran.means c.lines.invariant.noted
+      (noted_line c.unwrap_or-request.result c.in_ok-told.ensures.costs.answer c.is_frame-asks_frame.result c.in_ok-told.told (g.V.Observer.has_refused c.lines.observer) (g.V.Observer.has_refused c.answered.new.self) c.is_frame-asks_frame.ensures c.in_ok-told.ensures.costs.told c.answered.ensures);
   capacity = c.serve_line.ensures.capacity ∙ c.lines.invariant.capacity;
 }
 
@@ -24,6 +27,7 @@ lines-init g c = record {
   whole = refl;
   ran = runs_none c.args.session.now.now (g.F.Write.contents c.args.frames.now) (g.P.Write.contents c.args.replies.now);
   costs = refl;
+  noted = sym (or_false (g.V.Observer.has_refused c.args.observer.now));
   capacity = refl;
 }
 
@@ -33,3 +37,11 @@ returns-in_default-clause-costs g c =
     let r = g.P.Write.contents in
     let none : lines c.lines.rest.now ≡ [] = search rules in
     all_at_cost c.args.session.now c.lines.session c.lines.invariant.done (lines c.lines.rest.now) (requests_of c.args.requests.now) (f c.args.frames.now) (f c.lines.frames) (r c.args.replies.now) (r c.lines.replies) none c.lines.invariant.whole c.lines.invariant.ran c.lines.invariant.costs
+
+pub returns-in_default-clause-noted : goal.returns-in_default-clause-noted
+returns-in_default-clause-noted g c =
+    let f = g.F.Write.contents in
+    let r = g.P.Write.contents in
+    let o = g.V.Observer.has_refused in
+    let none : lines c.lines.rest.now ≡ [] = search rules in
+    all_noted c.args.session.now.now c.lines.session.now c.lines.invariant.done (lines c.lines.rest.now) (requests_of c.args.requests.now) (f c.args.frames.now) (f c.lines.frames) (r c.args.replies.now) (r c.lines.replies) (o c.args.observer.now) (o c.lines.observer) none c.lines.invariant.whole c.lines.invariant.ran c.lines.invariant.noted

@@ -45,7 +45,7 @@ returns-in-Err-clause-costs g c =
     let f = g.F.Write.contents c.args.frames.now in
     let r = g.P.Write.contents c.args.replies.now in
     let r' = g.P.Write.contents c.write_refused.new.w in
-    refused_at_cost c.write_refused.result c.args.session.now f f r r' c.args.n c.in-Err.refusal c.frame.new.self c.in-Err.ensures.returned c.in-Err.ensures.after c.in-Err.ensures.costs c.write_refused.ensures.wrote
+    refused_at_cost c.write_refused.result c.args.session.now f f r r' c.args.n c.in-Err.refusal c.frame.new.self c.in-Err.ensures.returned c.in-Err.ensures.after c.in-Err.ensures.costs c.write_refused.ensures.wrote c.write_refused.ensures.refusal
 
 pub returns-in-Ok-clause-costs : goal.returns-in-Ok-clause-costs
 returns-in-Ok-clause-costs g c =
@@ -53,4 +53,4 @@ returns-in-Ok-clause-costs g c =
     let f' = g.F.Write.contents c.write_answer.new.frames in
     let r = g.P.Write.contents c.args.replies.now in
     let r' = g.P.Write.contents c.write_answer.new.replies in
-    frame_at_cost c.write_answer.result c.args.session.now f f' r r' c.args.n c.in-Ok.picture c.frame.new.self c.head_due-head_due.result c.head_due-head_due.ensures c.in-Ok.ensures.returned c.in-Ok.ensures.after c.in-Ok.ensures.costs c.write_answer.ensures.frame c.write_answer.ensures.reply
+    frame_at_cost c.write_answer.result c.args.session.now f f' r r' c.args.n c.in-Ok.picture c.frame.new.self c.head_due-head_due.result c.head_due-head_due.ensures c.in-Ok.ensures.returned c.in-Ok.ensures.after c.in-Ok.ensures.costs c.write_answer.ensures.frame c.write_answer.ensures.reply c.write_answer.ensures.none

@@ -1,7 +1,7 @@
 use Rattle.std.proofs.Common.{map, refl}
 use Rattle.std.proofs.KnownBytes.{Keeps-refl}
 use Rattle.serve_arguments.specs.declared.fault.Fault.TheVariants.{CannotWrite}
-use Rattle.serve_program.proofs.Flushed.{flushed, unflushed}
+use Rattle.serve_program.proofs.Flushed.{flushed, flushed_noted, unflushed}
 use Rattle.serve_program.proofs.program.run_to.Goals as goal
 
 pub returns-clause-answered : goal.returns-clause-answered
@@ -21,3 +21,10 @@ returns-then-is_err-2-clause-refused g c =
     let f = g.F.Write.contents in
     let r = g.P.Write.contents in
     unflushed c.args.settings.tables (map g.B.FileBytes.bytes c.args.sources.now) c.args.requests.now (f c.args.frames.now) (f c.run_over.new.frames) (f c.flush.new.self) (r c.args.replies.now) (r c.run_over.new.replies) (r c.flush-2.new.self) c.in-Ok.session.now CannotWrite refl c.in-Ok.ensures.means c.flush.ensures.bytes c.flush-2.ensures.bytes
+
+pub returns-clause-noted : goal.returns-clause-noted
+returns-clause-noted g c =
+    let f = g.F.Write.contents in
+    let r = g.P.Write.contents in
+    let o = g.V.Observer.has_refused in
+    flushed_noted c.args.settings.tables (map g.B.FileBytes.bytes c.args.sources.now) c.args.requests.now (f c.args.frames.now) (f c.run_over.new.frames) (f c.flush.new.self) (r c.args.replies.now) (r c.run_over.new.replies) (r c.flush-2.new.self) c.in-Ok.session.now (o c.args.observer.now) (o c.run_over.new.observer) c.in-Ok.ensures.noted c.flush.ensures.bytes c.flush-2.ensures.bytes

@@ -1,0 +1,10 @@
+use Rattle.std.proofs.Common.{arith, refl}
+use Rattle.std.proofs.lemmas.Grind.{common_steps}
+use Rattle.std.specs.Io.KnownBytes.{Appends}
+use Rattle.frame_session.specs.Replies.{script_line}
+use Rattle.frame_session.proofs.replies.write_script.Goals as goal
+
+pub returns-clause-told : goal.returns-clause-told
+returns-clause-told g c =
+    let wrote : Appends (g.W.Write.contents c.args.w.now) (g.W.Write.contents c.write_text-3.new.w) (script_line c.args.script.now) = grind (arith, common_steps) in
+    (script_line c.args.script.now, wrote, refl)
