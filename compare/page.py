@@ -952,6 +952,19 @@ def add_and_crop(browser, room, clip, other):
     """A stream of the folder is opened on the page; a rectangle is drawn on the picture; the bits of the packets are a curve."""
     page = Page(browser, clip, "--edits", room / "list-of-crops")
     page.open()
+    # On a page of its own.
+    browser.click("#add-source")
+    browser.wait("document.getElementById('ask').open")
+    browser.run("document.querySelector('#ask select').value = args[0]; document.querySelectorAll('#ask select')[1].value = 'page'", str(other))
+    browser.click("#ask button[value=yes]")
+    browser.wait("document.getElementById('status').textContent.endsWith('is open on a page of its own')", seconds=30)
+    mine, theirs = browser.tabs()
+    browser.use_tab(theirs)
+    browser.wait("document.body && document.body.dataset.ready === 'yes'", seconds=60)
+    expect(browser.run("return document.getElementById('name').textContent") == other.name, "the page of its own is of another stream")
+    browser.send("DELETE", "/window")
+    browser.use_tab(mine)
+    # As a source.
     browser.click("#add-source")
     browser.wait("document.getElementById('ask').open")
     browser.run("document.querySelector('#ask select').value = args[0]", str(other))
@@ -984,7 +997,7 @@ def add_and_crop(browser, room, clip, other):
     expect(found == wanted[: len(found)] and len(found) > 200, f"the bits are {found[:3]}, not {wanted[:3]}")
     page.quiet("another stream and a crop")
     said = page.end()
-    say("another stream, a crop, bits")
+    say("another stream on a page of its own and as a source, a crop, bits")
     return said
 
 
