@@ -2,11 +2,15 @@
 """Times the page of `wokureti open` in Debian's chromium: from opening to the first picture, from a key to the next picture, from an edit to the new picture, steps of
 many edits, how long a frame waits meanwhile, and playback.
 
-    bench/page.py CLIP-OF-640x360 CLIP-OF-1920x1080
+    bench/page.py [--tree FOLDER] [--quick] CLIP-OF-640x360 CLIP-OF-1920x1080
 
-virtual.sh calls it if chromium is there.
+With --tree the page and the programs are those of another checkout, in which `./serve.sh --version` was called once, so that bin/ has its programs: an
+earlier version is measured by the same bench. With --quick streams are short and turns are few: that it runs, and no figures. virtual.sh calls it if
+chromium is there.
 """
 
+import argparse
+import os
 import pathlib
 import statistics
 import sys
@@ -15,16 +19,19 @@ import time
 
 sys.path.insert(0, str(pathlib.Path(__file__).resolve().parent.parent / "compare"))
 
+import page as pages  # noqa: E402
 from browser import Browser  # noqa: E402
 from page import Page, make_million  # noqa: E402
 
-TURNS = 15
+# Turns of edits, and of openings; the packets of the streams that are opened, and of those that get large steps, with how many are deleted and held.
+TURNS, OPENINGS = 15, 3
+OPENED, LARGE_STREAMS, DELETED, HELD = (100, 100_000, 1 << 20), (100_000, 1 << 20), 10_000, 3_000
 
 
 def opening(browser, path, count):
     """From the start of the command to its address, and from there to the first picture and to the timeline."""
     found = []
-    for _ in range(3):
+    for _ in range(OPENINGS):
         start = time.monotonic()
         page = Page(browser, path)
         address = time.monotonic() - start
@@ -135,12 +142,12 @@ LARGE = """
       await act();
       times.push((performance.now() - since) / 1000);
     };
-    model.select(1000, 11000);
+    model.select(1000, 1000 + args[0]);
     await timed(() => editing.delete());
     await timed(() => editing.undo());
     await timed(() => editing.redo());
     await editing.undo();
-    model.select(1000, 4000);
+    model.select(1000, 1000 + args[1]);
     await timed(() => editing.hold());
     isOn = false;
     await asked;
@@ -151,8 +158,8 @@ def large_steps(browser, path, count):
     page = Page(browser, path)
     page.open()
     browser.wait("wokureti.model.session.listed", seconds=300)
-    packets, *times = browser.run(LARGE)
-    words = ("10,000 packets deleted", "undone", "deleted again", "3,000 held", "a frame waited at most")
+    packets, *times = browser.run(LARGE, DELETED, HELD)
+    words = (f"{DELETED:,} packets deleted", "undone", "deleted again", f"{HELD:,} held", "a frame waited at most")
     said = ", ".join(f"{word} {seconds:.1f} s" for word, seconds in zip(words, times))
     print(f"large steps in {count:,} packets: {said}{'' if packets == count else f', and {packets} packets'}", flush=True)
     page.end()
@@ -182,19 +189,32 @@ def playback(browser, clip, name):
 
 
 def main():
-    small, large = sys.argv[1:]
+    global TURNS, OPENINGS, OPENED, LARGE_STREAMS, DELETED, HELD
+    parser = argparse.ArgumentParser(description=__doc__, formatter_class=argparse.RawDescriptionHelpFormatter)
+    parser.add_argument("--tree")
+    parser.add_argument("--quick", action="store_true")
+    parser.add_argument("small")
+    parser.add_argument("large")
+    given = parser.parse_args()
+    if given.tree:
+        pages.TOP = pathlib.Path(given.tree).resolve()
+        # Another tree has its own programs, and no library of this one.
+        os.environ.update({name.upper(): str(pages.TOP / "bin" / name) for name in ("vp8serve", "vp8list")})
+    if given.quick:
+        TURNS, OPENINGS, OPENED, LARGE_STREAMS, DELETED, HELD = 2, 1, (100, 10_000), (10_000,), 1_000, 300
     with tempfile.TemporaryDirectory() as name, Browser() as browser:
         room = pathlib.Path(name)
-        print(f"chromium {browser.version}", flush=True)
-        for count in (100, 100_000, 1 << 20):
+        version = (pages.TOP / "VERSION").read_text().strip()
+        print(f"chromium {browser.version}, wokureti {version}", flush=True)
+        for count in OPENED:
             path = room / f"{count}.ivf"
             make_million(path, count)
             opening(browser, path, count)
-        for count in (100_000, 1 << 20):
+        for count in LARGE_STREAMS:
             large_steps(browser, room / f"{count}.ivf", count)
-        for clip, size in ((small, "640x360"), (large, "1920x1080")):
+        for clip, size in ((given.small, "640x360"), (given.large, "1920x1080")):
             link = room / f"{size}.ivf"
-            link.symlink_to(clip)
+            link.symlink_to(pathlib.Path(clip).resolve())
             steps(browser, link, size)
             edits(browser, link, size)
             playback(browser, link, size)

@@ -339,6 +339,36 @@ def look(page):
     say("looking: keys, the number of a frame, wheel, click, drag, I and O")
 
 
+def move_about(page):
+    """A selection that ends near a key packet ends there, the picture is enlarged and dragged, fills the screen, and J, K and L play."""
+    browser = page.browser
+    browser.run("wokureti.timeline.zoomAll(); document.getElementById('timeline').focus()")
+    box = browser.run("const box = document.getElementById('timeline').getBoundingClientRect(); return [box.left, box.top]")
+    at = lambda packet: (box[0] + browser.run("return wokureti.timeline.window.pixelOf(arguments[0])".replace("arguments", "args"), packet), box[1] + 60)  # noqa: E731
+    browser.drag([at(120.5), at(140.5), at(150.9)])
+    expect(browser.run("return wokureti.model.selection") == {"first": 120, "end": 150}, "a selection does not end at the key packet next to it")
+    browser.key("Escape")
+    browser.click("[data-size='4']")
+    browser.wait("document.getElementById('now-canvas').getBoundingClientRect().width === 4 * 640")
+    before = browser.run("const { scrollLeft, scrollTop } = document.getElementById('stage'); return [scrollLeft, scrollTop]")
+    middle = browser.run("const box = document.getElementById('stage').getBoundingClientRect(); return [box.left + box.width / 2, box.top + box.height / 2]")
+    browser.drag([middle, (middle[0] - 60, middle[1] - 40), (middle[0] - 120, middle[1] - 80)])
+    after = browser.run("const { scrollLeft, scrollTop } = document.getElementById('stage'); return [scrollLeft, scrollTop]")
+    expect([one - other for one, other in zip(after, before)] == [120, 80], f"a drag moves the picture from {before} to {after}")
+    browser.run("document.getElementById('timeline').focus()")
+    browser.key("f")
+    browser.wait("document.getElementById('now-canvas').getBoundingClientRect().width < 4 * 640")
+    browser.key("w")
+    browser.wait("document.fullscreenElement && document.fullscreenElement.id === 'viewer'")
+    browser.key("w")
+    browser.wait("!document.fullscreenElement")
+    browser.run("document.getElementById('timeline').focus(); await wokureti.model.go(30)")
+    for key, speed in (("l", 1), ("l", 2), ("j", -1), ("j", -2), ("k", 0), ("j", -1), ("k", 0)):
+        browser.key(key)
+        browser.wait(f"wokureti.player.speed === {speed}")
+    say("moving: a selection snaps to a key packet, the picture at 4:1 is dragged, the whole screen, J K L")
+
+
 def find_and_repair(page, clip, place):
     """Finds the broken packet, previews the repairs, takes one, takes it back, and takes that of the second recording."""
     browser = page.browser
@@ -952,6 +982,19 @@ def add_and_crop(browser, room, clip, other):
     """A stream of the folder is opened on the page; a rectangle is drawn on the picture; the bits of the packets are a curve."""
     page = Page(browser, clip, "--edits", room / "list-of-crops")
     page.open()
+    # On a page of its own.
+    browser.click("#add-source")
+    browser.wait("document.getElementById('ask').open")
+    browser.run("document.querySelector('#ask select').value = args[0]; document.querySelectorAll('#ask select')[1].value = 'page'", str(other))
+    browser.click("#ask button[value=yes]")
+    browser.wait("document.getElementById('status').textContent.endsWith('is open on a page of its own')", seconds=30)
+    mine, theirs = browser.tabs()
+    browser.use_tab(theirs)
+    browser.wait("document.body && document.body.dataset.ready === 'yes'", seconds=60)
+    expect(browser.run("return document.getElementById('name').textContent") == other.name, "the page of its own is of another stream")
+    browser.send("DELETE", "/window")
+    browser.use_tab(mine)
+    # As a source.
     browser.click("#add-source")
     browser.wait("document.getElementById('ask').open")
     browser.run("document.querySelector('#ask select').value = args[0]", str(other))
@@ -984,7 +1027,7 @@ def add_and_crop(browser, room, clip, other):
     expect(found == wanted[: len(found)] and len(found) > 200, f"the bits are {found[:3]}, not {wanted[:3]}")
     page.quiet("another stream and a crop")
     said = page.end()
-    say("another stream, a crop, bits")
+    say("another stream on a page of its own and as a source, a crop, bits")
     return said
 
 
@@ -1049,9 +1092,11 @@ def along(page, clip):
     """Small pictures and a curve along the timeline."""
     browser = page.browser
     keys = sum(ivf.is_key(data) for _, data in ivf.read_packets(clip)[1])
-    browser.wait("Number(document.getElementById('thumbs').dataset.pictures) > 10", seconds=30)
-    stored = browser.run("return [...wokureti.thumbs.found.values()].filter((picture) => picture).length")
-    expect(stored == keys, f"{stored} small pictures of {keys} key packets")
+    browser.wait("Number(document.getElementById('thumbs').dataset.pictures) > 10", seconds=60)
+    stored = "[...wokureti.thumbs.found.values()].filter((picture) => picture).length"
+    browser.wait(f"{stored} >= {keys}", seconds=60)
+    found = browser.run(f"return {stored}")
+    expect(found == keys, f"{found} small pictures of {keys} key packets")
     browser.run("const select = document.getElementById('curve'); select.value = 'quantizer'; select.dispatchEvent(new Event('change'))")
     browser.wait("wokureti.timeline.curve")
     found = browser.run("return wokureti.timeline.curve.lines.flat().map(([packet, part]) => [Math.floor(packet), Math.round(part * 127)])")
@@ -1521,6 +1566,7 @@ def main():
         page.quiet("opening")
         functions(page)
         look(page)
+        move_about(page)
         find_and_repair(page, clip, place)
         page.quiet("findings")
         # In another group of pictures: before the edits, those of the first one are refused.

@@ -10,7 +10,7 @@
 A stream is `same`, or the first frame that differs is shown, with the macroblock and the sample, and what the macroblock is made of. A stream in
 which the decoder shows fewer frames than the standard is compared as far as it goes. --beyond takes the streams in which libvpx leaves the
 standard, too. The last lines name the points that only streams that differ reach, and count streams, frames and points. The exit status is 1
-if a stream differs, and 2 if the decoder cannot be run. COMMAND is split as a shell does: quote a path with spaces in it.
+if a stream differs, and 2 if the decoder cannot be run or a stream is not there. COMMAND is split as a shell does: quote a path with spaces in it.
 """
 
 import argparse
@@ -186,7 +186,7 @@ def write_junit(path, name, results):
 
 
 def fail(text):
-    """Ends with a sentence, and the status of a decoder that cannot be run."""
+    """Ends with a sentence, and the status of what cannot be run."""
     print(f"run.py: {text}", file=sys.stderr)
     sys.exit(2)
 
@@ -215,7 +215,7 @@ def asked_streams(asked):
     paths = [path for path in sorted(STREAMS.rglob("*.ivf")) if (asked.beyond or path.parent == STREAMS) and (not wanted or path.stem in wanted)]
     missing = wanted - {path.stem for path in paths}
     if missing or not paths:
-        sys.exit(f"run.py: no stream {', '.join(sorted(missing))}; streams/ has their names")
+        fail(f"no stream {', '.join(sorted(missing))}; streams/ has their names")
     return paths
 
 

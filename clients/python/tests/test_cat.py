@@ -8,6 +8,7 @@ import subprocess
 import threading
 import time
 import unittest
+import urllib.request
 from unittest import mock
 
 from support import DATA, ODD, SLOW, SMALL, Case, command, packets_of, start, start_unwaking, whole_text, write_packets
@@ -156,6 +157,29 @@ class Paths(Case):
         with open(SCENES, "rb") as file:
             self.assertEqual(start("repair", "-", self.room / "mended.ivf", stdin=file, stdout=subprocess.DEVNULL).wait(20 * SLOW), 0)
         self.assertEqual(command("compare", "-", SCENES, given=SCENES.read_bytes())[0], 0)
+
+    def test_standard_input_of_each_command(self):
+        data, wanted = SCENES.read_bytes(), packets_of(SCENES)
+        key = next(place for place, packet in enumerate(wanted) if place and not packet[0] & 1)
+        status, _, errors = command("cut", "-", self.room / "cut.ivf", "--from", 0, "--to", key, given=data)
+        self.assertEqual((status, packets_of(self.room / "cut.ivf") if not status else errors), (0, wanted[:key]))
+        status, _, errors = command("join", "-", self.clip, self.room / "joined.ivf", given=data)
+        self.assertEqual((status, packets_of(self.room / "joined.ivf") if not status else errors), (0, 2 * wanted))
+        status, _, errors = command("export", "-", self.room / "exported.ivf", "--script", f"trim 0 0 {key}", given=data)
+        self.assertEqual((status, packets_of(self.room / "exported.ivf") if not status else errors), (0, wanted[:key]))
+        for words in (["serve"], ["open", "--no-browser", "--edits", self.room / "list"]):
+            process = start(words[0], "-", *words[1:], stdin=subprocess.PIPE, stdout=subprocess.PIPE, stderr=subprocess.PIPE)
+            self.addCleanup(process.kill)
+            process.stdin.write(data)
+            process.stdin.close()
+            address = process.stdout.readline().decode().strip()
+            address = address if words[0] == "serve" else address.replace("page/", "clip.y4m")
+            with urllib.request.urlopen(address, timeout=20 * SLOW) as answer:
+                self.assertEqual(answer.read(), self.wanted, words)
+            process.send_signal(signal.SIGINT)
+            self.assertEqual(process.wait(10 * SLOW), 0)
+            process.stdout.close()
+            process.stderr.close()
 
     def test_a_name_that_a_terminal_obeys(self):
         for words in (["a\x1b[31m\x07.ivf"], [self.clip, "a\x1b[31m\x07/out.y4m"]):

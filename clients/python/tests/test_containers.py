@@ -13,7 +13,7 @@ from array import array
 from unittest import mock
 
 from support import SLOW, SMALL, Case, command, packets_of, write_packets
-from wokureti.tools import blocks, containers, excerpts, ivf, matroska, muxing, opus, paces, sounds, times
+from wokureti.tools import blocks, containers, excerpts, ivf, matroska, muxing, opus, paces, programs, sounds, times
 
 MS = 10**6
 HAS_FFMPEG = bool(shutil.which("ffmpeg") and shutil.which("ffprobe"))
@@ -328,6 +328,14 @@ class Reading(Case):
             self.assertEqual(ivf.read_packets(path), ivf.read_packets(f"{path}.av"), name)
             self.assertEqual([(*track[:7], track.times, track.sizes, sound_packets(track)) for track in one.sounds], [(*track[:7], track.times, track.sizes, sound_packets(track)) for track in two.sounds], name)
             self.assertEqual(one[1:5], two[1:5])
+
+    def test_the_header_counts_the_packets(self):
+        for read in (containers.read_by_ffmpeg, *([containers.read_by_av] if containers.has_av() else [])):
+            out = self.folder() / "read.ivf"
+            read(clip("silent.webm"), out)
+            self.assertEqual(int.from_bytes(out.read_bytes()[24:28], "little"), len(packets_of(out)), read)
+            done = subprocess.run([programs.find("vp8list"), out, "--check"], capture_output=True, text=True, timeout=20 * SLOW, check=False)
+            self.assertNotIn("note: header", done.stdout)
 
     def test_what_has_no_vp8(self):
         room = self.folder()

@@ -109,6 +109,23 @@ class Files(Case):
         files.write_whole(path, [b"new", b"er"])
         self.assertEqual((path.read_bytes(), stat.S_IMODE(path.stat().st_mode)), (b"newer", 0o640))
 
+    def test_the_folder_is_on_the_disk_after_the_file_and_its_name(self):
+        room, calls = self.folder(), []
+        path = room / "a"
+        real = os.fsync, os.replace
+
+        def fsync(descriptor):
+            calls.append("folder" if stat.S_ISDIR(os.fstat(descriptor).st_mode) else "file")
+            return real[0](descriptor)
+
+        def replace(*names):
+            calls.append("rename")
+            return real[1](*names)
+
+        with mock.patch("os.fsync", fsync), mock.patch("os.replace", replace):
+            files.write_whole(path, [b"new"])
+        self.assertEqual(calls, ["file", "rename", "folder"])
+
     def test_a_link_stays_a_link(self):
         room = self.folder()
         os.symlink("b", room / "a")

@@ -17,7 +17,7 @@ import unittest
 from array import array
 from unittest import mock
 
-from support import DATA, ODD, SLOW, SMALL, Case, command, crash, frames_of, list_of, packets_of, serve, start, write_packets
+from support import DATA, ENGINE, ODD, SLOW, SMALL, Case, children_of, command, crash, frames_of, list_of, packets_of, serve, start, write_packets
 from test_serve import TOKEN, ServerCase
 from wokureti import Refused, Script, Session
 from wokureti.page import views
@@ -1178,6 +1178,18 @@ class MoreSources(PageCase):
         self.assertEqual(self.members("/session")["edits"], [])
         self.assertEqual(list_of(room / "one.edits"), "")
 
+    def test_streams_below_the_folder(self):
+        room = self.opened()
+        for name in ("sub/deep/three.ivf", "sub/.hidden/four.ivf", ".away/five.ivf", "a/b/c/d/six.ivf", "a/b/c/d/e/seven.ivf"):
+            (room / name).parent.mkdir(parents=True, exist_ok=True)
+            shutil.copy(ODD, room / name)
+        os.symlink("/", room / "sub/all")
+        found = [room / name for name in ("broken.ivf", "one.ivf", "two.ivf", "a/b/c/d/six.ivf", "sub/deep/three.ivf")]
+        self.assertEqual(self.members("/files")["files"], list(map(str, found)))
+        status, answer = self.add(found[-1])
+        self.assertEqual((status, answer["source"]), (200, 1))
+        self.assertEqual(self.add(room / "sub/.hidden/four.ivf")[0], 404)
+
     def test_a_list_without_edits_stays_quiet(self):
         room = self.opened()
         self.assertEqual(self.add(room / "two.ivf")[0], 200)
@@ -1278,6 +1290,37 @@ class TheCommand(Case):
         self.end(process)
         self.assertEqual((room / "out.ivf").read_bytes(), (room / "plain.ivf").read_bytes())
 
+    def test_another_stream_on_a_page_of_its_own(self):
+        room = self.folder()
+        clip, other = (write_packets(room / f"{name}.ivf", packets_of(path)) for name, path in (("clip", SMALL), ("other", ODD)))
+        (room / "broken.ivf").write_text("no stream")
+        process, host, token = self.open(clip)
+
+        def page_of(path):
+            one = http.client.HTTPConnection(host, timeout=20 * SLOW)
+            one.request("POST", f"/{token}/pages", json.dumps({"file": str(path)}), {"Origin": f"http://{host}", "Content-Type": "application/json"})
+            response = one.getresponse()
+            body = response.read()
+            one.close()
+            return response.status, json.loads(body)
+
+        status, found = page_of(other)
+        self.assertEqual(status, 200, found)
+        _, _, theirs, word, *_ = found["address"].split("/")
+        self.assertNotEqual((theirs, word), (host, token))
+        self.assertEqual(json.loads(self.ask(theirs, f"/{word}/session")[1])["names"], ["other.ivf"])
+        self.assertEqual(self.ask(theirs, f"/{word}/edits", "delete 3")[0], 200)
+        # One that is open has its list already, and one that is none says so.
+        for path, status, said in ((other, 409, "another session"), (room / "broken.ivf", 409, "broken.ivf"), ("/etc/passwd", 404, "no such stream")):
+            found = page_of(path)
+            self.assertEqual((found[0], said in found[1]["error"]), (status, True), found)
+        children = children_of(process.pid)
+        errors = self.end(process)
+        self.assertIn(str(room / "other.edits"), errors)
+        self.assertEqual(list_of(room / "other.edits"), "delete 3\n")
+        for child in children:
+            self.assertGone(child)
+
     def test_it_does_not_start(self):
         room = self.folder()
         status, out, errors = command("open", room / "nowhere.ivf", "--no-browser")
@@ -1298,7 +1341,8 @@ class TheCommand(Case):
         one = http.client.HTTPConnection(host, timeout=60 * SLOW)
         one.request("GET", f"/{token}/frames/20000.y4m")
         time.sleep(0.5)
-        with self.within(6):
+        # A frame that the library decodes is waited for.
+        with self.within(6 if ENGINE == "program" else 20):
             self.end(process)
         one.close()
 

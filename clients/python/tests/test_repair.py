@@ -10,7 +10,7 @@ import subprocess
 import unittest
 from unittest import mock
 
-from support import DATA, ODD, SMALL, TOP, Case, command, packets_of, serve, start_python
+from support import DATA, ODD, SLOW, SMALL, TOP, Case, command, packets_of, serve, start_python, write_packets
 from wokureti import commands
 from wokureti.tools import ivf, programs, repair, salvage
 from wokureti.tools.differences import edits_between
@@ -439,6 +439,24 @@ class Parts(RepairCase):
             parts, said = self.mended(data, PART=3000, LEAST_PART=40)
             self.assertEqual(parts, whole, name)
             self.assertGreater(len([text for text in said if re.search(r"checking .*, \d+ of \d+ parts", text)]), 0 if name == "clean" else -1)
+
+    def test_a_long_file_is_never_in_memory(self):
+        names = ("golden-references", "hidden-altref", "error-resilient")
+        path = write_packets(self.room / "in.ivf", 540 * [data for name in names for data in packets_of(DATA / f"{name}.ivf")])
+        code = """
+import resource, sys
+from wokureti import commands
+from wokureti.tools import repair
+repair.PART, commands.LEAST_MAPPED = 4 << 20, int(sys.argv[1])
+resource.setrlimit(resource.RLIMIT_DATA, (105 << 20, 105 << 20))
+sys.exit(commands.main(["repair", *sys.argv[2:]]))
+"""
+        # A file of 47 MB that is read as a whole does not fit, next to Python and its threads.
+        for least, wanted in ((1 << 40, 70), (0, 0)):
+            process = start_python("-c", code, least, path, self.room / "out.ivf", stdout=subprocess.DEVNULL, stderr=subprocess.PIPE, env={"TMPDIR": str(self.room)})
+            errors = process.communicate(timeout=50 * SLOW)[1].decode()
+            self.assertEqual((process.returncode, errors if not wanted else ""), (wanted, ""))
+        self.assertEqual((self.room / "out.ivf").stat().st_size, path.stat().st_size)
 
     def test_a_mapped_file_is_read_as_any(self):
         data = self.data[:9000] + bytes(512) + self.data[9512:]

@@ -7,7 +7,7 @@ from ..tools.containers import media_of
 from ..session.errors import Ended
 
 ENDINGS = (".ivf", ".webm", ".mkv")
-MOST_FILES, MOST_SOURCES = 1000, 8
+MOST_FILES, MOST_DEPTH, MOST_SOURCES = 1000, 4, 8
 
 
 class Cannot(ValueError):
@@ -20,16 +20,17 @@ def folders_of(paths):
 
 
 def files_of(paths):
-    """The streams in the folders of these, as paths that begin as they do, at most so many."""
+    """The streams in the folders of these, and in folders below, as paths that begin as they do, at most so many. Names that begin with a dot are hidden."""
     found = []
     for folder in folders_of(paths):
-        try:
-            with os.scandir(folder) as entries:
-                names = sorted(entry.name for entry in entries if entry.name.lower().endswith(ENDINGS) and entry.is_file() and not entry.name.startswith("."))
-        except OSError:
-            continue
-        found += [os.path.join(folder, name) if folder != "." else name for name in names]
-    return found[:MOST_FILES]
+        for place, folders, names in os.walk(folder):
+            depth = len(os.path.relpath(place, folder).split(os.sep)) if place != folder else 0
+            folders[:] = sorted(name for name in folders if not name.startswith(".")) if depth < MOST_DEPTH else []
+            mine = sorted(name for name in names if name.lower().endswith(ENDINGS) and not name.startswith("."))
+            found += [path for path in (os.path.normpath(os.path.join(place, name)) if folder == "." else os.path.join(place, name) for name in mine) if os.path.isfile(path)]
+            if len(found) >= MOST_FILES:
+                return found[:MOST_FILES]
+    return found
 
 
 def add(live, path, stem):

@@ -172,7 +172,7 @@ export class Cutting {
       ["show black", "black"],
     ];
     if (selection) choices.unshift(["fade in the selected frames", "in"], ["fade out the selected frames", "out"]);
-    session.names.forEach((name, source) => choices.push([`join: after the last frame those of ${source}: ${name}`, `join ${source}`]));
+    session.names.forEach((name, source) => choices.push([`join ${source}: ${name}, after the last frame`, `join ${source}`]));
     const fields = [
       { name: "what", label: "What", value: choices[0][1], choices },
       { name: "seconds", label: `Seconds, before frame ${frame}`, value: 1, step: "any" },

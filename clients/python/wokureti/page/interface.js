@@ -84,6 +84,11 @@ export async function addSource(file) {
   return (await (await post("sources", { file }, "the stream to be opened")).json()).source;
 }
 
+/** Opens a stream of the folder on a page of its own, and returns its address. */
+export async function openPage(file) {
+  return (await (await post("pages", { file }, "the page to be opened")).json()).address;
+}
+
 /** Inserts remembered packets as one step. */
 export async function paste(members) {
   return (await post("paste", members, "edit")).json();

@@ -107,6 +107,8 @@ def run(options, titles, how, port, has_browser):
 
         serve.serve_with(live, port, routes, announce)
     finally:
+        for routed in made:
+            routed.others.close()
         added = "".join(f" --source {path}" for path in (made[0].added if made else ()))
         say_where(live, f"{titles[0]}{added}", f"{stems[0]}.edits")
     return 0

@@ -9,7 +9,7 @@ import re
 import tempfile
 import time
 
-from . import adding
+from . import adding, others
 from ..session import records
 from ..tools import exports, ivf, muxing, repair
 from .clipboard import Clipboard, Gone, numbers_of, runs_of
@@ -60,8 +60,9 @@ class PageRoutes(Routes):
         self.titles, self.files = titles, files_of_page()
         # The streams that the command names, and those that were added.
         self.paths, self.added = list(paths), []
-        self.sounding = Sounding(live.room.name)
+        self.sounding, self.others = Sounding(live.room.name), others.Others()
         self.posts[("sources",)] = self.add_source
+        self.posts[("pages",)] = self.open_page
         self.posts[("preview",)] = self.preview
         self.posts[("paste",)] = self.paste
         self.reads.update(
@@ -574,13 +575,26 @@ class PageRoutes(Routes):
         self.only(request)
         return as_json({"revision": self.live.revision, "files": adding.files_of(self.paths)})
 
-    def add_source(self, request):
-        """Opens one of these as the last source."""
+    def file_of(self, request):
+        """The file of a body, which is one of these."""
         self.only(request)
-        members = parse_body(request.body, {"file": str})
-        path = members.get("file")
+        path = parse_body(request.body, {"file": str}).get("file")
         if path not in adding.files_of(self.paths):
             raise Refuse(404, "there is no such stream in the folders of those that are open")
+        return path
+
+    def open_page(self, request):
+        """Opens one of these on a page of its own, and answers with its address."""
+        path = self.file_of(request)
+        try:
+            address = self.others.open(path)
+        except adding.Cannot as error:
+            raise Refuse(409, f"{os.path.basename(path)} was not opened: {error}") from None
+        return as_json({"address": address, "revision": self.live.revision})
+
+    def add_source(self, request):
+        """Opens one of these as the last source."""
+        path = self.file_of(request)
         try:
             adding.add(self.live, path, os.path.splitext(path)[0])
         except adding.Cannot as error:

@@ -187,5 +187,6 @@ def run(live, folder, others=False, server=None):
     finally:
         if server is not None:
             server.end()
+            server.routes.others.close()
         live.close()
     return 0

@@ -1,0 +1,56 @@
+"""Pages of other streams, which a page opens: each is a command of its own, with its list of edits, and ends with this one."""
+
+import signal
+import subprocess
+import sys
+import threading
+
+from .adding import Cannot
+
+# Seconds.
+MOST_START, MOST_END = 30, 10
+
+
+class Others:
+    """The commands that were started."""
+
+    def __init__(self):
+        self.running, self.lock, self.closed = [], threading.Lock(), False
+
+    def open(self, path):
+        """The address of the page of another stream. `Cannot` with what the command says if it does not start."""
+        words = [sys.executable, "-m", "wokureti", "open", "--no-browser", "--", path]
+        with self.lock:
+            if self.closed:
+                raise Cannot("the server ends")
+            process = subprocess.Popen(words, stdin=subprocess.DEVNULL, stdout=subprocess.PIPE, stderr=subprocess.PIPE, text=True, errors="replace")
+            self.running.append(process)
+        said = []
+        threading.Thread(target=relay, args=(process, said), daemon=True).start()
+        late = threading.Timer(MOST_START, process.kill)
+        late.start()
+        address = process.stdout.readline().strip()
+        late.cancel()
+        if not address:
+            process.wait()
+            raise Cannot(" ".join(said) or "it does not start")
+        return address
+
+    def close(self):
+        """Ends them as Ctrl-C does."""
+        with self.lock:
+            self.closed, running = True, [process for process in self.running if process.poll() is None]
+        for process in running:
+            process.send_signal(signal.SIGINT)
+        for process in running:
+            try:
+                process.wait(MOST_END)
+            except subprocess.TimeoutExpired:
+                process.kill()
+
+
+def relay(process, said):
+    """Says what a command says."""
+    for line in process.stderr:
+        said.append(line.strip().removeprefix("wokureti: "))
+        print(line, end="", file=sys.stderr, flush=True)
