@@ -1,3 +1,5 @@
 mod Counts
+pub mod Found
+mod NextKeys
 mod Progressed
 mod Steps

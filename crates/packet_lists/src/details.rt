@@ -27,7 +27,7 @@ fn key_before(store: &Store, at: usize) -> usize
 }
 
 /// What decoding knows before the packet at index `at`. Headers and modes are read, starting at the last packet with a key tag before it.
-fn progress_before(
+pub(crate) fn progress_before(
     alloc: Global,
     tables: &Tables,
     store: &Store,

@@ -1,5 +1,6 @@
 //! Laws over the definitions.
 
+ghost use Rattle.packet_lists.specs.FindingLaws.{FindingsAreChecked, FindingsAreJoined};
 ghost use Rattle.packet_lists.specs.Lines.{LinesAreJoined, LinesAreListed};
 
 /// The lines of all packets are the text that vp8list writes of the file to which they are saved.
@@ -10,4 +11,14 @@ pub fn lines_are_listed()
 /// The lines of consecutive packets, put together, are those of all of them.
 pub fn lines_are_joined()
     ensures { LinesAreJoined }
+{}
+
+/// The findings at all packets, with those of the file to which they are saved, are the text that vp8list writes of it.
+pub fn findings_are_checked()
+    ensures { FindingsAreChecked }
+{}
+
+/// The findings at consecutive packets, put together, are those at all of them.
+pub fn findings_are_joined()
+    ensures { FindingsAreJoined }
 {}

@@ -22,7 +22,7 @@ fn is_before(store: &Store, n: usize, at: usize) -> bool
 }
 
 /// The number of shown packets before index `at`.
-fn shown_before(store: &Store, at: usize) -> usize
+pub(crate) fn shown_before(store: &Store, at: usize) -> usize
     ensures { result ≡ length (shown_indexes (take at (stream_of store.now.list))) }
 {
     store.prove_few();

@@ -14,8 +14,6 @@ use Rattle.stream_checks.specs.Checks.{IsBegun, IsChecked, IsEarlyEnd, IsPacketE
 use Rattle.stream_checks.specs.Files.{end_findings, findings, head_findings}
 use Rattle.stream_checks.specs.Lines.{frames_of}
 use Rattle.stream_checks.specs.Packets.{packet_findings}
-use Rattle.stream_checks.specs.Stamps.{IsPace}
-use Rattle.stream_checks.specs.declared.stamps.Pace.{Pace}
 use Rattle.stream_checks.specs.Severity.{plus, tally_of}
 use Rattle.stream_checks.specs.Texts.{end_of, text_of, texts_of}
 use Rattle.stream_checks.proofs.Tallies.{tally_append}
@@ -48,31 +46,24 @@ whole_tally first middle last a b c of_first of_middle of_last =
     ∙ ap (λ (t : Tally). plus t (tally_of last)) (sym (tally_append first middle)) ∙ sym (tally_append (first ++ middle) last)
 
 -- memory ran out in the middle of the second part
-pub early_whole : (fault : CheckFault) (form : Form) (tables : TableEntries) (bytes : List ℕ) (file : Ivf) (pace : Pace) (w0 w1 w2 : Option (List ℕ))
-    → IsPace file.packets pace → Appends w0 w1 (texts_of form (head_findings bytes file)) → IsPacketEnd form (packet_findings pace tables file.packets) w1 w2 fault
+pub early_whole : (fault : CheckFault) (form : Form) (tables : TableEntries) (bytes : List ℕ) (file : Ivf) (w0 w1 w2 : Option (List ℕ))
+    → Appends w0 w1 (texts_of form (head_findings bytes file)) → IsPacketEnd form (packet_findings tables file.packets) w1 w2 fault
     → IsEarlyEnd form tables bytes file w0 w2 fault
-early_whole NoMemory form tables bytes file pace w0 w1 w2 paced said begun = inr (record {
-  pace = pace;
-  paced = paced;
-  begun = begun_whole form (head_findings bytes file) (packet_findings pace tables file.packets) (end_findings bytes file) w0 w1 w2 said begun;
-})
-early_whole Write form tables bytes file pace w0 w1 w2 paced said begun = tt
+early_whole NoMemory form tables bytes file w0 w1 w2 said begun = inr (begun_whole form (head_findings bytes file) (packet_findings tables file.packets) (end_findings bytes file) w0 w1 w2 said begun)
+early_whole Write form tables bytes file w0 w1 w2 said begun = tt
 
 -- a whole check
-pub checked_whole : (form : Form) (tables : TableEntries) (bytes : List ℕ) (file : Ivf) (pace : Pace) (w0 w1 w2 w3 w4 : Option (List ℕ)) (a b c total : Tally)
-    → IsPace file.packets pace
-    → Appends w0 w1 (texts_of form (head_findings bytes file)) → Appends w1 w2 (texts_of form (packet_findings pace tables file.packets)) → Appends w2 w3 (texts_of form (end_findings bytes file))
-    → a ≡ tally_of (head_findings bytes file) → b ≡ tally_of (packet_findings pace tables file.packets) → c ≡ tally_of (end_findings bytes file)
+pub checked_whole : (form : Form) (tables : TableEntries) (bytes : List ℕ) (file : Ivf) (w0 w1 w2 w3 w4 : Option (List ℕ)) (a b c total : Tally)
+    → Appends w0 w1 (texts_of form (head_findings bytes file)) → Appends w1 w2 (texts_of form (packet_findings tables file.packets)) → Appends w2 w3 (texts_of form (end_findings bytes file))
+    → a ≡ tally_of (head_findings bytes file) → b ≡ tally_of (packet_findings tables file.packets) → c ≡ tally_of (end_findings bytes file)
     → total ≡ plus (plus a b) c → Appends w3 w4 (end_of form (length file.packets) (frames_of file.packets) total)
     → IsChecked form tables bytes file total w0 w4
-checked_whole form tables bytes file pace w0 w1 w2 w3 w4 a b c total paced first middle last of_first of_middle of_last is end =
-    let all : List Finding = findings pace tables bytes file in
-    let counted : total ≡ tally_of all = is ∙ whole_tally (head_findings bytes file) (packet_findings pace tables file.packets) (end_findings bytes file) a b c of_first of_middle of_last in
+checked_whole form tables bytes file w0 w1 w2 w3 w4 a b c total first middle last of_first of_middle of_last is end =
+    let all : List Finding = findings tables bytes file in
+    let counted : total ≡ tally_of all = is ∙ whole_tally (head_findings bytes file) (packet_findings tables file.packets) (end_findings bytes file) a b c of_first of_middle of_last in
     let ended : Appends w3 w4 (end_of form (length file.packets) (frames_of file.packets) (tally_of all)) =
     subst (λ (tally : Tally). Appends w3 w4 (end_of form (length file.packets) (frames_of file.packets) tally)) counted end in
     record {
-      pace = pace;
-      paced = paced;
-      written = whole_text form (head_findings bytes file) (packet_findings pace tables file.packets) (end_findings bytes file) _ w0 w1 w2 w3 w4 first middle last ended;
+      written = whole_text form (head_findings bytes file) (packet_findings tables file.packets) (end_findings bytes file) _ w0 w1 w2 w3 w4 first middle last ended;
       counted = counted;
     }

@@ -1,5 +1,5 @@
 -- The text of a check, and what was written when it fails.
-use Rattle.std.specs.Prelude.{◌≡◌, ◌⊎◌, ℕ, Bool, List, ◌++◌, length, Option, IfSome}
+use Rattle.std.specs.Prelude.{◌≡◌, ◌⊎◌, ℕ, List, ◌++◌, length, Option, IfSome}
 use Rattle.std.specs.Io.KnownBytes.{Appends}
 use Rattle.vp8_tables.specs.Tables.{TableEntries}
 use Rattle.stream_files.specs.declared.ivf.Ivf.{Ivf}
@@ -8,19 +8,18 @@ use Rattle.macroblock_lists.specs.Known.{Progress, progress_after}
 use Rattle.macroblock_lists.specs.PartitionEnds.{ends_before}
 use Rattle.stream_checks.specs.declared.checker.Checker.{Checker}
 use Rattle.stream_checks.specs.Breaks.{progresses_from}
-use Rattle.stream_checks.specs.Packets.{bytes_of, findings_at, findings_from, is_unshown}
+use Rattle.stream_checks.specs.Packets.{bytes_of, each_from, findings_at, is_unshown, joined, lost_after}
 use Rattle.stream_checks.specs.Partitions.{ends_from}
 use Rattle.macroblock_lists.specs.declared.partition_ends.PartitionEnds.{PartitionEnds}
 use Rattle.stream_checks.specs.declared.finding.Finding.{Finding}
 use Rattle.stream_checks.specs.declared.finding.Tally.{Tally}
-use Rattle.stream_checks.specs.declared.stamps.Pace.{Pace}
+use Rattle.stream_checks.specs.declared.packets.Ahead.{Ahead}
 use Rattle.stream_checks.specs.declared.fault.CheckFault.{CheckFault}
 use Rattle.stream_checks.specs.declared.fault.CheckFault.TheVariants.{NoMemory, Write}
 use Rattle.macroblock_lists.specs.declared.layouts.Form.{Form}
 use Rattle.stream_checks.specs.Files.{findings}
 use Rattle.stream_checks.specs.Lines.{frames_of}
 use Rattle.stream_checks.specs.Severity.{tally_of}
-use Rattle.stream_checks.specs.Stamps.{IsPace}
 use Rattle.stream_checks.specs.Texts.{end_of, texts_of}
 
 -- what is known after the packet after a checker's position
@@ -30,20 +29,23 @@ progress_next tables checker packet = progress_after tables checker.position.pac
 abbrev pub ends_next : TableEntries → Checker → Packet → PartitionEnds
 ends_next tables checker packet = ends_before tables checker.reader packet.bytes
 
--- the findings at this packet
-abbrev pub findings_next : TableEntries → Checker → Packet → List Packet → List Finding
-findings_next tables checker packet rest =
-    findings_at checker.pace checker.position packet rest (progress_next tables checker packet) (ends_next tables checker packet)
+-- the findings at this packet, after which this is known of the packets
+abbrev pub findings_next : TableEntries → Checker → Packet → Ahead → List Finding
+findings_next tables checker packet ahead =
+    findings_at checker.pace checker.position packet ahead (progress_next tables checker packet) (ends_next tables checker packet)
 
--- what is known of a hidden packet before the position is the answer for the packets after it
-abbrev pub TellsUnshown : Option Bool → List Packet → Type 0
-TellsUnshown unshown rest = IfSome unshown (λ answer. answer ≡ is_unshown rest)
+-- what is known ahead of the packet before the position is so of the packets after it
+abbrev pub TellsAhead : Option Ahead → List Packet → Type 0
+TellsAhead before rest = IfSome before (λ ahead. (ahead.lost ≡ lost_after rest) × (ahead.is_unshown ≡ is_unshown rest))
 
--- the findings at the packets after the position
-abbrev pub findings_after : TableEntries → Checker → List Packet → List Finding
-findings_after tables checker rest =
-    findings_from checker.pace checker.position rest (progresses_from tables checker.position.packets checker.reader (bytes_of rest))
+-- the findings at each of the packets after the position, and all of them
+abbrev pub each_after : TableEntries → Checker → List Packet → List (List Finding)
+each_after tables checker rest =
+    each_from checker.pace checker.position rest (progresses_from tables checker.position.packets checker.reader (bytes_of rest))
     (ends_from tables checker.position.packets checker.reader (bytes_of rest))
+
+abbrev pub findings_after : TableEntries → Checker → List Packet → List Finding
+findings_after tables checker rest = joined (each_after tables checker rest)
 
 -- the text of findings, and what follows them
 abbrev pub text_of_check : Form → Ivf → List Finding → List ℕ
@@ -51,10 +53,8 @@ text_of_check form file found = texts_of form found ++ end_of form (length file.
 
 -- a check of a file: the output gained the text of its findings, and the tally is theirs
 pub record IsChecked (form : Form) (tables : TableEntries) (bytes : List ℕ) (file : Ivf) (tally : Tally) (output output' : Option (List ℕ)) : Type 0 where
-  pub pace : Pace
-  pub paced : IsPace file.packets pace
-  pub written : Appends output output' (text_of_check form file (findings pace tables bytes file))
-  pub counted : tally ≡ tally_of (findings pace tables bytes file)
+  pub written : Appends output output' (text_of_check form file (findings tables bytes file))
+  pub counted : tally ≡ tally_of (findings tables bytes file)
 
 -- the output gained the texts of the first findings, as many as there was memory for
 pub record IsBegun (form : Form) (all : List Finding) (output output' : Option (List ℕ)) : Type 0 where
@@ -63,15 +63,9 @@ pub record IsBegun (form : Form) (all : List Finding) (output output' : Option (
   pub whole : done ++ left ≡ all
   pub said : Appends output output' (texts_of form done)
 
--- of the findings of a file
-pub record IsCheckBegun (form : Form) (tables : TableEntries) (bytes : List ℕ) (file : Ivf) (output output' : Option (List ℕ)) : Type 0 where
-  pub pace : Pace
-  pub paced : IsPace file.packets pace
-  pub begun : IsBegun form (findings pace tables bytes file) output output'
-
 -- what was written when a check ended early
 abbrev pub IsEarlyEnd : Form → TableEntries → List ℕ → Ivf → Option (List ℕ) → Option (List ℕ) → CheckFault → Type 0
-IsEarlyEnd form tables bytes file output output' NoMemory = (output' ≡ output) ⊎ IsCheckBegun form tables bytes file output output'
+IsEarlyEnd form tables bytes file output output' NoMemory = (output' ≡ output) ⊎ IsBegun form (findings tables bytes file) output output'
 IsEarlyEnd form tables bytes file output output' Write = Unit {0}
 
 -- and when its packets did

@@ -8,7 +8,6 @@ use Rattle.stream_facts.specs.Facts.{first_key_size}
 use Rattle.stream_checks.specs.declared.finding.Finding.{Finding}
 use Rattle.stream_checks.specs.declared.finding.Trouble.{Trouble}
 use Rattle.stream_checks.specs.declared.finding.Trouble.TheVariants.{FrameCount, FrameSize, NoRate, CutRecord}
-use Rattle.stream_checks.specs.declared.stamps.Pace.{Pace}
 use Rattle.stream_checks.specs.Listed.{found_around, listed}
 use Rattle.stream_checks.specs.Packets.{packet_findings}
 
@@ -52,6 +51,6 @@ head_findings bytes file =
 abbrev pub end_findings : List ℕ → Ivf → List Finding
 end_findings bytes file = listed (found_around (cut_trouble bytes (length file.packets) file.spare))
 
--- the findings of a file whose time stamps go on so: at its header, at its packets, and at its end
-abbrev pub findings : Pace → TableEntries → List ℕ → Ivf → List Finding
-findings pace tables bytes file = head_findings bytes file ++ packet_findings pace tables file.packets ++ end_findings bytes file
+-- the findings of a file: at its header, at its packets, and at its end
+abbrev pub findings : TableEntries → List ℕ → Ivf → List Finding
+findings tables bytes file = head_findings bytes file ++ packet_findings tables file.packets ++ end_findings bytes file

@@ -1,9 +1,11 @@
 -- A finding as a JSON object (RFC 8259).
 use Rattle.std.specs.Prelude.{ℕ, if◌then◌else◌, List, ◌++◌, codes, Option, Some, None}
+use Rattle.std.specs.Fmt.{decimal}
 use Rattle.stream_facts.specs.Json.{member, number_member, optional_member}
 use Rattle.stream_facts.specs.Lines.{cause_text}
 use Rattle.stream_checks.specs.declared.finding.Finding.{Finding}
 use Rattle.stream_checks.specs.declared.finding.Spot.{Spot}
+use Rattle.stream_checks.specs.declared.finding.Tally.{Tally}
 use Rattle.stream_checks.specs.declared.finding.Trouble.{Trouble}
 use Rattle.stream_checks.specs.declared.finding.Trouble.TheVariants.{FrameCount, FrameSize, NoRate, Refused, PastFirst, PastToken, UnreadFirst, UnreadToken, EmptyToken, NoBytes, GoldenCopiesNone, AltrefCopiesNone, ComesTwice, StampRepeats, StampGoesBack, StampSkips, BreaksStep, SizeChanges, NeverShown, CutRecord}
 use Rattle.stream_checks.specs.Lines.{size_text}
@@ -93,3 +95,7 @@ severity_member trouble = if is_damage trouble then codes "\"severity\":\"damage
 
 abbrev pub object_of : Finding → List ℕ
 object_of finding = codes "{" ++ spot_members finding.spot ++ trouble_members finding.trouble ++ severity_member finding.trouble ++ codes "}\n"
+
+-- how many findings are damage, and how many are notes
+abbrev pub tally_object : Tally → List ℕ
+tally_object tally = codes "{" ++ number_member (codes "damage") tally.damage ++ codes "\"notes\":" ++ decimal tally.notes ++ codes "}\n"

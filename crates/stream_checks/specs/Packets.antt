@@ -1,7 +1,7 @@
 -- The findings at a packet: by the packets around it, what is known after it, and where decoding ends in its partitions.
 use Rattle.std.specs.Prelude.{ℕ, ◌+◌, ◌==◌, ◌&&◌, Bool, true, false, not, if◌then◌else◌, List, [], ◌++◌, ◌∷◌, map, length, Option, Some, None, Ok, Err}
 use Rattle.std.specs.Int.{from_bool}
-use Rattle.std.specs.List.{prefix_len}
+use Rattle.std.specs.List.{flat_map, prefix_len}
 use Rattle.std.specs.Str.{bytes_eq}
 use Rattle.stream_files.specs.declared.packets.Packet.{Packet}
 use Rattle.frame_header.specs.declared.cause.Cause.{Cause}
@@ -14,11 +14,12 @@ use Rattle.macroblock_lists.specs.declared.partition_ends.PartitionEnds.{Partiti
 use Rattle.stream_checks.specs.Breaks.{break_in, progresses_from}
 use Rattle.stream_checks.specs.Listed.{found, listed}
 use Rattle.stream_checks.specs.Partitions.{ends_from, partition_findings}
-use Rattle.stream_checks.specs.Stamps.{stamp_trouble_in, stamps_after}
+use Rattle.stream_checks.specs.Stamps.{pace_of, stamp_trouble_in, stamps_after}
 use Rattle.stream_checks.specs.declared.finding.Finding.{Finding}
 use Rattle.stream_checks.specs.declared.finding.Spot.{Spot}
 use Rattle.stream_checks.specs.declared.finding.Trouble.{Trouble}
 use Rattle.stream_checks.specs.declared.finding.Trouble.TheVariants.{Refused, SizeChanges, NeverShown, NoBytes, GoldenCopiesNone, AltrefCopiesNone, ComesTwice}
+use Rattle.stream_checks.specs.declared.packets.Ahead.{Ahead}
 use Rattle.stream_checks.specs.declared.packets.Position.{Position}
 use Rattle.stream_checks.specs.declared.packets.Found.{Found}
 use Rattle.stream_checks.specs.declared.packets.Read.{Read}
@@ -28,10 +29,10 @@ use Rattle.stream_checks.specs.declared.stamps.Pace.{Pace}
 abbrev pub lost_after : List Packet → ℕ
 lost_after rest = prefix_len (λ packet. not (has_key_tag packet.bytes)) rest
 
--- a packet is refused
-abbrev pub refusal : Option Cause → List Packet → Option Trouble
-refusal None rest = None
-refusal (Some cause) rest = Some (Refused cause (lost_after rest))
+-- a packet is refused, and so many packets are lost with it
+abbrev pub refusal : Option Cause → ℕ → Option Trouble
+refusal None lost = None
+refusal (Some cause) lost = Some (Refused cause lost)
 
 -- the size of a key packet against the size of the last key packet with a size
 abbrev pub size_change : Option (ℕ × ℕ) → Option (ℕ × ℕ) → Option Trouble
@@ -46,16 +47,12 @@ is_unshown [] = true
 is_unshown (packet ∷ rest) = if has_key_tag packet.bytes then true else if is_shown packet.bytes then false else is_unshown rest
 
 -- a hidden packet that no shown packet follows before the next key tag
-abbrev pub unshown_at : Packet → List Packet → Option Bool
-unshown_at packet rest = if is_shown packet.bytes then None else Some (is_unshown rest)
-
-abbrev pub hidden_of : Option Bool → Option Trouble
-hidden_of None = None
-hidden_of (Some unshown) = if unshown then Some NeverShown else None
+abbrev pub never_shown : List ℕ → Bool → Option Trouble
+never_shown packet unshown = if is_shown packet then None else if unshown then Some NeverShown else None
 
 -- a packet of no bytes
-abbrev pub emptiness : Packet → Option Trouble
-emptiness packet = if length packet.bytes == 0 then Some NoBytes else None
+abbrev pub emptiness : List ℕ → Option Trouble
+emptiness packet = if length packet == 0 then Some NoBytes else None
 
 -- a packet that is decoded has the numbers of copies that are coded, any other none
 abbrev pub copies_in : Progress → List ℕ → CopyNumbers
@@ -74,9 +71,16 @@ undefined_copy trouble number = if number == 3 then Some trouble else None
 abbrev pub is_same : Packet → Packet → Bool
 is_same one other = one.stamp == other.stamp && bytes_eq one.bytes other.bytes
 
-abbrev pub repetition : Pace → Packet → List Packet → Option Trouble
-repetition pace packet [] = None
-repetition pace packet (next ∷ rest) = if is_same packet next && not (length packet.bytes == 0) then Some (ComesTwice (pace.is_constant && not (has_key_tag packet.bytes))) else None
+abbrev pub is_repeated : Packet → List Packet → Bool
+is_repeated packet [] = false
+is_repeated packet (next ∷ rest) = is_same packet next
+
+abbrev pub repetition : Pace → List ℕ → Bool → Option Trouble
+repetition pace packet repeated = if repeated && not (length packet == 0) then Some (ComesTwice (pace.is_constant && not (has_key_tag packet))) else None
+
+-- what the findings at a packet depend on of the packets after it
+abbrev pub ahead_of : Packet → List Packet → Ahead
+ahead_of packet rest = record { lost = lost_after rest; is_unshown = is_unshown rest; is_repeated = is_repeated packet rest }
 
 -- before the first packet
 abbrev pub first_position : Position
@@ -94,21 +98,25 @@ position_after step position packet = record {
   size = newer (key_size_of packet.bytes) position.size;
 }
 
+abbrev pub position_over : ℕ → Position → List Packet → Position
+position_over step position [] = position
+position_over step position (packet ∷ packets) = position_over step (position_after step position packet) packets
+
 -- the packet at a position, and the frame that it is shown as
-abbrev pub spot_of : Position → Packet → Spot
-spot_of position packet = record { packet = position.packets; frame = if is_shown packet.bytes then Some position.frames else None }
+abbrev pub spot_of : Position → List ℕ → Spot
+spot_of position packet = record { packet = position.packets; frame = if is_shown packet then Some position.frames else None }
 
 -- what is wrong with a packet by the packets around it
-abbrev pub found_at : Pace → Position → Packet → List Packet → Read → Found
-found_at pace position packet rest read = record {
-  refused = refusal read.cause rest;
-  empty = emptiness packet;
+abbrev pub found_at : Pace → Position → Packet → Ahead → Read → Found
+found_at pace position packet ahead read = record {
+  refused = refusal read.cause ahead.lost;
+  empty = emptiness packet.bytes;
   to_golden = undefined_copy GoldenCopiesNone read.copies.golden;
   to_altref = undefined_copy AltrefCopiesNone read.copies.altref;
-  twice = repetition pace packet rest;
+  twice = repetition pace packet.bytes ahead.is_repeated;
   stamp = stamp_trouble_in pace position.packets position.stamps packet;
   size = size_change position.size (key_size_of packet.bytes);
-  hidden = hidden_of (unshown_at packet rest);
+  hidden = never_shown packet.bytes ahead.is_unshown;
 }
 
 abbrev pub listed_of : Spot → Found → List Finding
@@ -118,22 +126,32 @@ listed_of spot all =
 
 -- the findings at a packet. A packet whose partitions are read is not refused, so its first findings are those of its partitions,
 -- as a refused packet's first is the refusal
-abbrev pub findings_at : Pace → Position → Packet → List Packet → Progress → PartitionEnds → List Finding
-findings_at pace position packet rest after ends =
-    partition_findings (spot_of position packet) ends
-    ++ listed_of (spot_of position packet) (found_at pace position packet rest (read_in position.packets after packet.bytes))
+abbrev pub findings_at : Pace → Position → Packet → Ahead → Progress → PartitionEnds → List Finding
+findings_at pace position packet ahead after ends =
+    partition_findings (spot_of position packet.bytes) ends
+    ++ listed_of (spot_of position packet.bytes) (found_at pace position packet ahead (read_in position.packets after packet.bytes))
 
--- the findings at packets, by what is known after each and by their partitions: in the order of the packets
+-- the findings at each of these packets, by what is known after it and by its partitions
+abbrev pub each_from : Pace → Position → List Packet → List Progress → List PartitionEnds → List (List Finding)
+each_from pace position (packet ∷ packets) (after ∷ progresses) (ends ∷ later) =
+    findings_at pace position packet (ahead_of packet packets) after ends ∷ each_from pace (position_after pace.step position packet) packets progresses later
+each_from pace position packets progresses ends = []
+
+-- all of them, in the order of the packets
+abbrev pub joined : List (List Finding) → List Finding
+joined each = flat_map (λ found. found) each
+
 abbrev pub findings_from : Pace → Position → List Packet → List Progress → List PartitionEnds → List Finding
-findings_from pace position (packet ∷ packets) (after ∷ progresses) (ends ∷ later) =
-    findings_at pace position packet packets after ends ++ findings_from pace (position_after pace.step position packet) packets progresses later
-findings_from pace position packets progresses ends = []
+findings_from pace position packets progresses ends = joined (each_from pace position packets progresses ends)
 
 -- the bytes of packets
 abbrev pub bytes_of : List Packet → List (List ℕ)
 bytes_of packets = map (λ packet. packet.bytes) packets
 
--- the findings at the packets of a stream whose time stamps go on so
-abbrev pub packet_findings : Pace → TableEntries → List Packet → List Finding
-packet_findings pace tables packets =
-    findings_from pace first_position packets (progresses_from tables 0 (Ok None) (bytes_of packets)) (ends_from tables 0 (Ok None) (bytes_of packets))
+-- the findings at each packet of a stream, and all of them
+abbrev pub findings_of_each : TableEntries → List Packet → List (List Finding)
+findings_of_each tables packets =
+    each_from (pace_of packets) first_position packets (progresses_from tables 0 (Ok None) (bytes_of packets)) (ends_from tables 0 (Ok None) (bytes_of packets))
+
+abbrev pub packet_findings : TableEntries → List Packet → List Finding
+packet_findings tables packets = joined (findings_of_each tables packets)

@@ -1,53 +1,47 @@
 -- Time stamps: the step between frames, and stamps that do not go on by it.
-use Rattle.std.specs.Prelude.{◌≡◌, ℕ, ◌-◌, ◌/◌, ◌==◌, ◌&&◌, ◌||◌, Bool, true, false, not, nat_le, nat_lt, if◌then◌else◌, List, [], ◌∷◌, ◌++◌, length, max, slice_index_or, Option, Some, None}
-use Rattle.std.specs.List.Sorted.{IsPermutation, IsSorted}
-use Rattle.std.specs.Ordering.{nat_cmp}
+use Rattle.std.specs.Prelude.{ℕ, ◌-◌, ◌/◌, ◌==◌, ◌&&◌, ◌||◌, Bool, true, false, not, nat_le, nat_lt, if◌then◌else◌, List, [], ◌∷◌, ◌++◌, length, Option, Some, None}
 use Rattle.stream_files.specs.declared.packets.Packet.{Packet}
 use Rattle.frame_header.specs.Tags.{has_key_tag, is_shown}
+use Rattle.packet_times.specs.Medians.{median_of}
 use Rattle.stream_checks.specs.declared.finding.Trouble.{Trouble}
 use Rattle.stream_checks.specs.declared.finding.Trouble.TheVariants.{StampRepeats, StampGoesBack, StampSkips, BreaksStep}
 use Rattle.stream_checks.specs.declared.stamps.Pace.{Pace}
 use Rattle.stream_checks.specs.declared.stamps.Stamps.{Stamps}
 
--- the time stamp of the last shown packet
-abbrev pub stamp_after : Option ℕ → Packet → Option ℕ
-stamp_after before packet = if is_shown packet.bytes then Some packet.stamp else before
+-- the time stamp of a shown packet
+abbrev pub shown_stamp : Packet → List ℕ
+shown_stamp packet = if is_shown packet.bytes then packet.stamp ∷ [] else []
 
--- how far a shown packet's time stamp is above that of the shown packet before it, if it is
-abbrev pub step_to : Option ℕ → Packet → List ℕ
-step_to None packet = []
-step_to (Some before) packet = if is_shown packet.bytes && nat_lt before packet.stamp then (packet.stamp - before) ∷ [] else []
+-- those of the shown packets
+abbrev pub shown_stamps : List Packet → List ℕ
+shown_stamps [] = []
+shown_stamps (packet ∷ packets) = shown_stamp packet ++ shown_stamps packets
 
--- the steps between the time stamps of shown packets in sequence that go forward
-abbrev pub steps_from : Option ℕ → List Packet → List ℕ
+-- how far a time stamp is above the one before it, if it is
+abbrev pub step_to : ℕ → ℕ → List ℕ
+step_to before stamp = if nat_lt before stamp then (stamp - before) ∷ [] else []
+
+-- the steps between time stamps in sequence that go forward
+abbrev pub steps_from : ℕ → List ℕ → List ℕ
 steps_from before [] = []
-steps_from before (packet ∷ packets) = step_to before packet ++ steps_from (stamp_after before packet) packets
+steps_from before (stamp ∷ stamps) = step_to before stamp ++ steps_from stamp stamps
 
-abbrev pub steps_of : List Packet → List ℕ
-steps_of packets = steps_from None packets
-
--- the median of these steps, the lower one of two, and at least 1: half of the steps or more are no shorter
-pub record IsMedianStep (steps : List ℕ) (step : ℕ) : Type 0 where
-  pub sorted : List ℕ
-  pub same : IsPermutation steps sorted
-  pub rising : IsSorted nat_cmp sorted
-  pub middle : step ≡ max 1 (slice_index_or sorted ((length sorted - 1) / 2) 0)
+abbrev pub steps_of : List ℕ → List ℕ
+steps_of [] = []
+steps_of (first ∷ stamps) = steps_from first stamps
 
 -- a time stamp that is one step above another
 abbrev pub is_step : ℕ → ℕ → ℕ → Bool
 is_step step before stamp = nat_lt before stamp && (stamp - before) == step
 
--- which steps between the time stamps of shown packets in sequence are odd: not this one
-abbrev pub odd_to : ℕ → Option ℕ → Packet → List Bool
-odd_to step None packet = []
-odd_to step (Some before) packet = if is_shown packet.bytes then not (is_step step before packet.stamp) ∷ [] else []
-
-abbrev pub odd_from : ℕ → Option ℕ → List Packet → List Bool
+-- which steps between time stamps in sequence are odd: not this one
+abbrev pub odd_from : ℕ → ℕ → List ℕ → List Bool
 odd_from step before [] = []
-odd_from step before (packet ∷ packets) = odd_to step before packet ++ odd_from step (stamp_after before packet) packets
+odd_from step before (stamp ∷ stamps) = not (is_step step before stamp) ∷ odd_from step stamp stamps
 
-abbrev pub odd_steps : ℕ → List Packet → List Bool
-odd_steps step packets = odd_from step None packets
+abbrev pub odd_steps : ℕ → List ℕ → List Bool
+odd_steps step [] = []
+odd_steps step (first ∷ stamps) = odd_from step first stamps
 
 -- no step is odd
 abbrev pub are_even : List Bool → Bool
@@ -68,10 +62,13 @@ is_one_place (odd ∷ rest) = if odd then are_even_after_two rest else is_one_pl
 abbrev pub is_constant : List Bool → Bool
 is_constant odd = nat_le 16 (length odd) && is_one_place odd
 
--- how the time stamps of shown packets go on: the median of their steps, and whether it is constant
-pub record IsPace (packets : List Packet) (pace : Pace) : Type 0 where
-  pub median : IsMedianStep (steps_of packets) pace.step
-  pub constant : pace.is_constant ≡ is_constant (odd_steps pace.step packets)
+-- how these time stamps go on: by the median of their steps, of which half or more are no longer, and whether it is constant
+abbrev pub pace_over : List ℕ → Pace
+pace_over stamps = record { step = median_of (steps_of stamps); is_constant = is_constant (odd_steps (median_of (steps_of stamps)) stamps) }
+
+-- how those of the shown packets do
+abbrev pub pace_of : List Packet → Pace
+pace_of packets = pace_over (shown_stamps packets)
 
 -- the time stamp of the packet with index `place` goes on from that of the packet with index `at`: it is above it, by no more than
 -- a step for each packet between them and one more, less the last unit

@@ -1,35 +1,33 @@
 //! The findings at one packet after another.
 
-ghost use Rattle.std.specs.Prelude.{◌≡◌, ◌+◌, ◌<◌, ◌≤◌, ◌^◌, ◌∷◌, ◌++◌, Ok, None, IfErr, IfOk, OnOk, length};
+ghost use Rattle.std.specs.Prelude.{◌≡◌, ◌+◌, ◌<◌, ◌≤◌, ◌^◌, ◌++◌, IfErr, IfOk, OnOk, length};
 ghost use Rattle.std.specs.Io.KnownBytes.{Appends};
-ghost use Rattle.stream_checks.specs.Packets.{first_position, listed_of, position_after};
+ghost use Rattle.stream_checks.specs.Packets.{listed_of, position_after};
 ghost use Rattle.stream_checks.specs.Partitions.{partition_findings};
 ghost use Rattle.stream_checks.specs.Severity.{tally_of};
 ghost use Rattle.stream_checks.specs.Texts.{texts_of};
-ghost use Rattle.stream_checks.specs.Checks.{TellsUnshown, findings_next, progress_next};
+ghost use Rattle.stream_checks.specs.Checks.{findings_next, progress_next};
 
 use crate::fault::CheckFault;
 use crate::finding::{Spot, Tally};
-use crate::packets::{Found, Position, unshown};
+use crate::packets::{Ahead, Found, Position};
 use crate::partitions::{found, write_partitions};
 use crate::reader::Reader;
 use crate::stamps::Pace;
 use crate::texts::write_found;
-use macroblock_lists::{Form, PartitionEnds};
+use macroblock_lists::{Form, PartitionEnds, Progress};
 use std::alloc::Global;
 use std::io::Write;
-use stream_files::{Packet, WriteFault};
+use stream_files::WriteFault;
 use vp8_tables::Tables;
 
 /// A position between two packets of a stream, with the reader there.
 #[derive(Drop)]
-pub(crate) struct Checker {
-    form: Form,
-    pace: Pace,
-    position: Position,
-    reader: Reader,
-    // Of a hidden packet before the position: whether no shown packet comes before the next key tag.
-    unshown: Option<bool>,
+pub struct Checker {
+    pub form: Form,
+    pub pace: Pace,
+    pub position: Position,
+    pub reader: Reader,
 }
 
 /// Writes the findings at a packet by the packets around it, and returns their tally.
@@ -74,55 +72,54 @@ fn write_all<W: Write>(
 }
 
 impl Checker {
-    /// Before the first packet of a stream whose time stamps go on so.
-    pub fn new(alloc: Global, form: Form, pace: Pace) -> Checker
-        ensures { result ≡ record { form = form; pace = pace; position = first_position; reader = Ok None; unshown = None } }
+    /// At this position of a stream whose time stamps go on so, with what decoding knows there.
+    pub fn new(
+        alloc: Global,
+        form: Form,
+        pace: Pace,
+        position: Position,
+        progress: Progress,
+    ) -> Checker
+        ensures { result ≡ record { form = form; pace = pace; position = position; reader = progress } }
     {
         Checker {
             form,
             pace,
-            position: Position::first(),
-            reader: Reader::new(alloc),
-            unshown: None,
+            position,
+            reader: Reader::new(alloc, progress),
         }
     }
 
-    /// Reads the next packet, writes its findings, and returns their tally. `rest` is the packets
-    /// after it. `NoMemory` comes before the first finding.
+    /// Reads the next packet, writes its findings, and returns their tally. `NoMemory` comes before the first finding.
     pub fn next<W: Write>(
         &mut self,
         w: &mut W,
         tables: &Tables,
-        packet: &Packet,
-        rest: &[Packet],
+        stamp: u64,
+        packet: &[u8],
+        ahead: Ahead,
     ) -> Result<Tally, CheckFault>
         requires room { self.old.position.packets + 1 < 2 ^ 64 }
         requires frames { self.old.position.frames ≤ self.old.position.packets }
         requires step { 1 ≤ self.old.pace.step }
-        requires answers { TellsUnshown self.old.unshown (packet.now ∷ rest.now) }
-        ensures written { OnOk result (Appends (W.contents w.old) (W.contents w.new) (texts_of self.old.form (findings_next tables.now self.old packet.now rest.now))) }
-        ensures counted { IfOk result (λ tally. tally ≡ tally_of (findings_next tables.now self.old packet.now rest.now)) }
+        ensures written { OnOk result (Appends (W.contents w.old) (W.contents w.new) (texts_of self.old.form (findings_next tables.now self.old (record { stamp = stamp; bytes = packet.now }) ahead))) }
+        ensures counted { IfOk result (λ tally. tally ≡ tally_of (findings_next tables.now self.old (record { stamp = stamp; bytes = packet.now }) ahead)) }
         ensures few { IfOk result (λ tally. tally.damage + tally.notes ≤ 17) }
         ensures early { IfErr result (λ fault. fault ≡ CheckFault.NoMemory → W.contents w.new ≡ W.contents w.old) }
         ensures form { self.new.form ≡ self.old.form }
         ensures pace { self.new.pace ≡ self.old.pace }
-        ensures position { OnOk result (self.new.position ≡ position_after self.old.pace.step self.old.position packet.now) }
+        ensures position { OnOk result (self.new.position ≡ position_after self.old.pace.step self.old.position (record { stamp = stamp; bytes = packet.now })) }
         ensures frames { OnOk result (self.new.position.frames ≤ self.new.position.packets) }
-        ensures reader { OnOk result (self.new.reader ≡ progress_next tables.now self.old packet.now) }
-        ensures answers { OnOk result (TellsUnshown self.new.unshown rest.now) }
+        ensures reader { OnOk result (self.new.reader ≡ progress_next tables.now self.old (record { stamp = stamp; bytes = packet.now })) }
     {
-        let bytes = packet.bytes.as_slice();
         let place = self.position.packets;
-        let Ok(ends) = self.reader.next(tables, place, bytes) else {
+        let Ok(ends) = self.reader.next(tables, place, packet) else {
             return Err(CheckFault::NoMemory);
         };
-        let read = self.reader.read_at(place, bytes);
-        self.unshown = unshown(self.unshown, packet, rest);
+        let read = self.reader.read_at(place, packet);
         let spot = self.position.spot(packet);
-        let all = self
-            .position
-            .found(self.pace, packet, rest, read, self.unshown);
-        self.position = self.position.after(self.pace.step, packet);
+        let all = self.position.found(self.pace, stamp, packet, ahead, read);
+        self.position = self.position.after(self.pace.step, stamp, packet);
         match write_all(w, self.form, spot, &ends, all) {
             Ok(tally) => Ok(tally),
             Err(_) => Err(CheckFault::Write),

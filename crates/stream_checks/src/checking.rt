@@ -4,7 +4,7 @@ ghost use Rattle.std.specs.Prelude.{◌≡◌, ◌+◌, ◌≤◌, IfErr, IfOk, 
 ghost use Rattle.std.specs.Io.KnownBytes.{Appends};
 ghost use Rattle.stream_files.specs.Ivf.{IsIvf};
 ghost use Rattle.stream_checks.specs.Files.{findings};
-ghost use Rattle.stream_checks.specs.Checks.{TellsUnshown, IsBegun, IsChecked, IsEarlyEnd, IsPacketEnd, findings_after, text_of_check};
+ghost use Rattle.stream_checks.specs.Checks.{IsBegun, IsChecked, IsEarlyEnd, IsPacketEnd, findings_after, text_of_check};
 ghost use Rattle.stream_checks.specs.Severity.{tally_of};
 ghost use Rattle.stream_checks.specs.Texts.{texts_of};
 
@@ -12,7 +12,7 @@ use crate::checker::Checker;
 use crate::fault::CheckFault;
 use crate::file::{write_cut, write_head};
 use crate::finding::Tally;
-use crate::packets::frames_of;
+use crate::packets::{Position, ahead_of, frames_of};
 use crate::progress::Progress;
 use crate::stamps::pace_of;
 use crate::texts::write_end;
@@ -33,7 +33,6 @@ fn write_packets<W: Write, G: Progress>(
     requires few { checker.position.packets + length packets.now ≤ 1048576 }
     requires frames { checker.position.frames ≤ checker.position.packets }
     requires step { 1 ≤ checker.pace.step }
-    requires answers { TellsUnshown checker.unshown packets.now }
     ensures written { OnOk result (Appends (W.contents w.old) (W.contents w.new) (texts_of checker.form (findings_after tables.now checker packets.now))) }
     ensures counted { IfOk result (λ tally. tally ≡ tally_of (findings_after tables.now checker packets.now)) }
     ensures few { IfOk result (λ tally. tally.damage + tally.notes ≤ 17825792) }
@@ -41,13 +40,16 @@ fn write_packets<W: Write, G: Progress>(
 {
     let mut checker = checker;
     let mut tally = Tally::none();
+    let mut before = None;
     let mut rest = packets;
     while let Some((packet, following)) = rest.split_first() {
-        match checker.next(w, tables, packet, following) {
+        let ahead = ahead_of(before, packet, following);
+        match checker.next(w, tables, packet.stamp, packet.bytes.as_slice(), ahead) {
             Ok(more) => tally = tally.plus(more),
             Err(fault) => return Err(fault),
         }
         progress.packet_done(packets.len());
+        before = Some(ahead);
         rest = following;
     }
     Ok(tally)
@@ -80,7 +82,7 @@ pub fn check<W: Write, G: Progress>(
     let Ok(at_head) = write_head(w, form, bytes, file) else {
         return Err(CheckFault::Write);
     };
-    let checker = Checker::new(alloc, form, pace);
+    let checker = Checker::new(alloc, form, pace, Position::first(), Ok(None));
     let at_packets = match write_packets(w, tables, checker, packets, progress) {
         Ok(tally) => tally,
         Err(fault) => return Err(fault),

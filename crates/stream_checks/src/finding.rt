@@ -144,7 +144,7 @@ pub struct Tally {
 
 impl Tally {
     /// Of no findings.
-    pub(crate) fn none() -> Tally
+    pub fn none() -> Tally
         ensures { result ≡ tally_of [] }
     {
         Tally {
@@ -172,7 +172,7 @@ impl Tally {
     }
 
     /// Of these findings and others.
-    pub(crate) fn plus(self, other: Tally) -> Tally
+    pub fn plus(self, other: Tally) -> Tally
         requires { self.damage + self.notes + (other.damage + other.notes) < 2 ^ 64 }
         ensures { result ≡ plus self other }
     {

@@ -22,9 +22,14 @@ mod stamps;
 mod texts;
 mod time_bases;
 
+pub use checker::Checker;
 pub use checking::check;
 pub use fault::CheckFault;
 pub use finding::{Finding, Spot, Tally, Trouble};
 pub use hashes::{HashFault, write_hashes};
 pub use macroblock_lists::Form;
+pub use objects::write_tally;
+pub use packets::{Ahead, Position, is_same};
 pub use progress::{Progress, Unwatched};
+pub use reader::Reader;
+pub use stamps::{Pace, Stamps, add_stamp, pace_over};

@@ -4,9 +4,9 @@ ghost use Rattle.std.specs.Prelude.{◌≡◌, ◌++◌, OnOk, codes};
 ghost use Rattle.std.specs.Io.KnownBytes.{Appends};
 ghost use Rattle.stream_facts.specs.Lines.{cause_text};
 ghost use Rattle.stream_facts.specs.Json.{number_member};
-ghost use Rattle.stream_checks.specs.Objects.{breaks_members, cause_member, copy_members, cut_members, field_member, kind_member, object_of, partition_members, past_members, refused_members, severity_member, size_member, size_members, spot_members, stamp_members, trouble_members, unread_members};
+ghost use Rattle.stream_checks.specs.Objects.{breaks_members, cause_member, copy_members, cut_members, field_member, kind_member, object_of, partition_members, past_members, refused_members, severity_member, size_member, size_members, spot_members, stamp_members, tally_object, trouble_members, unread_members};
 
-use crate::finding::{Finding, Spot, Trouble};
+use crate::finding::{Finding, Spot, Tally, Trouble};
 use frame_header::Cause;
 use std::io::Write;
 use stream_facts::{write_cause, write_member, write_number, write_optional, write_text};
@@ -261,5 +261,16 @@ pub(crate) fn write_object<W: Write>(w: &mut W, finding: Finding) -> Result<(), 
     write_spot(w, finding.spot)?;
     write_trouble(w, finding.trouble)?;
     write_severity(w, finding.trouble)?;
+    write_text(w, "}\n")
+}
+
+/// Writes the object of a tally: how many findings are damage, and how many are notes.
+pub fn write_tally<W: Write>(w: &mut W, tally: Tally) -> Result<(), WriteFault>
+    ensures { OnOk result (Appends (W.contents w.old) (W.contents w.new) (tally_object tally)) }
+{
+    write_text(w, "{")?;
+    write_number(w, "damage", tally.damage)?;
+    write_text(w, "\"notes\":")?;
+    write!(w, "{}", tally.notes).map_err(|_| WriteFault::Write)?;
     write_text(w, "}\n")
 }

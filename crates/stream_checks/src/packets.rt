@@ -1,7 +1,8 @@
 //! The findings at a packet, by the packets around it.
 
-ghost use Rattle.std.specs.Prelude.{◌≡◌, ◌+◌, ◌<◌, ◌≤◌, ◌^◌, ◌∷◌, IfSome};
-ghost use Rattle.stream_checks.specs.Packets.{emptiness, first_position, found_at, hidden_of, is_same, is_unshown, lost_after, newer, position_after, refusal, repetition, size_change, spot_of, undefined_copy, unshown_at};
+ghost use Rattle.std.specs.Prelude.{◌≡◌, ◌+◌, ◌<◌, ◌≤◌, ◌^◌, ◌∷◌};
+ghost use Rattle.stream_checks.specs.Checks.{TellsAhead};
+ghost use Rattle.stream_checks.specs.Packets.{ahead_of, emptiness, first_position, found_at, is_repeated, is_same, is_unshown, lost_after, never_shown, newer, position_after, refusal, repetition, size_change, spot_of, undefined_copy};
 ghost use Rattle.stream_checks.specs.Lines.{frames_of};
 
 use crate::finding::{Spot, Trouble};
@@ -13,11 +14,22 @@ use stream_files::Packet;
 /// What is known of the packets before an index: their number and that of the shown ones, their time
 /// stamps, and the size of the last key packet with a size.
 #[derive(Clone, Copy)]
-pub(crate) struct Position {
+pub struct Position {
     pub packets: usize,
     pub frames: usize,
     pub stamps: Option<Stamps>,
     pub size: Option<(u16, u16)>,
+}
+
+/// What the findings at a packet depend on of the packets after it.
+#[derive(Clone, Copy, Debug)]
+pub struct Ahead {
+    /// The number of packets before the next key tag.
+    pub lost: usize,
+    /// No shown packet comes before the next key tag.
+    pub is_unshown: bool,
+    /// The next packet has the same time stamp and the same bytes.
+    pub is_repeated: bool,
 }
 
 /// What reading a packet says: the cause, if the stream breaks at it, and the numbers of its copies, 0 if it is not decoded.
@@ -49,15 +61,12 @@ fn lost_after(rest: &[Packet]) -> usize
         .count()
 }
 
-fn refusal(cause: Option<Cause>, rest: &[Packet]) -> Option<Trouble>
-    ensures { result ≡ refusal cause rest.now }
+fn refusal(cause: Option<Cause>, lost: usize) -> Option<Trouble>
+    ensures { result ≡ refusal cause lost }
 {
     match cause {
         None => None,
-        Some(cause) => Some(Trouble::Refused {
-            cause,
-            lost: lost_after(rest),
-        }),
+        Some(cause) => Some(Trouble::Refused { cause, lost }),
     }
 }
 
@@ -94,39 +103,57 @@ fn is_unshown(rest: &[Packet]) -> bool
     true
 }
 
-/// Whether a hidden packet has no shown packet between it and the next key tag; `None` for a shown
-/// packet. `before` is the answer for the packet before it. It answers for this one too, unless this
-/// one has a key tag, so a run of hidden packets is looked through once.
-pub(crate) fn unshown(before: Option<bool>, packet: &Packet, rest: &[Packet]) -> Option<bool>
-    requires { IfSome before (λ answer. answer ≡ is_unshown (packet.now ∷ rest.now)) }
-    ensures { result ≡ unshown_at packet.now rest.now }
+/// The number of packets after one before the next key tag. What is known ahead of the packet before it says so, unless it has a key tag.
+fn lost_by(before: Option<Ahead>, packet: &Packet, rest: &[Packet]) -> usize
+    requires { TellsAhead before (packet.now ∷ rest.now) }
+    ensures { result ≡ lost_after rest.now }
+{
+    match before {
+        Some(ahead) if !has_key_tag(packet.bytes.as_slice()) => ahead.lost.saturating_sub(1),
+        _ => lost_after(rest),
+    }
+}
+
+/// Whether no shown packet comes after one before the next key tag. What is known ahead of the packet before it says so, unless it is
+/// shown or has a key tag.
+fn unshown_by(before: Option<Ahead>, packet: &Packet, rest: &[Packet]) -> bool
+    requires { TellsAhead before (packet.now ∷ rest.now) }
+    ensures { result ≡ is_unshown rest.now }
 {
     let bytes = packet.bytes.as_slice();
-    if is_shown(bytes) {
-        return None;
-    }
-    if has_key_tag(bytes) {
-        return Some(is_unshown(rest));
-    }
     match before {
-        Some(answer) => Some(answer),
-        None => Some(is_unshown(rest)),
+        Some(ahead) if !has_key_tag(bytes) && !is_shown(bytes) => ahead.is_unshown,
+        _ => is_unshown(rest),
     }
 }
 
-fn hidden_trouble(unshown: Option<bool>) -> Option<Trouble>
-    ensures { result ≡ hidden_of unshown }
+/// What is known of the packets after one. `before` is what is known ahead of the packet before it, so each run of packets is looked
+/// through once.
+pub(crate) fn ahead_of(before: Option<Ahead>, packet: &Packet, rest: &[Packet]) -> Ahead
+    requires { TellsAhead before (packet.now ∷ rest.now) }
+    ensures { result ≡ ahead_of packet.now rest.now }
 {
-    match unshown {
-        Some(true) => Some(Trouble::NeverShown),
-        _ => None,
+    Ahead {
+        lost: lost_by(before, packet, rest),
+        is_unshown: unshown_by(before, packet, rest),
+        is_repeated: is_repeated(packet, rest),
     }
 }
 
-fn emptiness(packet: &Packet) -> Option<Trouble>
+fn never_shown(packet: &[u8], unshown: bool) -> Option<Trouble>
+    ensures { result ≡ never_shown packet.now unshown }
+{
+    if !is_shown(packet) && unshown {
+        Some(Trouble::NeverShown)
+    } else {
+        None
+    }
+}
+
+fn emptiness(packet: &[u8]) -> Option<Trouble>
     ensures { result ≡ emptiness packet.now }
 {
-    if packet.bytes.as_slice().is_empty() {
+    if packet.is_empty() {
         Some(Trouble::NoBytes)
     } else {
         None
@@ -140,22 +167,34 @@ fn undefined_copy(trouble: Trouble, number: u8) -> Option<Trouble>
     if number == 3 { Some(trouble) } else { None }
 }
 
-/// Whether a packet has the time stamp and the bytes of another one.
-fn is_same(one: &Packet, other: &Packet) -> bool
-    ensures { result ≡ is_same one.now other.now }
+/// Whether a packet has the time stamp and the bytes of the next one.
+pub fn is_same(stamp: u64, packet: &[u8], next_stamp: u64, next: &[u8]) -> bool
+    ensures { result ≡ is_same (record { stamp = stamp; bytes = packet.now }) (record { stamp = next_stamp; bytes = next.now }) }
 {
-    one.stamp == other.stamp && one.bytes.as_slice() == other.bytes.as_slice()
+    stamp == next_stamp && packet == next
 }
 
-fn repetition(pace: Pace, packet: &Packet, rest: &[Packet]) -> Option<Trouble>
-    ensures { result ≡ repetition pace packet.now rest.now }
+/// Whether the next packet is the same again.
+fn is_repeated(packet: &Packet, rest: &[Packet]) -> bool
+    ensures { result ≡ is_repeated packet.now rest.now }
 {
     let Some((next, _)) = rest.split_first() else {
-        return None;
+        return false;
     };
-    if is_same(packet, next) && !packet.bytes.as_slice().is_empty() {
+    is_same(
+        packet.stamp,
+        packet.bytes.as_slice(),
+        next.stamp,
+        next.bytes.as_slice(),
+    )
+}
+
+fn repetition(pace: Pace, packet: &[u8], repeated: bool) -> Option<Trouble>
+    ensures { result ≡ repetition pace packet.now repeated }
+{
+    if repeated && !packet.is_empty() {
         Some(Trouble::ComesTwice {
-            breaks_step: pace.is_constant && !has_key_tag(packet.bytes.as_slice()),
+            breaks_step: pace.is_constant && !has_key_tag(packet),
         })
     } else {
         None
@@ -184,10 +223,10 @@ impl Position {
     }
 
     /// The packet after this position, and the frame that it is shown as.
-    pub fn spot(self, packet: &Packet) -> Spot
+    pub(crate) fn spot(self, packet: &[u8]) -> Spot
         ensures { result ≡ spot_of self packet.now }
     {
-        let frame = if is_shown(packet.bytes.as_slice()) {
+        let frame = if is_shown(packet) {
             Some(self.frames)
         } else {
             None
@@ -198,45 +237,43 @@ impl Position {
         }
     }
 
-    /// The position after a packet.
-    pub fn after(self, step: u64, packet: &Packet) -> Position
+    /// The position after a packet with this time stamp. `step` is that of the stream's pace.
+    pub fn after(self, step: u64, stamp: u64, packet: &[u8]) -> Position
         requires room { self.packets + 1 < 2 ^ 64 }
         requires frames { self.frames ≤ self.packets }
         requires step { 1 ≤ step }
-        ensures after { result ≡ position_after step self packet.now }
+        ensures after { result ≡ position_after step self (record { stamp = stamp; bytes = packet.now }) }
         ensures frames { result.frames ≤ result.packets }
     {
-        let bytes = packet.bytes.as_slice();
         Position {
             packets: self.packets + 1,
-            frames: self.frames + usize::from(is_shown(bytes)),
-            stamps: stamps_after(step, self.packets, self.stamps, packet),
-            size: newer(key_size(bytes), self.size),
+            frames: self.frames + usize::from(is_shown(packet)),
+            stamps: stamps_after(step, self.packets, self.stamps, stamp, packet),
+            size: newer(key_size(packet), self.size),
         }
     }
 
     /// What is wrong with the packet after this position, of which reading says this.
-    pub fn found(
+    pub(crate) fn found(
         self,
         pace: Pace,
-        packet: &Packet,
-        rest: &[Packet],
+        stamp: u64,
+        packet: &[u8],
+        ahead: Ahead,
         read: Read,
-        unshown: Option<bool>,
     ) -> Found
-        requires step { 1 ≤ pace.step }
-        requires unshown { unshown ≡ unshown_at packet.now rest.now }
-        ensures { result ≡ found_at pace self packet.now rest.now read }
+        requires { 1 ≤ pace.step }
+        ensures { result ≡ found_at pace self (record { stamp = stamp; bytes = packet.now }) ahead read }
     {
         Found {
-            refused: refusal(read.cause, rest),
+            refused: refusal(read.cause, ahead.lost),
             empty: emptiness(packet),
             to_golden: undefined_copy(Trouble::GoldenCopiesNone, read.copies.golden),
             to_altref: undefined_copy(Trouble::AltrefCopiesNone, read.copies.altref),
-            twice: repetition(pace, packet, rest),
-            stamp: stamp_trouble(pace, self.packets, self.stamps, packet),
-            size: size_change(self.size, key_size(packet.bytes.as_slice())),
-            hidden: hidden_trouble(unshown),
+            twice: repetition(pace, packet, ahead.is_repeated),
+            stamp: stamp_trouble(pace, self.packets, self.stamps, stamp, packet),
+            size: size_change(self.size, key_size(packet)),
+            hidden: never_shown(packet, ahead.is_unshown),
         }
     }
 }

@@ -1,7 +1,7 @@
 //! Reading of one packet after another, without samples, for the breaks of the stream and the ends of
 //! its partitions.
 
-ghost use Rattle.std.specs.Prelude.{◌≡◌, ◌≤◌, Ok, None, IfOk, OnOk, length};
+ghost use Rattle.std.specs.Prelude.{◌≡◌, ◌≤◌, IfOk, OnOk, length};
 ghost use Rattle.macroblock_lists.specs.Known.{progress_after};
 ghost use Rattle.macroblock_lists.specs.PartitionEnds.{ends_before};
 ghost use Rattle.stream_checks.specs.Breaks.{break_in};
@@ -20,7 +20,7 @@ use vp8_tables::Tables;
 /// A reader between two packets: what is known after the packets before it, nothing before the first,
 /// or the break of the stream.
 #[derive(Drop)]
-pub(crate) struct Reader {
+pub struct Reader {
     alloc: Global,
     progress: Progress,
 }
@@ -34,14 +34,11 @@ impl Model for Reader {
 }
 
 impl Reader {
-    /// Before the first packet.
-    pub fn new(alloc: Global) -> Reader
-        ensures { result ≡ Ok None }
+    /// Where decoding knows so much.
+    pub fn new(alloc: Global, progress: Progress) -> Reader
+        ensures { result ≡ progress }
     {
-        Reader {
-            alloc,
-            progress: Ok(None),
-        }
+        Reader { alloc, progress }
     }
 
     /// Reads the packet at index `place`: where decoding ends in each of its partitions. A packet that
@@ -76,7 +73,7 @@ impl Reader {
     }
 
     /// What reading the packet at index `place` says, after it was read.
-    pub fn read_at(&self, place: usize, packet: &[u8]) -> Read
+    pub(crate) fn read_at(&self, place: usize, packet: &[u8]) -> Read
         ensures { result ≡ read_in place self.now packet.now }
     {
         Read {

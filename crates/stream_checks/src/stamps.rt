@@ -1,7 +1,8 @@
 //! Time stamps: the step between frames, and stamps that do not go on by it.
 
-ghost use Rattle.std.specs.Prelude.{◌≡◌, ◌≤◌, ◌++◌, IfOk, OnOk};
-ghost use Rattle.stream_checks.specs.Stamps.{IsMedianStep, IsPace, are_even, are_even_after_two, first_stamps, goes_on, is_break, is_constant, is_expected, is_one_place, is_step, odd_stamp, odd_steps, odd_to, shown_trouble, stamp_after, stamp_trouble, stamp_trouble_in, stamps_after, stamps_by, step_to, steps_of};
+ghost use Rattle.std.specs.Prelude.{◌≡◌, ◌-◌, ◌/◌, ◌≤◌, ◌++◌, IfOk, OnOk, length, slice_index_or};
+ghost use Rattle.packet_times.specs.Medians.{median_of};
+ghost use Rattle.stream_checks.specs.Stamps.{are_even, are_even_after_two, first_stamps, goes_on, is_break, is_constant, is_expected, is_one_place, is_step, odd_stamp, odd_steps, pace_of, pace_over, shown_stamp, shown_stamps, shown_trouble, stamp_trouble, stamp_trouble_in, stamps_after, stamps_by, step_to, steps_of};
 
 use crate::finding::Trouble;
 use frame_header::{has_key_tag, is_shown};
@@ -12,7 +13,7 @@ use stream_files::Packet;
 /// The time stamps before a packet: of the last shown packet, and of the last shown packet whose time
 /// stamp went on from one before it, each with the packet's index.
 #[derive(Clone, Copy)]
-pub(crate) struct Stamps {
+pub struct Stamps {
     pub last: u64,
     pub last_at: usize,
     pub even: u64,
@@ -21,63 +22,77 @@ pub(crate) struct Stamps {
 
 /// How the time stamps of shown packets go on.
 #[derive(Clone, Copy)]
-pub(crate) struct Pace {
+pub struct Pace {
     /// The median of the steps between them, and at least 1.
     pub step: u64,
     /// All steps are this one, except at one place.
     pub is_constant: bool,
 }
 
-fn stamp_after(before: Option<u64>, packet: &Packet) -> Option<u64>
-    ensures { result ≡ stamp_after before packet.now }
+/// Appends the time stamp of a packet, if it is shown.
+pub fn add_stamp(stamps: &mut Vec<u64>, stamp: u64, packet: &[u8]) -> Result<(), NoMemory>
+    ensures { OnOk result (stamps.new.items ≡ stamps.old.items ++ shown_stamp (record { stamp = stamp; bytes = packet.now })) }
 {
-    if is_shown(packet.bytes.as_slice()) {
-        Some(packet.stamp)
-    } else {
-        before
-    }
-}
-
-/// Appends the step to a packet from the shown packet before it, if it goes forward.
-fn add_step(steps: &mut Vec<u64>, before: Option<u64>, packet: &Packet) -> Result<(), NoMemory>
-    ensures { OnOk result (steps.new.items ≡ steps.old.items ++ step_to before packet.now) }
-{
-    let Some(before) = before else {
-        return Ok(());
-    };
-    if is_shown(packet.bytes.as_slice()) && before < packet.stamp {
-        steps.push(packet.stamp - before)?;
+    if is_shown(packet) {
+        stamps.push(stamp)?;
     }
     Ok(())
 }
 
-/// The steps between the time stamps of shown packets in sequence that go forward.
-fn steps_of(alloc: Global, packets: &[Packet]) -> Result<Vec<u64>, NoMemory>
-    ensures { IfOk result (λ steps. steps.items ≡ steps_of packets.now) }
+/// The time stamps of the shown packets.
+pub(crate) fn shown_stamps(alloc: Global, packets: &[Packet]) -> Result<Vec<u64>, NoMemory>
+    ensures { IfOk result (λ stamps. stamps.items ≡ shown_stamps packets.now) }
+{
+    let mut stamps = Vec::new(alloc);
+    for packet in packets {
+        add_stamp(&mut stamps, packet.stamp, packet.bytes.as_slice())?;
+    }
+    Ok(stamps)
+}
+
+/// Appends the step to a time stamp from the one before it, if it goes forward.
+fn add_step(steps: &mut Vec<u64>, before: u64, stamp: u64) -> Result<(), NoMemory>
+    ensures { OnOk result (steps.new.items ≡ steps.old.items ++ step_to before stamp) }
+{
+    if before < stamp {
+        steps.push(stamp - before)?;
+    }
+    Ok(())
+}
+
+/// The steps between time stamps in sequence that go forward.
+fn steps_of(alloc: Global, stamps: &[u64]) -> Result<Vec<u64>, NoMemory>
+    ensures { IfOk result (λ steps. steps.items ≡ steps_of stamps.now) }
 {
     let mut steps = Vec::new(alloc);
-    let mut before = None;
-    for packet in packets {
-        add_step(&mut steps, before, packet)?;
-        before = stamp_after(before, packet);
+    let [first, rest @ ..] = stamps else {
+        return Ok(steps);
+    };
+    let mut before = *first;
+    for stamp in rest {
+        add_step(&mut steps, before, *stamp)?;
+        before = *stamp;
     }
     Ok(steps)
 }
 
-/// The median of the steps between the time stamps of shown packets, and at least 1.
-fn median_step(alloc: Global, packets: &[Packet]) -> Result<u64, NoMemory>
-    ensures median { IfOk result (IsMedianStep (steps_of packets.now)) }
-    ensures positive { IfOk result (λ step. 1 ≤ step) }
+/// The number in the middle of a list in ascending order, the lower one of two; 0 if there is none.
+fn middle_of(steps: &[u64]) -> u64
+    ensures { result ≡ slice_index_or steps.now ((length steps.now - 1) / 2) 0 }
 {
-    let mut steps = steps_of(alloc, packets)?;
+    match steps.get(steps.len().saturating_sub(1) / 2) {
+        Some(step) => *step,
+        None => 0,
+    }
+}
+
+/// The median of the steps between time stamps, and at least 1.
+fn median_step(alloc: Global, stamps: &[u64]) -> Result<u64, NoMemory>
+    ensures { IfOk result (λ step. step ≡ median_of (steps_of stamps.now)) }
+{
+    let mut steps = steps_of(alloc, stamps)?;
     steps.sort()?;
-    let middle = steps.len().saturating_sub(1) / 2;
-    let step = if middle < steps.len() {
-        steps[middle]
-    } else {
-        0
-    };
-    Ok(step.max(1))
+    Ok(middle_of(&steps).max(1))
 }
 
 /// Whether a time stamp is one step above another.
@@ -87,33 +102,18 @@ fn is_step(step: u64, before: u64, stamp: u64) -> bool
     before < stamp && stamp.saturating_sub(before) == step
 }
 
-/// Appends whether the step to a shown packet from the shown packet before it is odd.
-fn add_odd(
-    odd: &mut Vec<bool>,
-    step: u64,
-    before: Option<u64>,
-    packet: &Packet,
-) -> Result<(), NoMemory>
-    ensures { OnOk result (odd.new.items ≡ odd.old.items ++ odd_to step before packet.now) }
-{
-    let Some(before) = before else {
-        return Ok(());
-    };
-    if is_shown(packet.bytes.as_slice()) {
-        odd.push(!is_step(step, before, packet.stamp))?;
-    }
-    Ok(())
-}
-
-/// Which steps between the time stamps of shown packets in sequence are odd.
-fn odd_steps(alloc: Global, step: u64, packets: &[Packet]) -> Result<Vec<bool>, NoMemory>
-    ensures { IfOk result (λ odd. odd.items ≡ odd_steps step packets.now) }
+/// Which steps between time stamps in sequence are odd.
+fn odd_steps(alloc: Global, step: u64, stamps: &[u64]) -> Result<Vec<bool>, NoMemory>
+    ensures { IfOk result (λ odd. odd.items ≡ odd_steps step stamps.now) }
 {
     let mut odd = Vec::new(alloc);
-    let mut before = None;
-    for packet in packets {
-        add_odd(&mut odd, step, before, packet)?;
-        before = stamp_after(before, packet);
+    let [first, rest @ ..] = stamps else {
+        return Ok(odd);
+    };
+    let mut before = *first;
+    for stamp in rest {
+        odd.push(!is_step(step, before, *stamp))?;
+        before = *stamp;
     }
     Ok(odd)
 }
@@ -158,15 +158,26 @@ fn is_constant(odd: &[bool]) -> bool
     odd.len() >= 16 && is_one_place(odd)
 }
 
-/// How the time stamps of the shown packets of a stream go on.
-pub(crate) fn pace_of(alloc: Global, packets: &[Packet]) -> Result<Pace, NoMemory>
-    ensures pace { IfOk result (IsPace packets.now) }
+/// How the time stamps of shown packets go on. They are all of a stream's, as [`add_stamp`] collects them.
+///
+/// `NoMemory` if memory for their steps is refused.
+pub fn pace_over(alloc: Global, stamps: &[u64]) -> Result<Pace, NoMemory>
+    ensures pace { IfOk result (λ pace. pace ≡ pace_over stamps.now) }
     ensures positive { IfOk result (λ pace. 1 ≤ pace.step) }
 {
-    let step = median_step(alloc, packets)?;
-    let odd = odd_steps(alloc, step, packets)?;
+    let step = median_step(alloc, stamps)?;
+    let odd = odd_steps(alloc, step, stamps)?;
     let is_constant = is_constant(odd.as_slice());
     Ok(Pace { step, is_constant })
+}
+
+/// How the time stamps of the shown packets of a stream go on.
+pub(crate) fn pace_of(alloc: Global, packets: &[Packet]) -> Result<Pace, NoMemory>
+    ensures pace { IfOk result (λ pace. pace ≡ pace_of packets.now) }
+    ensures positive { IfOk result (λ pace. 1 ≤ pace.step) }
+{
+    let stamps = shown_stamps(alloc, packets)?;
+    pace_over(alloc, stamps.as_slice())
 }
 
 /// Whether a time stamp goes on from that of an earlier packet.
@@ -213,21 +224,20 @@ impl Stamps {
     }
 
     /// Whether the step to a shown inter packet is odd, but not 0, where the step is constant.
-    fn is_break(self, pace: Pace, packet: &Packet) -> bool
-        ensures { result ≡ is_break pace self packet.now }
+    fn is_break(self, pace: Pace, stamp: u64, packet: &[u8]) -> bool
+        ensures { result ≡ is_break pace self (record { stamp = stamp; bytes = packet.now }) }
     {
         pace.is_constant
-            && !has_key_tag(packet.bytes.as_slice())
-            && packet.stamp != self.last
-            && !is_step(pace.step, self.last, packet.stamp)
+            && !has_key_tag(packet)
+            && stamp != self.last
+            && !is_step(pace.step, self.last, stamp)
     }
 
-    fn shown_trouble(self, pace: Pace, place: usize, packet: &Packet) -> Option<Trouble>
+    fn shown_trouble(self, pace: Pace, place: usize, stamp: u64, packet: &[u8]) -> Option<Trouble>
         requires { 1 ≤ pace.step }
-        ensures { result ≡ shown_trouble pace place self packet.now }
+        ensures { result ≡ shown_trouble pace place self (record { stamp = stamp; bytes = packet.now }) }
     {
-        let stamp = packet.stamp;
-        if self.is_break(pace, packet) {
+        if self.is_break(pace, stamp, packet) {
             Some(Trouble::BreaksStep {
                 stamp,
                 before: self.last,
@@ -240,13 +250,12 @@ impl Stamps {
         }
     }
 
-    fn trouble(self, pace: Pace, place: usize, packet: &Packet) -> Option<Trouble>
+    fn trouble(self, pace: Pace, place: usize, stamp: u64, packet: &[u8]) -> Option<Trouble>
         requires { 1 ≤ pace.step }
-        ensures { result ≡ stamp_trouble pace place self packet.now }
+        ensures { result ≡ stamp_trouble pace place self (record { stamp = stamp; bytes = packet.now }) }
     {
-        let stamp = packet.stamp;
-        if is_shown(packet.bytes.as_slice()) {
-            self.shown_trouble(pace, place, packet)
+        if is_shown(packet) {
+            self.shown_trouble(pace, place, stamp, packet)
         } else if stamp < self.last {
             Some(Trouble::StampGoesBack {
                 stamp,
@@ -263,14 +272,15 @@ pub(crate) fn stamp_trouble(
     pace: Pace,
     place: usize,
     stamps: Option<Stamps>,
-    packet: &Packet,
+    stamp: u64,
+    packet: &[u8],
 ) -> Option<Trouble>
     requires { 1 ≤ pace.step }
-    ensures { result ≡ stamp_trouble_in pace place stamps packet.now }
+    ensures { result ≡ stamp_trouble_in pace place stamps (record { stamp = stamp; bytes = packet.now }) }
 {
     match stamps {
         None => None,
-        Some(stamps) => stamps.trouble(pace, place, packet),
+        Some(stamps) => stamps.trouble(pace, place, stamp, packet),
     }
 }
 
@@ -294,13 +304,14 @@ pub(crate) fn stamps_after(
     step: u64,
     place: usize,
     stamps: Option<Stamps>,
-    packet: &Packet,
+    stamp: u64,
+    packet: &[u8],
 ) -> Option<Stamps>
     requires { 1 ≤ step }
-    ensures { result ≡ stamps_after step place stamps packet.now }
+    ensures { result ≡ stamps_after step place stamps (record { stamp = stamp; bytes = packet.now }) }
 {
-    if is_shown(packet.bytes.as_slice()) {
-        Some(stamps_by(step, place, stamps, packet.stamp))
+    if is_shown(packet) {
+        Some(stamps_by(step, place, stamps, stamp))
     } else {
         stamps
     }

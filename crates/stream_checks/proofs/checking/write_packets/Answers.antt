@@ -1,4 +1,4 @@
-use Rattle.std.proofs.Common.{rules, ◌≡◌, ◌+◌, List, [], ◌∷◌, ◌++◌, length, ap, sym, subst, ◌∙◌, arith, append_assoc, ◌≤◌}
+use Rattle.std.proofs.Common.{rules, ◌≡◌, ◌+◌, ℕ, List, [], ◌∷◌, ◌++◌, length, ap, sym, subst, ◌∙◌, arith, append_assoc, ◌≤◌}
 use Rattle.std.proofs.KnownBytes.{Appends-nil, Appends-trans}
 use Rattle.std.proofs.lemmas.Grind.{flat_map-append}
 use Rattle.std.specs.Io.KnownBytes.{Appends}
@@ -6,10 +6,12 @@ use Rattle.stream_files.specs.declared.packets.Packet.{Packet}
 use Rattle.stream_checks.specs.declared.checker.Checker.{Checker}
 use Rattle.stream_checks.specs.declared.finding.Finding.{Finding}
 use Rattle.stream_checks.specs.declared.finding.Tally.{Tally}
+use Rattle.stream_checks.specs.declared.packets.Ahead.{Ahead}
 use Rattle.stream_checks.specs.declared.packets.Position.{Position}
 use Rattle.stream_checks.specs.declared.stamps.Pace.{Pace}
 use Rattle.macroblock_lists.specs.declared.layouts.Form.{Form}
 use Rattle.stream_checks.specs.Checks.{findings_after, findings_next}
+use Rattle.stream_checks.specs.Packets.{ahead_of}
 use Rattle.stream_checks.specs.Severity.{plus, tally_of}
 use Rattle.stream_checks.specs.Texts.{text_of, texts_of}
 use Rattle.stream_checks.proofs.Steps.{one_more}
@@ -35,11 +37,15 @@ loop-packet-preserved g c =
     let tables = c.args.tables.now in
     let before : Checker = c.loop-packet.checker in
     let after : Checker = c.next.new.self in
-    let packet = c.in-Some.packet.now in
+    let P : List ℕ → Packet = λ bytes. record { stamp = c.in-Some.packet.now.stamp; bytes = bytes } in
+    let packet : Packet = P c.as_slice.result.now in
+    let read : c.in-Some.packet.now ≡ packet = ap P (sym c.as_slice.ensures) in
     let following = c.in-Some.following.now in
-    let found : List Finding = findings_next tables before packet following in
+    let ahead : Ahead = c.ahead_of-ahead.result in
+    let is : ahead ≡ ahead_of packet following = c.ahead_of-ahead.ensures ∙ ap (λ (p : Packet). ahead_of p following) read in
+    let found : List Finding = findings_next tables before packet ahead in
     let met = c.loop-packet.invariant in
-    let at : c.loop-packet.rest.now ≡ packet ∷ following = c.in-Some.ensures.cases.0 in
+    let at : c.loop-packet.rest.now ≡ packet ∷ following = c.in-Some.ensures.cases.0 ∙ ap (λ (p : Packet). p ∷ following) read in
     let shorter : length following + 1 ≡ length c.loop-packet.rest.now = c.in-Some.ensures.cases.1 in
     let made = c.in-Ok.ensures in
     let next : after.position.packets ≡ before.position.packets + 1 = ap (λ (p : Position). p.packets) made.position in
@@ -48,7 +54,7 @@ loop-packet-preserved g c =
     record {
       done = met.done ++ found;
       whole = append_assoc met.done found (findings_after tables after following)
-          ∙ ap (λ (more : List Finding). met.done ++ more) (sym (one_more tables before after packet following made.pace made.position made.reader))
+          ∙ ap (λ (more : List Finding). met.done ++ more) (sym (one_more tables before after packet following ahead made.pace made.position made.reader is))
           ∙ ap (λ (packets : List Packet). met.done ++ findings_after tables before packets) (sym at)
           ∙ met.whole;
       said = rw (flat_map-append (text_of c.args.checker.form) met.done found) (Appends-trans _ _ _ _ _ met.said added);
@@ -58,5 +64,5 @@ loop-packet-preserved g c =
       frames = made.frames;
       form = made.form ∙ met.form;
       step = subst (λ (p : Pace). 1 ≤ p.step) (sym made.pace) met.step;
-      answers = made.answers;
+      answers = (ap (λ (a : Ahead). a.lost) is, ap (λ (a : Ahead). a.is_unshown) is);
     }

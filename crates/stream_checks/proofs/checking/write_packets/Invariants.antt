@@ -3,7 +3,7 @@ use Rattle.std.specs.Io.KnownBytes.{Appends}
 use Rattle.stream_checks.specs.declared.finding.Finding.{Finding}
 use Rattle.stream_checks.specs.Severity.{tally_of}
 use Rattle.stream_checks.specs.Texts.{texts_of}
-use Rattle.stream_checks.specs.Checks.{TellsUnshown, findings_after}
+use Rattle.stream_checks.specs.Checks.{TellsAhead, findings_after}
 use Rattle.stream_checks.proofs.checking.write_packets.Given as goal
 
 abbrev pub invariant-loop-packet : goal.invariant-loop-packet
@@ -17,7 +17,7 @@ invariant-loop-packet g l = record {
   frames : l.checker.position.frames ≤ l.checker.position.packets;
   form : l.checker.form ≡ l.initial.checker.form;
   step : 1 ≤ l.checker.pace.step;
-  answers : TellsUnshown l.checker.unshown l.rest;
+  answers : TellsAhead l.before l.rest;
 }
 
 abbrev pub decreases-loop-packet : goal.decreases-loop-packet
