@@ -3,7 +3,7 @@ use Rattle.std.proofs.Common.{◌≡◌, ◌⊎◌, inl, inr, ℕ, List, Option,
 use Rattle.std.specs.Io.KnownBytes.{Keeps}
 use Rattle.std.proofs.KnownBytes.{Keeps-refl}
 use Rattle.vp8_tables.specs.Tables.{TableEntries}
-use Rattle.frame_session.specs.Answers.{RunStops}
+use Rattle.frame_session.specs.Answers.{Means, RunStops}
 use Rattle.frame_session.specs.Sessions.{SessionState}
 use Rattle.frame_session.specs.declared.serving.RunFault.{RunFault}
 use Rattle.frame_session.specs.declared.serving.RunFault.TheVariants as runs
@@ -43,6 +43,10 @@ unmade sources stopped r fault is = rw is (inl (Keeps-refl r))
 
 pub unheld : (sources : List (List ℕ)) (stopped : Type 0) (r : Option (List ℕ)) (fault : Fault) → fault ≡ NoMemory → IsUnreplied sources stopped r r fault
 unheld sources stopped r fault is = rw is (Keeps-refl r)
+
+-- all requests were answered, and the file for the frames not flushed
+pub unflushed_out : (tables : TableEntries) (sources : List (List ℕ)) (requests : List ℕ) (f f' r r' : Option (List ℕ)) (end : SessionState) (fault : Fault) → fault ≡ CannotWrite → Means tables sources requests f f' r r' end → IsUnreplied sources (IsStopped tables sources requests r r') r r' fault
+unflushed_out tables sources requests f f' r r' end fault is means = rw is (inr (f, f', inr (end, means)))
 
 -- a save's error as the program's
 pub save_fault : (why : Unsaved) (fault : Fault) → fault ≡ fault_of why → IsSaveFault fault

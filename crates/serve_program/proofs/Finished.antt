@@ -1,10 +1,11 @@
 -- Answers whose writers are flushed after them, a file that gained the frames, and what is saved.
-use Rattle.std.proofs.Common.{◌≡◌, ◌≢◌, ◌∙◌, ℕ, List, [], ◌++◌, Option, Some, None, Bool, true, false, refl, sym, ap, subst, append-nil}
+use Rattle.std.proofs.Common.{◌≡◌, ◌≢◌, ◌≤◌, ◌⊎◌, ◌∙◌, inl, inr, ℕ, List, [], ◌++◌, Option, Some, None, Result, Ok, Err, Bool, true, false, refl, sym, ap, subst, arith, append-nil}
 use Rattle.std.proofs.lemmas.Bool.{false≢true}
 use Rattle.std.specs.Borrow.{Bor}
-use Rattle.std.specs.Prelude.{IfSome, MatchBool, codes, is_some}
+use Rattle.std.specs.Prelude.{IfOk, IfSome, MatchBool, codes, is_some}
 use Rattle.std.specs.Io.KnownBytes.{Appends, IsAtEnd, Keeps, append_known}
 use Rattle.std.proofs.KnownBytes.{Appends-kept, Keeps-refl, Keeps-trans}
+use Rattle.clap.specs.declared.error.Error.{Error}
 use Rattle.vp8_tables.specs.Tables.{TableEntries}
 use Rattle.frame_session.specs.Answers.{Means, frames_of, replies_of}
 use Rattle.frame_session.specs.Exported.{IsExportFile}
@@ -15,9 +16,13 @@ use Rattle.frame_session.specs.Sessions.{SessionState}
 use Rattle.frame_session.specs.declared.export.Export.{Export}
 use Rattle.serve_arguments.specs.CommandLines.{IsAccepted}
 use Rattle.serve_arguments.specs.Locations.{ArePlaced, AreSeparate}
+use Rattle.program_parts.specs.Endings.{exit_status}
+use Rattle.serve_arguments.specs.Statuses.{status_of}
+use Rattle.serve_arguments.specs.declared.fault.Fault.{Fault}
+use Rattle.serve_arguments.specs.declared.fault.Fault.TheVariants.{CommandLine, NamedTwice, CannotRead, TooLong, Tables, Input, NotExported, CannotWrite, NoMemory}
 use Rattle.serve_arguments.specs.declared.words.Accepted.{Accepted}
 use Rattle.serve_arguments.specs.declared.words.Words.{Words}
-use Rattle.serve_program.specs.Done.{IsDone, IsServedAs}
+use Rattle.serve_program.specs.Done.{IsDone, IsExitStatus, IsServedAs}
 use Rattle.serve_program.specs.Endings.{AreLiveReplied, AreReplied, Gained, IsLiveReplied, IsOut, IsReplied, IsServed, OverSources, RunFiles}
 use Rattle.serve_program.specs.Noted.{AreLiveNoted, AreNoted, IsLiveNoted, IsNoted, IsNotedAs}
 use Rattle.serve_program.specs.Saved.{ArePacketsSaved, AreFramesSaved, AreSaved, IsAfterExport, IsExportSaved, SavedAt, exported_text}
@@ -194,3 +199,25 @@ all_saved saved words export end new after same file packets at = record {
   packets = packets;
   frames = frames_saved saved words.pads end words.exported export same file at;
 }
+
+-- ---- the exit status
+
+status_range : (fault : Fault) → (1 ≤ status_of fault) × (status_of fault ≤ 2)
+status_range CommandLine = (omega arith, omega arith)
+status_range (NamedTwice same) = (omega arith, omega arith)
+status_range (CannotRead path) = (omega arith, omega arith)
+status_range (TooLong path) = (omega arith, omega arith)
+status_range Tables = (omega arith, omega arith)
+status_range (Input source fault) = (omega arith, omega arith)
+status_range (NotExported why) = (omega arith, omega arith)
+status_range CannotWrite = (omega arith, omega arith)
+status_range NoMemory = (omega arith, omega arith)
+
+no_error : (fault : Fault) (status : ℕ) → status ≡ status_of fault → (status ≡ 0) ⊎ (status ≡ 3) → ⊥
+no_error fault status is (inl e) = let range = status_range fault in omega (arith, is, e, range.0)
+no_error fault status is (inr e) = let range = status_range fault in omega (arith, is, e, range.1)
+
+-- a status of 0 or 3 is not an error's
+pub exits : (run : RunFiles) (parsed : Result Words Error) (is_named : Bool) (left r r' : Option (List ℕ)) (answer : Result ℕ Fault) (status : ℕ) → status ≡ exit_status status_of answer → (status ≡ 0) ⊎ (status ≡ 3) → IfOk answer (IsExitStatus run parsed is_named left r r') → IsExitStatus run parsed is_named left r r' status
+exits run parsed is_named left r r' (Ok n) status is either done = subst (IsExitStatus run parsed is_named left r r') (sym is) done
+exits run parsed is_named left r r' (Err fault) status is either done = absurd (no_error fault status is either)

@@ -21,7 +21,7 @@ use std::io::{self, BufRead, BufReader, BufWriter, Read, Write};
 use std::rc::RcSlice;
 
 /// Answers the lines of `requests` with frames that go to the file at `path`, which is created now, or nowhere.
-#[tactic(auto, using(crate::proofs::LiveEnded::live_stopped, crate::proofs::LiveEnded::live_unmade, crate::proofs::LiveEnded::live_unheld))]
+#[tactic(auto, using(crate::proofs::LiveEnded::live_stopped, crate::proofs::LiveEnded::live_unmade, crate::proofs::LiveEnded::live_unheld, crate::proofs::LiveEnded::live_unflushed, crate::proofs::Finished::live_dropped, crate::proofs::Finished::live_gained))]
 fn run_to_path<R: NamedFiles + AllocGlobal, I: BufRead, P: Write, E: Write>(
     rt: &R,
     settings: Settings,

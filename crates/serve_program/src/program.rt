@@ -72,7 +72,7 @@ pub fn run_to<B: FileBytes, F: Write, P: Write, V: Observer>(
 }
 
 /// Runs the requests with frames that go to the file at `path`, which is created now, or nowhere.
-#[tactic(auto, using(crate::proofs::Ended::unreplied, crate::proofs::Ended::unmade, crate::proofs::Ended::unheld))]
+#[tactic(auto, using(crate::proofs::Ended::unreplied, crate::proofs::Ended::unmade, crate::proofs::Ended::unheld, crate::proofs::Ended::unflushed_out, crate::proofs::Finished::dropped, crate::proofs::Finished::gained))]
 fn run_to_path<R: NamedFiles + AllocGlobal, P: Write, E: Write>(
     rt: &R,
     settings: Settings,
@@ -312,7 +312,7 @@ fn answer_words<'a, R: NamedFiles + SavedFiles + AllocGlobal, I: Read, O: Write 
     output: &mut BufWriter<O>,
     messages: &mut Messages<'_, E>,
 ) -> Result<bool, Fault<'a>>
-    requires fresh { messages.has_refused ≡ false }
+    requires fresh { messages.now.has_refused ≡ false }
     ensures done { IfOk result (IsDone (run_files (R.bytes_at rt.now) R.Made.contents (R.is_made_at rt.now) (R.is_saved_at rt.now)) words.entry (I.remaining input.old) (writer_contents O.contents output.old) (writer_contents O.contents output.new)) }
     ensures flushed { OnOk result (writer_buffer output.new ≡ []) }
 {
@@ -348,7 +348,7 @@ fn answer_line<'a, R: NamedFiles + SavedFiles + AllocGlobal, I: Read, O: Write +
     output: &mut BufWriter<O>,
     messages: &mut Messages<'_, E>,
 ) -> Result<u8, Fault<'a>>
-    requires fresh { messages.has_refused ≡ false }
+    requires fresh { messages.now.has_refused ≡ false }
     ensures status { IfOk result (λ status. (status ≡ 0) ⊎ (status ≡ 3)) }
     ensures asked { IfOk result (λ status. status ≡ 3 → is_named ≡ true) }
     ensures done { IfOk result (IsExitStatus (run_files (R.bytes_at rt.now) R.Made.contents (R.is_made_at rt.now) (R.is_saved_at rt.now)) parsed.entry is_named (I.remaining input.old) (writer_contents O.contents output.old) (writer_contents O.contents output.new)) }
@@ -380,6 +380,7 @@ fn answer_line<'a, R: NamedFiles + SavedFiles + AllocGlobal, I: Read, O: Write +
 /// run without one the number of trailing bytes of all sources together, if there are any, go to `errors`. With `--explain`
 /// each of them is followed by a line that explains it, each refused request has a line, and after a run that made as many decoding steps as
 /// states are cached a line says what a state takes.
+#[tactic(auto, using(crate::proofs::Finished::exits))]
 pub fn serve<
     'a,
     R: NamedFiles + SavedFiles + AllocGlobal,
