@@ -1,5 +1,6 @@
 """The stream that a page shows: with its views, its check, the stream before the edits, and previews of edits."""
 
+import concurrent.futures
 import contextlib
 import json
 import threading
@@ -25,6 +26,8 @@ MOST_GROUP, MOST_SINGLE = 1000, 500
 MOST_CHECKS = 8
 # Seconds that a frame waits for a step of edits before another program shows it as it was before the step.
 PATIENCE = 0.3
+# Seconds between two looks at which of both is ready.
+OFTEN = 0.05
 
 
 class Opened(live.Live):
@@ -35,7 +38,7 @@ class Opened(live.Live):
         self.current, self.pool, self.known_runs = None, None, (None, None)
         self.check_lock, self.check, self.checks, self.count = threading.Lock(), None, [], 0
         # Programs beside the one of the stream: of edits that are not made, and of packets that no frame shows.
-        self.originals, self.preview, self.aside, self.meanwhile = {}, Preview(options), Preview(options), Preview(options)
+        self.originals, self.preview, self.aside, self.meanwhile = {}, Preview(options), Preview(options), Preview(options, 0)
         # While an edit is made: the revision before it, the rate of the frames, and the edits that were made by then.
         self.before = None
         # What goes on: a word, how much of it is done, of how much, and since when.
@@ -127,7 +130,7 @@ class Opened(live.Live):
         self.current, self.pool = None, None
         for other in (self.preview, self.aside, self.meanwhile):
             other.close()
-        self.preview, self.aside, self.meanwhile = Preview(self.options), Preview(self.options), Preview(self.options)
+        self.preview, self.aside, self.meanwhile = Preview(self.options), Preview(self.options), Preview(self.options, 0)
         threading.Thread(target=self.list_files, daemon=True).start()
 
     # Edits
@@ -144,13 +147,13 @@ class Opened(live.Live):
             self.doing = self.before = None
 
     def look(self, numbers):
-        """Frames do not wait for all of a large step: another program shows them as they were before it."""
+        """Frames do not wait for all of a large step: another program shows them as they were before it, if it is faster than the step."""
         if not self.lock.acquire(timeout=PATIENCE):
             before = self.before
-            if before is not None:
-                revision, rate, lines = before
-                return revision, rate, self.meanwhile.pictures(lines, numbers)
-            self.lock.acquire()
+            found = None if before is None else begun(lambda: self.meanwhile.pictures(before[2], numbers))
+            while not self.lock.acquire(timeout=OFTEN):
+                if found is not None and found.done():
+                    return (*before[:2], found.result())
         try:
             return super().look(numbers)
         finally:
@@ -211,11 +214,25 @@ class Opened(live.Live):
             return self.originals[source]
 
 
+def begun(function):
+    """What a function returns, in a thread of its own."""
+    found = concurrent.futures.Future()
+
+    def work():
+        try:
+            found.set_result(function())
+        except BaseException as error:
+            found.set_exception(error)
+
+    threading.Thread(target=work, daemon=True).start()
+    return found
+
+
 class Preview:
     """A program that makes edits so that their pictures can be seen before they are made."""
 
-    def __init__(self, options):
-        self.options, self.live, self.lock = options, None, threading.Lock()
+    def __init__(self, options, most_single=MOST_SINGLE):
+        self.options, self.most_single, self.live, self.lock = options, most_single, None, threading.Lock()
 
     def follow(self, lines):
         """Makes the list of the edits these lines."""
@@ -227,10 +244,10 @@ class Preview:
             self.live.run("undo")
             mine = list(self.live.session.edits)
         rest = lines[len(mine) :]
-        together, alone = rest[:-MOST_SINGLE], rest[-MOST_SINGLE:]
-        if together:
-            self.live.run_step(together)
-        for line in alone:
+        place = max(0, len(rest) - self.most_single)
+        if place:
+            self.live.run_step(rest[:place])
+        for line in rest[place:]:
             self.live.run(line)
 
     def picture(self, lines, frame):
