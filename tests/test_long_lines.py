@@ -1,5 +1,5 @@
 #!/usr/bin/env python3
-"""Tests lines of several MiB with ample memory, and the last line of requests that come one after another.
+"""Tests lines of several MiB with ample memory, a stream that is too long, and the last line of requests that come one after another.
 
 A line of 4 MiB is answered, and so is HEX of 2 MiB: neither is lost or refused as NoMemory. A carriage return before the end of the last line,
 which has no newline, is a part of that line, in a live run too.
@@ -71,12 +71,24 @@ def last_line():
         expect(f"HEX with a carriage return {more}", ran(f"insert 0 0 {packet}\r\ninsert 0 0 {packet}\r".encode(), *more)[:2], (0, "ok 2\nrefused Line\n"))
 
 
+def long_stream():
+    """A stream of more than 1 GiB: what is said of it, and how it is cut. A list of requests is not cut so."""
+    with open("long.ivf", "wb") as file:
+        file.truncate(2**30 + 1)
+    long = "vp8serve: long.ivf is too long\nlong.ivf has more than 1073741824 bytes"
+    cut = ": cut it at key packets, for example by ffmpeg -i long.ivf -c copy -f segment -segment_time 600 part%03d.ivf\n"
+    for words, told in ((["long.ivf"], long + cut), (["a.ivf", "--sources", "long.ivf"], long + cut), (["a.ivf", "long.ivf"], long + "\n")):
+        done = subprocess.run([os.environ["VP8SERVE"], *words, "--explain"], input=b"", capture_output=True, timeout=LIMIT, check=False)
+        expect(f"{words}", (done.returncode, done.stdout, done.stderr.decode()), (1, b"", told))
+
+
 def main():
     with tempfile.TemporaryDirectory() as folder:
         os.chdir(folder)
         pathlib.Path("a.ivf").write_bytes(ivf(16, 16, [KEY]))
         long_hex()
         long_lines()
+        long_stream()
         last_line()
         os.chdir(TOP)
     print(*wrong, sep="\n", end="\n" if wrong else "")

@@ -170,7 +170,15 @@ fn read_head<R: Files>(rt: &R, path: &str, head: &mut [u8; 32]) -> io::Result<us
     file.read(head)
 }
 
-/// Explains what was too long.
+/// Whether a path that was read is that of a stream.
+fn is_stream(words: Words<'_>, path: &str) -> bool {
+    let Some(tables) = words.tables else {
+        return path != words.requests;
+    };
+    path != words.requests && path != tables
+}
+
+/// Explains what was too long, and how a stream is cut.
 fn explain_long<E: Write>(
     words: Words<'_>,
     path: &str,
@@ -180,7 +188,13 @@ fn explain_long<E: Write>(
         return explain_unanswered("it has more than 1073741824 bytes", messages);
     }
     let shown = InLine(path);
-    writeln!(messages.errors, "{shown} has more than 1073741824 bytes")
+    if !is_stream(words, path) {
+        return writeln!(messages.errors, "{shown} has more than 1073741824 bytes");
+    }
+    writeln!(
+        messages.errors,
+        "{shown} has more than 1073741824 bytes: cut it at key packets, for example by ffmpeg -i {shown} -c copy -f segment -segment_time 600 part%03d.ivf"
+    )
 }
 
 /// Explains what the file of the tables is.
