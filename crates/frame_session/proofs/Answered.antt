@@ -26,6 +26,7 @@ use Rattle.packet_edits.specs.Edits.{Listing}
 use Rattle.packet_edits.specs.Sizes.{size_at}
 use Rattle.macroblock_lists.specs.declared.layouts.What.TheVariants as what
 use Rattle.packet_lists.specs.Details.{detail_text}
+use Rattle.packet_lists.specs.Findings.{check_lines}
 use Rattle.packet_lists.specs.Lines.{lines_from}
 use Rattle.packet_forge.specs.declared.faults.ForgeFault.{ForgeFault}
 use Rattle.packet_forge.specs.declared.faults.ForgeFault.TheVariants as forging
@@ -232,6 +233,7 @@ question_told old (questions.Header at) e = detail_told (nat_lt at (length (curr
 question_told old questions.Script e = begins_otherwise (script_line old.script) refusals.NoMemory (λ h. omega (arith, h)) e
 question_told old (questions.Origins first count) e = lines_told refusals.NoSuchFrame (λ h. cc) (nat_lt (frame_count old) first) (map (origin_line old) (range_with_len first (min count (frame_count old - first)))) e
 question_told old (questions.List first count) e = lines_told refusals.Place (λ h. cc) (nat_lt (length (current_list old).entries) first) (lines_from (current_list old) first count) e
+question_told old (questions.Check first count) e = lines_told refusals.Place (λ h. cc) (nat_lt (length (current_list old).entries) first) (check_lines old.tables (current_list old) first count) e
 
 -- an answer to one line, other than `refused NoMemory`, and the state after it
 pub record HasAnswer (old : SessionState) (line : Line) : Type 0 where

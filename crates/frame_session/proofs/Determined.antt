@@ -128,6 +128,7 @@ asked_counted old steps (questions.Header at) = refl
 asked_counted old steps questions.Script = refl
 asked_counted old steps (questions.Origins first count) = refl
 asked_counted old steps (questions.List first count) = refl
+asked_counted old steps (questions.Check first count) = refl
 
 -- a reply to a question other than `refused NoMemory` is the one to it
 asked_given : (now : SessionState) (question : Question) (reply : List ℕ) → (reply ≡ refused_line refusals.NoMemory → ⊥) → AnswersQuestion now question reply → reply ≡ answer_to now question

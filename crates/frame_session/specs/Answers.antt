@@ -58,7 +58,7 @@ abbrev pub AnswersScript : SessionState → List ℕ → Result ℕ Refusal → 
 AnswersScript old text set answer new = (answer ≡ reply_only (edit_line set)) × (new ≡ now_after_script text old set)
 
 -- a line, an answer that it may have, and the state after it; a frame, a script, an edit other than a deletion and a move, and a question about
--- macroblocks or a header may be out of memory.
+-- macroblocks, a header or findings may be out of memory.
 -- A question leaves the state as it is
 abbrev pub Answers : SessionState → Line → Answer → SessionState → Type 0
 Answers old requests.Silent answer new = (answer ≡ reply_only []) × (new ≡ old)

@@ -7,6 +7,7 @@ use Rattle.vp8_tables.specs.Tables.{TableEntries}
 use Rattle.macroblock_lists.specs.declared.layouts.What.{What}
 use Rattle.macroblock_lists.specs.declared.layouts.What.TheVariants as what
 use Rattle.packet_lists.specs.Details.{detail_text}
+use Rattle.packet_lists.specs.Findings.{check_lines}
 use Rattle.packet_lists.specs.Lines.{lines_from}
 use Rattle.request_lines.specs.declared.lines.Line.{Line}
 use Rattle.request_lines.specs.declared.lines.Line.TheVariants as requests
@@ -25,6 +26,10 @@ packet_answer list at = option_map_or (λ entry. packet_line entry.stamp entry.b
 abbrev pub list_answer : Listing → ℕ → ℕ → List ℕ
 list_answer list first count = if nat_lt (length list.entries) first then refused_line refusals.Place else lines_reply (lines_from list first count)
 
+-- the findings at at most this many packets of a list, starting at an index, and how many they are
+abbrev pub check_answer : TableEntries → Listing → ℕ → ℕ → List ℕ
+check_answer tables list first count = if nat_lt (length list.entries) first then refused_line refusals.Place else lines_reply (check_lines tables list first count)
+
 -- the macroblocks or the header of the packet at an index of a list
 abbrev pub detail_answer : What → TableEntries → Listing → ℕ → List ℕ
 detail_answer what tables list at = if nat_lt at (length list.entries) then text_reply (detail_text what tables list at) else refused_line refusals.Place
@@ -37,11 +42,13 @@ answer_to now (questions.Header at) = detail_answer what.Header now.tables (curr
 answer_to now questions.Script = script_line now.script
 answer_to now (questions.Origins first count) = origins_answer now first count
 answer_to now (questions.List first count) = list_answer (current_list now) first count
+answer_to now (questions.Check first count) = check_answer now.tables (current_list now) first count
 
--- whether memory may run out for the reply: macroblocks and headers are read with the modes of the packets before them
+-- whether memory may run out for the reply: macroblocks, headers and findings are read with the modes of the packets before them
 abbrev pub takes_memory : Question → Bool
 takes_memory (questions.Macroblocks at) = true
 takes_memory (questions.Header at) = true
+takes_memory (questions.Check first count) = true
 takes_memory question = false
 
 -- a reply that a question may have: the one to it, or that memory ran out for it

@@ -59,6 +59,7 @@ question_commands =
     ∷ command (codes "macroblocks") (Words (Number ∷ []) (λ at. Ask (questions.Macroblocks at)))
     ∷ command (codes "header") (Words (Number ∷ []) (λ at. Ask (questions.Header at)))
     ∷ command (codes "list") (Words (Number ∷ Number ∷ []) (λ first count. Ask (questions.List first count)))
+    ∷ command (codes "check") (Words (Number ∷ Number ∷ []) (λ first count. Ask (questions.Check first count)))
     ∷ command (codes "origins") (Words (Number ∷ Number ∷ []) (λ first count. Ask (questions.Origins first count)))
     ∷ edit_commands
 

@@ -26,6 +26,7 @@ pub fn worked_lines()
     ensures script { asked_by (codes "script trim 0 1 2; splice 1 0") ≡ requests.Script (codes " trim 0 1 2; splice 1 0") }
     ensures script_alone { asked_by (codes "script  ") ≡ requests.Ask questions.Script }
     ensures list { asked_by (codes "list 3 10") ≡ requests.Ask (questions.List 3 10) }
+    ensures check { asked_by (codes "check 3 10") ≡ requests.Ask (questions.Check 3 10) }
     ensures origins { asked_by (codes "origins 3 10") ≡ requests.Ask (questions.Origins 3 10) }
     ensures packet { asked_by (codes "packet 3") ≡ requests.Ask (questions.Packet 3) }
     ensures macroblocks { asked_by (codes "macroblocks 3") ≡ requests.Ask (questions.Macroblocks 3) }

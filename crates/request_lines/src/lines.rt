@@ -89,7 +89,7 @@ fn ended<'a>(request: Line<'a>, rest: &'a [u8]) -> Result<Line<'a>, Misfit<'a>>
 /// The request of a line, or why it is not one: the first of its words that does not fit.
 ///
 /// A line without words, or whose first word begins with `#`, has no reply. The requests are
-/// `frame N`, `use K`, `script TEXT`, `count`, `stats`, the questions `packet N`, `macroblocks N`, `header N`, `list FIRST COUNT`, `origins FIRST COUNT` and `script`, and the edits `insert AT STAMP HEX`,
+/// `frame N`, `use K`, `script TEXT`, `count`, `stats`, the questions `packet N`, `macroblocks N`, `header N`, `list FIRST COUNT`, `check FIRST COUNT`, `origins FIRST COUNT` and `script`, and the edits `insert AT STAMP HEX`,
 /// `replace AT HEX`, `delete AT`, `move FROM TO`, `copy S FROM AT`, `blank AT W H`, `hold AT`, `hide N` and `show N`. HEX is `-`
 /// or an even number of hexadecimal digits, TEXT is the rest of the line with at least one word, and the others are numbers.
 pub fn read_line(line: &[u8]) -> Result<Line<'_>, Misfit<'_>>
@@ -127,6 +127,8 @@ fn read_question<'a>(command: &[u8], words: &'a [u8]) -> Result<Line<'a>, Misfit
         header_line(words)
     } else if command == b"list".as_slice() {
         list_line(words)
+    } else if command == b"check".as_slice() {
+        check_line(words)
     } else if command == b"origins".as_slice() {
         origins_line(words)
     } else {
@@ -211,6 +213,14 @@ fn list_line(words: &[u8]) -> Result<Line<'_>, Misfit<'_>>
     let (first, rest) = next_number(words)?;
     let (count, rest) = next_number(rest)?;
     ended(Line::Ask(Question::List { first, count }), rest)
+}
+
+fn check_line(words: &[u8]) -> Result<Line<'_>, Misfit<'_>>
+    ensures { result ≡ read_after (codes "check") words.now }
+{
+    let (first, rest) = next_number(words)?;
+    let (count, rest) = next_number(rest)?;
+    ended(Line::Ask(Question::Check { first, count }), rest)
 }
 
 fn origins_line(words: &[u8]) -> Result<Line<'_>, Misfit<'_>>

@@ -13,4 +13,6 @@ pub enum Question {
     Origins { first: u64, count: u64 },
     /// The facts of at most `count` packets of the current source, starting at index `first`.
     List { first: u64, count: u64 },
+    /// The findings at at most `count` packets of the current source, starting at index `first`.
+    Check { first: u64, count: u64 },
 }

@@ -1,9 +1,11 @@
 // The answers to questions.
-ghost use Rattle.std.specs.Prelude.{◌≡◌, ◌⊎◌, ◌<◌, IfOk, OnOk, length};
+ghost use Rattle.std.specs.Prelude.{◌≡◌, ◌⊎◌, ◌+◌, ◌++◌, ◌<◌, ◌≤◌, IfOk, OnOk, length};
+ghost use Rattle.std.specs.List.{concat};
 ghost use Rattle.std.specs.Io.KnownBytes.{Appends};
 ghost use Rattle.packet_lists.specs.Details.{detail_text};
-ghost use Rattle.frame_session.specs.Questions.{GainsAnswer, detail_answer, list_answer, packet_answer};
-ghost use Rattle.frame_session.specs.Replies.{newlines, refused_line, text_reply};
+ghost use Rattle.packet_lists.specs.Findings.{check_lines};
+ghost use Rattle.frame_session.specs.Questions.{GainsAnswer, check_answer, detail_answer, list_answer, packet_answer};
+ghost use Rattle.frame_session.specs.Replies.{lines_line, newlines, refused_line, text_reply};
 ghost use Rattle.frame_session.specs.Sessions.{current_list};
 ghost use Rattle.frame_session.specs.Told.{Tells};
 
@@ -12,7 +14,7 @@ use crate::refusal::Refusal;
 use crate::replies::{write_lines_line, write_packet, write_refused, write_script};
 use macroblock_lists::What;
 use packet_edits::Store;
-use packet_lists::{write_details, write_lines};
+use packet_lists::{write_check, write_details, write_lines};
 use pixel_planes::NoMemory;
 use request_lines::Question;
 use std::alloc::Global;
@@ -82,14 +84,65 @@ fn detail_text(
     }
 }
 
+/// The lines of a check of `count` packets, starting at index `first`, and their number. `NoMemory` if memory runs out for them.
+fn check_text(
+    alloc: Global,
+    tables: &Tables,
+    store: &Store,
+    first: usize,
+    count: usize,
+) -> Result<(Vec<u8>, u64), NoMemory>
+    requires { first + count ≤ length store.now.list.entries }
+    ensures text { IfOk result (λ made. made.0.items ≡ concat (check_lines tables.now store.now.list first count)) }
+    ensures lines { IfOk result (λ made. made.1 ≡ length (check_lines tables.now store.now.list first count)) }
+{
+    let mut text = Vec::new(alloc);
+    match write_check(&mut text, alloc, tables, store, first, count) {
+        Ok(lines) => Ok((text, lines)),
+        Err(_) => Err(NoMemory),
+    }
+}
+
+/// Writes a text of so many lines, after their number.
+fn write_whole<W: Write>(w: &mut W, lines: u64, text: &[u8]) -> Result<Option<Refusal>, WriteFault>
+    ensures wrote { OnOk result (Appends (W.contents w.old) (W.contents w.new) (lines_line lines ++ text.now)) }
+    ensures told { IfOk result (Tells (W.contents w.old) (W.contents w.new)) }
+{
+    write_lines_line(w, lines)?;
+    w.write_all(text).map_err(|_| WriteFault::Write)?;
+    Ok(None)
+}
+
 /// Writes a text of several lines, after their number.
 fn write_counted<W: Write>(w: &mut W, text: &[u8]) -> Result<Option<Refusal>, WriteFault>
     ensures wrote { OnOk result (Appends (W.contents w.old) (W.contents w.new) (text_reply text.now)) }
     ensures told { IfOk result (Tells (W.contents w.old) (W.contents w.new)) }
 {
-    write_lines_line(w, newlines(text))?;
-    w.write_all(text).map_err(|_| WriteFault::Write)?;
-    Ok(None)
+    write_whole(w, newlines(text), text)
+}
+
+/// Writes the findings at at most `count` packets of a source, starting at index `first`, and how many they are, or that there is no
+/// such index, or that memory ran out for them.
+fn answer_check<W: Write>(
+    w: &mut W,
+    alloc: Global,
+    tables: &Tables,
+    store: &Store,
+    first: u64,
+    count: u64,
+) -> Result<Option<Refusal>, WriteFault>
+    ensures wrote { OnOk result (Appends (W.contents w.old) (W.contents w.new) (check_answer tables.now store.now.list first count) ⊎ Appends (W.contents w.old) (W.contents w.new) (refused_line Refusal.NoMemory)) }
+    ensures told { IfOk result (Tells (W.contents w.old) (W.contents w.new)) }
+{
+    let len = store.len() as u64;
+    if len < first {
+        return write_refused(w, Refusal::Place);
+    }
+    let cut = count.min(len - first);
+    match check_text(alloc, tables, store, first as usize, cut as usize) {
+        Ok((text, lines)) => write_whole(w, lines, text.as_slice()),
+        Err(_) => write_refused(w, Refusal::NoMemory),
+    }
 }
 
 impl Session {
@@ -130,6 +183,10 @@ impl Session {
             Question::Script => write_script(w, &self.script),
             Question::List { first, count } => {
                 write_list(w, &self.stores[self.current], first, count)
+            }
+            Question::Check { first, count } => {
+                let store = &self.stores[self.current];
+                answer_check(w, self.alloc, &self.tables, store, first, count)
             }
             Question::Origins { first, count } => self.write_origins(w, first, count),
         }
