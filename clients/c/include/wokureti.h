@@ -92,6 +92,11 @@ uint32_t wk_version(void);
 uint32_t wk_open(wk_handle *handle, const uint8_t *files, size_t size, const size_t *ends, size_t sources, uint16_t states,
                  const uint8_t *tables, size_t table_size, wk_fault *fault);
 
+/* Opens a session as wk_open does, with a limit in bytes: the pictures of the cached states, four for each, take at most `bytes`, or are those of
+ * the newest state alone. At most 4,096 states are cached. (Not in 0.12.0.) */
+uint32_t wk_open_bytes(wk_handle *handle, const uint8_t *files, size_t size, const size_t *ends, size_t sources, uint64_t bytes,
+                       const uint8_t *tables, size_t table_size, wk_fault *fault);
+
 /* Ends the session of a handle, if it holds one. */
 void wk_close(wk_handle *handle);
 

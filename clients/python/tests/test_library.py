@@ -3,7 +3,6 @@
 import gc
 import os
 import pathlib
-import re
 import subprocess
 import sys
 import threading
@@ -86,15 +85,14 @@ class Alike(Library):
                         session.save(folder / name, pad, source, restamp)
                     self.assertEqual((folder / "ours").read_bytes(), (folder / "its").read_bytes(), (source, pad, restamp))
 
-    def test_bytes_are_the_states_of_the_program(self):
-        # The program says how many states it caches once as many steps were made.
+    def test_a_limit_in_bytes_is_that_of_the_program(self):
         for path in (SMALL, ODD, CLIP):
-            for size in (1 << 20, 3 << 20, 9 << 20):
-                done = subprocess.run([programs.find("vp8serve"), path, "-", "-", "--cache-bytes", str(size), "--explain"], input=b"frame 999\n" + b"".join(b"frame %d\n" % n for n in range(48)), capture_output=True, check=False)
-                found = re.search(rb"cache: (\d+) states", done.stderr)
-                states = library.states_in(path.read_bytes(), size)
-                self.assertEqual(states, int(found[1]) if found else states, path)
-                self.assertTrue(found or states > 11)
+            for size in (1, 1 << 20, 3 << 20, 9 << 20):
+                ours, its = (Case.session(self, path, engine=engine, cache_bytes=size) for engine in ("library", "program"))
+                for session in (ours, its):
+                    for number in (11, 3, 9, 0, 5):
+                        session.frame(number)
+                self.assertEqual(ours.decoded(), its.decoded(), (path, size))
 
     def test_reasons_are_those_of_the_program(self):
         ours, its = self.session(explain=True), Case.session(self, SMALL, explain=True)

@@ -2,3 +2,4 @@ pub mod Cut
 pub mod Handles
 pub mod Unboxes
 mod Heads
+mod Opens

@@ -9,7 +9,7 @@ use Rattle.stream_files.specs.declared.ivf.Head.{Head}
 use Rattle.stream_files.specs.declared.ivf.Ivf.{Ivf}
 use Rattle.stream_files.specs.declared.ivf.IvfFault.{IvfFault}
 use Rattle.frame_session.specs.Answers.{AreIvfs, Means, SourceRefuses}
-use Rattle.frame_session.specs.Cached.{of_states}
+use Rattle.frame_session.specs.Cached.{Capacity}
 use Rattle.wokureti_c.specs.declared.engine.Engine.{Engine}
 use Rattle.wokureti_c.specs.declared.frames.Fault.{Fault}
 use Rattle.wokureti_c.specs.declared.opening.OpenFault.{OpenFault}
@@ -43,12 +43,12 @@ AreTables (byte ∷ bytes) tables = entries_of (byte ∷ bytes) ≡ Ok tables
 abbrev pub head_in : List ℕ → Head
 head_in bytes = if nat_le 24 (length bytes) then head_of bytes else record { width = 0; height = 0; rate = 0; scale = 0 }
 
--- an engine is opened over files: its session has the meaning of no requests over them, and this many states. Their heads are kept
-pub record IsOpened (files : List (List ℕ)) (states : ℕ) (bytes : List ℕ) (engine : Engine) : Type 0 where
+-- an engine is opened over files: its session has the meaning of no requests over them, and this capacity. Their heads are kept
+pub record IsOpened (files : List (List ℕ)) (capacity : Capacity) (bytes : List ℕ) (engine : Engine) : Type 0 where
   pub tables : Tables
   pub are : AreTables bytes tables
   pub means : Means tables files [] None None None None engine.session.now
-  pub capacity : engine.session.cache.capacity ≡ of_states states
+  pub capacity_is : engine.session.cache.capacity ≡ capacity
   pub heads : engine.heads.items ≡ map head_of files
 
 -- why no session is opened: an argument that is not allowed, bytes that are no tables, the first file that is refused, or no memory

@@ -1,5 +1,6 @@
 //! The calls of the library.
 ghost use Rattle.std.specs.Prelude.{◌≡◌, ◌<◌, None, Some, false, length as count};
+ghost use Rattle.frame_session.specs.Cached.{of_bytes, of_states};
 ghost use Rattle.wokureti_c.specs.Calls.{IsAnswered, IsExplained, IsRefused, IsSaved, IsServed, IsTooLarge, KeepsRest, Over};
 ghost use Rattle.wokureti_c.specs.Exports.{IsAfterExport, IsExported, IsRefusedExport};
 ghost use Rattle.wokureti_c.specs.Openings.{IsNotOpened, IsOpened, files_in};
@@ -17,6 +18,7 @@ use crate::requests::{answer, explain, save};
 use crate::rooms::copy;
 use crate::saving::save_source;
 use crate::statuses::{CLOSED, MEMORY, OK};
+use frame_session::Capacity;
 use std::alloc::Global;
 
 /// The version of the library, 0.13.0: 10,000 times the first number, 100 times the second, and the third.
@@ -36,6 +38,26 @@ pub extern "C" fn wk_close(handle: &mut Handle, alloc: Global)
     drop(engine);
 }
 
+/// Puts what was opened into a handle. `MEMORY` if out of memory; the handle is unchanged then.
+fn hold(handle: &mut Handle, alloc: Global, opened: Opened) -> u32
+    ensures held { result ≡ 0 → (engine : Engine) × (handle.new.held ≡ Some engine) × (engine.session ≡ opened.session) × (engine.heads ≡ opened.heads) }
+    ensures memory { 0 < result → (result ≡ 3) × (handle.new.held ≡ handle.old.held) }
+{
+    let Opened { session, heads } = opened;
+    let engine = Engine {
+        session,
+        heads,
+        text: Vec::new(alloc),
+        answered: 0,
+        refused: None,
+    };
+    let Ok(engine) = Box::new(alloc, engine) else {
+        return MEMORY;
+    };
+    put(handle, engine);
+    OK
+}
+
 /// Opens a session over one to eight IVF files, which lie one after the other in `files`, each up to its end in
 /// `ends`. `states`, 1 to 4,096, is the most decoded states that are cached. No bytes of tables are those of RFC
 /// 6386. What the handle held is ended first; it holds nothing afterwards unless the result is 0.
@@ -49,27 +71,38 @@ pub extern "C" fn wk_open(
     tables: &[u8],
     reported: &mut Fault,
 ) -> u32
-    ensures opened { result ≡ 0 → (engine : Engine) × (handle.new.held ≡ Some engine) × IsOpened (files_in files.now ends.now) states tables.now engine }
+    ensures opened { result ≡ 0 → (engine : Engine) × (handle.new.held ≡ Some engine) × IsOpened (files_in files.now ends.now) (of_states states) tables.now engine }
     ensures refused { 0 < result → IsNotOpened files.now ends.now states tables.now result reported.new }
     ensures closed { 0 < result → handle.new.held ≡ None }
 {
     wk_close(handle, alloc);
-    let Opened { session, heads } = match open(alloc, files, ends, states, tables) {
-        Ok(opened) => opened,
-        Err(fault) => return fault.report(reported),
-    };
-    let engine = Engine {
-        session,
-        heads,
-        text: Vec::new(alloc),
-        answered: 0,
-        refused: None,
-    };
-    let Ok(engine) = Box::new(alloc, engine) else {
-        return MEMORY;
-    };
-    put(handle, engine);
-    OK
+    match open(alloc, files, ends, Capacity::of_states(states), tables) {
+        Ok(opened) => hold(handle, alloc, opened),
+        Err(fault) => fault.report(reported),
+    }
+}
+
+/// Opens a session as `wk_open` does, with a limit in bytes: the pictures of the cached states, four for each, take at
+/// most `bytes`, or are those of the newest state alone. At most 4,096 states are cached.
+#[unsafe(no_mangle)]
+pub extern "C" fn wk_open_bytes(
+    handle: &mut Handle,
+    alloc: Global,
+    files: &[u8],
+    ends: &[usize],
+    bytes: u64,
+    tables: &[u8],
+    reported: &mut Fault,
+) -> u32
+    ensures opened { result ≡ 0 → (engine : Engine) × (handle.new.held ≡ Some engine) × IsOpened (files_in files.now ends.now) (of_bytes bytes) tables.now engine }
+    ensures refused { 0 < result → IsNotOpened files.now ends.now 4096 tables.now result reported.new }
+    ensures closed { 0 < result → handle.new.held ≡ None }
+{
+    wk_close(handle, alloc);
+    match open(alloc, files, ends, Capacity::of_bytes(bytes), tables) {
+        Ok(opened) => hold(handle, alloc, opened),
+        Err(fault) => fault.report(reported),
+    }
 }
 
 /// Puts the three planes of frame `n` of the current script into rooms of the caller's, whose rows lie the strides

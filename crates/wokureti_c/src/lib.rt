@@ -15,8 +15,8 @@ mod unboxed;
 
 pub use exporting::Unexported;
 pub use exports::{
-    wk_close, wk_export, wk_frame, wk_open, wk_request, wk_save, wk_save_source, wk_text,
-    wk_version, wk_why,
+    wk_close, wk_export, wk_frame, wk_open, wk_open_bytes, wk_request, wk_save, wk_save_source,
+    wk_text, wk_version, wk_why,
 };
 pub use frames::{Fault, Shown};
 pub use handle::Handle;

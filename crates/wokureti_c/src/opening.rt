@@ -3,14 +3,13 @@ ghost use Rattle.std.specs.Prelude.{◌≡◌, ◌≤◌, IfErr, IfOk, IfSome, N
 ghost use Rattle.stream_files.specs.Ivf.{head_of};
 ghost use Rattle.vp8_tables.specs.Tables.{TableEntries, entries_of};
 ghost use Rattle.frame_session.specs.Answers.{Means, texts_of};
-ghost use Rattle.frame_session.specs.Cached.{of_states};
 ghost use Rattle.wokureti_c.specs.Openings.{AreTables, OpenRefuses, Reports, are_ends_from, files_in, head_in};
 
 use crate::frames::Fault;
 use crate::statuses::{ARGUMENT, FILE, MEMORY, TABLES, number_of_file_fault};
 use arrayvec::ArrayVec;
 use byteorder::{ByteOrder, LittleEndian};
-use frame_session::{RunFault, Session, run};
+use frame_session::{Capacity, RunFault, Session, Settings, Unobserved, run_over};
 use std::alloc::Global;
 use std::io::sink;
 use stream_files::{Head, IvfFault};
@@ -123,29 +122,29 @@ pub fn open(
     alloc: Global,
     bytes: &[u8],
     ends: &[usize],
-    states: u16,
+    capacity: Capacity,
     tables: &[u8],
 ) -> Result<Opened, OpenFault>
     ensures opened { IfOk result (λ opened. (entries : TableEntries) × AreTables tables.now entries × Means entries (files_in bytes.now ends.now) [] None None None None opened.session.now) }
-    ensures capacity { IfOk result (λ opened. opened.session.cache.capacity ≡ of_states states) }
+    ensures capacity { IfOk result (λ opened. opened.session.cache.capacity ≡ capacity) }
     ensures heads { IfOk result (λ opened. opened.heads.items ≡ map head_of (files_in bytes.now ends.now)) }
-    ensures refused { IfErr result (OpenRefuses bytes.now ends.now states tables.now) }
+    ensures refused { IfErr result (OpenRefuses bytes.now ends.now capacity.states tables.now) }
 {
-    if ends.is_empty() || ends.len() > 8 || states == 0 || states > 4096 {
+    if ends.is_empty() || ends.len() > 8 || capacity.states == 0 || capacity.states > 4096 {
         return Err(OpenFault::Argument);
     }
     let tables = tables_of(tables).map_err(|_| OpenFault::Tables)?;
     let Some(files) = files_in(bytes, ends) else {
         return Err(OpenFault::Argument);
     };
-    let session = match run(
+    let session = match run_over(
         alloc,
-        tables,
-        states,
+        Settings { tables, capacity },
         files.as_slice(),
         b"",
         &mut sink(),
         &mut sink(),
+        &mut Unobserved {},
     ) {
         Ok(session) => session,
         Err(RunFault::Ivf { source, fault }) => return Err(OpenFault::File { source, fault }),

@@ -20,7 +20,7 @@ ENGINES = ("library", "program")
 # Bytes of stack that a worker has at least: the library needs 64 KB.
 LEAST_STACK = 1 << 20
 STARTING = threading.Lock()
-CACHE, MOST_STATES = 32, 4096
+CACHE = 32
 V3 = {"avx2", "bmi1", "bmi2", "f16c", "fma", "abm", "movbe"}
 OK, FILE, MEMORY, ROOM, LOST, NO_MEMORY = 0, 2, 3, 5, 7, 31
 # Numbers of `wk_export`: a frame that the script changes, and too many packets.
@@ -102,39 +102,6 @@ def find():
     return next((str(path) for path in places if path.is_file()), None)
 
 
-def plane_bytes(width, height):
-    """The bytes of a plane with its border."""
-    return (width + 64) * (height + 64)
-
-
-def picture_bytes(width, height):
-    """The bytes of a cached picture: its whole macroblocks."""
-    columns, rows = (width + 15) // 16, (height + 15) // 16
-    return plane_bytes(16 * columns, 16 * rows) + 2 * plane_bytes(8 * columns, 8 * rows)
-
-
-def first_key_size(file):
-    """The size of the first key packet of a file that has one, or None."""
-    _, place = ivf.parse_head(file[: ivf.HEAD.size])
-    while place + ivf.RECORD.size <= len(file):
-        size, _ = ivf.RECORD.unpack_from(file, place)
-        start = place + ivf.RECORD.size
-        place = start + size
-        found = ivf.key_size(file[start : start + min(size, 10)]) if size >= 10 and place <= len(file) else None
-        if found:
-            return found
-    return None
-
-
-def states_in(file, size):
-    """The number of states whose pictures take at most so many bytes, as vp8serve counts them: by the first key packet that has a size."""
-    try:
-        found = first_key_size(file)
-    except ivf.NotIvf:
-        found = None
-    return CACHE if found is None else max(1, min(MOST_STATES, size // picture_bytes(*found)))
-
-
 def number_of(version):
     """The number of a version, as `wk_version` returns it."""
     first, second, third = map(int, version.split("."))
@@ -178,12 +145,13 @@ def load(path=None):
         "wk_save": [pointer, ctypes.c_bool, pointer],
         "wk_text": [pointer, pointer, size, pointer],
     }
-    # Version 0.11.0 has not these.
+    # Earlier versions have not all of these.
     later = {
+        "wk_open_bytes": [pointer, data, size, pointer, size, ctypes.c_uint64, data, size, pointer],
         "wk_save_source": [pointer, size, ctypes.c_bool, ctypes.c_bool, pointer],
         "wk_export": [pointer, ctypes.c_bool, pointer, pointer],
     }
-    for name, types in (calls | later if hasattr(found, "wk_export") else calls).items():
+    for name, types in (calls | {name: types for name, types in later.items() if hasattr(found, name)}).items():
         call = getattr(found, name)
         call.argtypes, call.restype = types, None if name == "wk_close" else ctypes.c_uint32
     return found
@@ -192,7 +160,7 @@ def load(path=None):
 class Engine:
     """A session of the library. All its calls are made on one thread."""
 
-    def __init__(self, library, files, states, tables, explains):
+    def __init__(self, library, files, states, most_bytes, tables, explains):
         self.library, self.explains, self.reasons = library, explains, []
         self.handle = (ctypes.c_void_p * 1)()
         self.shown, self.length = Shown(), ctypes.c_size_t()
@@ -202,7 +170,8 @@ class Engine:
             total += len(file)
             ends[place] = total
         fault = Fault()
-        status = library.wk_open(self.handle, b"".join(files), total, ends, len(files), states, tables, len(tables), ctypes.byref(fault))
+        opens, most = (library.wk_open, states) if most_bytes is None else (library.wk_open_bytes, most_bytes)
+        status = opens(self.handle, b"".join(files), total, ends, len(files), most, tables, len(tables), ctypes.byref(fault))
         self.trouble = None if status == OK else (status, fault.source, fault.cause)
 
     def text(self):
@@ -316,16 +285,17 @@ def start_worker(asked):
 
 
 class Library:
-    """A running session. `files` are the bytes of its sources; `save` gets the packets of source 0 when it is finished."""
+    """A running session. `files` are the bytes of its sources; `save` gets the packets of source 0 when it is finished. So many states are cached, or as
+    many as have pictures of `most_bytes`."""
 
-    def __init__(self, files, states=CACHE, tables=b"", save=None, pad=False, explains=False):
+    def __init__(self, files, states=CACHE, most_bytes=None, tables=b"", save=None, pad=False, explains=False):
         library = load()
         self.owner = os.getpid()
         self.asked = queue.SimpleQueue()
         start_worker(self.asked)
         self.engine, self.is_over, self.save, self.pad = None, False, save, pad
         self.finalizer = weakref.finalize(self, self.asked.put, None)
-        self.engine = self.call(lambda: Engine(library, files, states, tables, explains))
+        self.engine = self.call(lambda: Engine(library, files, states, most_bytes, tables, explains))
         if self.engine.trouble:
             status, source, cause = self.engine.trouble
             self.finalizer()

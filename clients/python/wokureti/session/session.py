@@ -15,7 +15,7 @@ from .edits import EditList
 from .errors import Ended, Refused, Unexported
 from .frames import Frame, frame_of
 from .inputs import Inputs
-from .library import MOST_FILE, Library, NotExported, engine_of, states_in
+from .library import MOST_FILE, Library, NotExported, engine_of
 from .lines import EDITS, begins_reply, first_word, is_edit, is_refusal, plain, rest_of, words_of
 from .pipes import Gone, Late, Pipes, Strange
 from .scripts import Script
@@ -138,8 +138,9 @@ class Session:
             long_tables = b"" if tables is None else self._whole(tables, pathlib.Path(os.fsdecode(tables)).read_bytes)
             if save is not None and not os.path.exists(save) and not os.access(os.path.dirname(os.path.realpath(save)), os.W_OK | os.X_OK):
                 raise Gone(f"cannot write {os.fsdecode(save)}")
-            states = states_in(files[0], checks.number(MOST_CACHED if cache_bytes is None else cache_bytes)) if cache is None else checks.states(cache)
-            return Library(files, states, long_tables, None if save is None else checks.path(save), pad, self._explain)
+            states = None if cache is None else checks.states(cache)
+            most_bytes = checks.number(MOST_CACHED if cache_bytes is None else cache_bytes) if cache is None else None
+            return Library(files, states, most_bytes, long_tables, None if save is None else checks.path(save), pad, self._explain)
         except Gone as error:
             raise Ended(1, f"libwokureti: {error}") from None
 

@@ -74,6 +74,17 @@ extern "C" {
         table_size: usize,
         fault: *mut wk_fault,
     ) -> u32;
+    pub fn wk_open_bytes(
+        handle: *mut wk_handle,
+        files: *const u8,
+        size: usize,
+        ends: *const usize,
+        sources: usize,
+        bytes: u64,
+        tables: *const u8,
+        table_size: usize,
+        fault: *mut wk_fault,
+    ) -> u32;
     pub fn wk_close(handle: *mut wk_handle);
     pub fn wk_frame(
         handle: *mut wk_handle,

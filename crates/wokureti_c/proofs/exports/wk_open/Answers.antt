@@ -1,13 +1,18 @@
-use Rattle.std.proofs.Common.{refl, rules}
+use Rattle.frame_session.specs.Cached.{of_states}
 use Rattle.wokureti_c.specs.declared.opening.OpenFault.TheVariants.{Memory}
+use Rattle.wokureti_c.specs.Openings.{files_in}
+use Rattle.wokureti_c.proofs.Opens.{is_opened}
 use Rattle.wokureti_c.proofs.exports.wk_open.Goals as goal
 
-pub returns-in_default-clause-refused : goal.returns-in_default-clause-refused
-returns-in_default-clause-refused c failed =
-    let means = c.in-Ok.ensures.opened.2 in
-    record { fault = Memory; refuses = (means.files, means.are); reports = refl }
+pub returns-in-Ok-clause-opened : goal.returns-in-Ok-clause-opened
+returns-in-Ok-clause-opened c opened =
+    let held = c.hold.ensures.held opened in (
+      held.0,
+      held.1,
+      is_opened (files_in c.args.files.now c.args.ends.now) (of_states c.args.states) c.of_states.result c.args.tables.now c.in-Ok.opened held.0 c.in-Ok.ensures.opened c.in-Ok.ensures.capacity c.of_states.ensures c.in-Ok.ensures.heads held.2 held.3,
+    )
 
-pub returns-clause-opened : goal.returns-clause-opened
-returns-clause-opened c opened =
-    let found = c.in-Ok.ensures.opened in
-    (_, c.put.ensures, record { tables = found.0; are = found.1; means = first_of (search rules, cc); capacity = first_of (search rules, cc); heads = first_of (search rules, cc) })
+pub returns-in-Ok-clause-refused : goal.returns-in-Ok-clause-refused
+returns-in-Ok-clause-refused c failed =
+    let means = c.in-Ok.ensures.opened.2 in
+    record { fault = Memory; refuses = (means.files, means.are); reports = (c.hold.ensures.memory failed).0 }
