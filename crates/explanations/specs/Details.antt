@@ -48,6 +48,7 @@ question_detail now (questions.Header at) = no_packet_of now at
 question_detail now questions.Script = Nothing
 question_detail now (questions.Origins first count) = Nothing
 question_detail now (questions.List first count) = past_end_of now first
+question_detail now (questions.Check first count) = past_end_of now first
 
 -- which index of a request has no packet
 abbrev pub place_detail : SessionState → Line → Detail

@@ -100,7 +100,7 @@ fn question_detail(session: &Session, question: Question) -> Detail
         Question::Packet { at } | Question::Macroblocks { at } | Question::Header { at } => {
             no_packet_of(session, at)
         }
-        Question::List { first, .. } => past_end_of(session, first),
+        Question::List { first, .. } | Question::Check { first, .. } => past_end_of(session, first),
         Question::Script | Question::Origins { .. } => Detail::Nothing,
     }
 }
