@@ -1,8 +1,8 @@
 #!/usr/bin/env python3
-"""Tests the questions `list`, `header`, `macroblocks` and `origins` over random edits of real streams: test_questions.py [LISTS [SEED]]
+"""Tests the questions `list`, `check`, `header`, `macroblocks` and `origins` over random edits of real streams: test_questions.py [LISTS [SEED]]
 
-`list` in ranges, put together, is what vp8list --json prints of the file that --save writes at that place; `header` and `macroblocks` of some packets are what
-it prints of that file with these options. `origins` is what a model says here:
+`list` in ranges, put together, is what vp8list --json prints of the file that --save writes at that place; so is `check` what it prints with --check --json
+of packets, and the last line of each reply counts its findings. `header` and `macroblocks` of some packets are what it prints of that file with these options. `origins` is what a model says here:
 the script's nodes frame by frame, and the packets that `list` reports as shown. A session without the questions has the same other replies and
 the same frames. It prints what differs and ends with 1, or prints nothing and ends with 0.
 """
@@ -28,8 +28,9 @@ LIMIT = 120
 MOST_PACKETS, MOST_EDITS = 60, 12
 
 
-def ran(*words, lines=""):
-    done = subprocess.run([str(word) for word in words], input=lines.encode(), stdout=subprocess.PIPE, timeout=LIMIT, check=True)
+def ran(*words, lines="", most=0):
+    done = subprocess.run([str(word) for word in words], input=lines.encode(), stdout=subprocess.PIPE, timeout=LIMIT)
+    assert 0 <= done.returncode <= most, (words, done.returncode)
     return done.stdout.decode()
 
 
@@ -160,6 +161,22 @@ def taken(replies, asked, refusal):
     return found
 
 
+def found_at(replies, asked):
+    """The findings of the replies to these questions, which are taken off the list; the last question has none."""
+    found = []
+    for line in asked[:-1]:
+        first, count = map(int, line.split()[1:])
+        *some, tally = [next(replies) for _ in range(int(next(replies).removeprefix("lines ")))]
+        objects = [json.loads(finding) for finding in some]
+        counted = {f"{severity}s" if severity == "note" else severity: sum(finding["severity"] == severity for finding in objects) for severity in ("damage", "note")}
+        assert json.loads(tally) == counted, (line, tally)
+        assert all(first <= finding["packet"] < first + count for finding in objects), line
+        found += some
+    last = next(replies)
+    assert last == "refused Place", (asked[-1], last)
+    return found
+
+
 def expect(got, wanted, what):
     assert len(got) == len(wanted), (what, len(got), len(wanted))
     for one, other in zip(got, wanted):
@@ -197,8 +214,9 @@ def one_list(dice, folder, streams):
     second, first, origins = ranges(dice, "list", counts[1]), ranges(dice, "list", counts[0]), ranges(dice, "origins", frames)
     looks = [f"frame {dice.randint(0, frames)}" for _ in range(3)]
     plain = ["use 1", "use 0", *looks, "stats", "count", "script"]
+    checks = ranges(dice, "check", counts[0])
     details = [f"{dice.choice(['header', 'macroblocks'])} {dice.randrange(counts[0])}" for _ in range(4 * (counts[0] > 0))]
-    asked = ["use 1", *second, "use 0", *first, *origins, *details, looks[0], first[0], *looks[1:], origins[0], "stats", "count", "script"]
+    asked = ["use 1", *second, "use 0", *first, *checks, *origins, *details, looks[0], first[0], *looks[1:], origins[0], "stats", "count", "script"]
     saved, out = folder / "saved.ivf", folder / "out.y4m"
     lines = "".join(f"{line}\n" for line in [*edits, *asked])
     replies = ran(SERVE, paths[0], "-", out, "--sources", paths[1], "--save", saved, *(["--live"] if dice.random() < 0.5 else []), lines=lines).split("\n")
@@ -210,6 +228,7 @@ def one_list(dice, folder, streams):
     lists = [None, taken(left, second, "refused Place")]
     others.append(next(left))
     lists[0] = taken(left, first, "refused Place")
+    findings = found_at(left, checks)
     found = taken(left, origins, "refused NoSuchFrame")
     for question in details:
         word, number = question.split()
@@ -219,6 +238,7 @@ def one_list(dice, folder, streams):
     wanted = [line for line in without[len(others) :] if not line.startswith("refused NoSuchFrame")]
     expect(others + rest, without[: len(others)] + wanted, "another reply")
     expect(lists[0], ran(LIST, saved, "--json").splitlines(), "list")
+    expect(findings, [line for line in ran(LIST, saved, "--check", "--json", most=1).splitlines() if json.loads(line)["packet"] is not None], "check")
     objects = [list(map(json.loads, source)) for source in lists]
     expect(list(map(json.loads, found)), list(Script(text, [sum(facts["show"] == "shown" for facts in source) for source in objects]).origins(objects)), "origins")
 

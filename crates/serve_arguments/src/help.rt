@@ -48,6 +48,7 @@ Requests, a line each; the reply goes to standard output:
   script                                              script TEXT
   packet N                                            packet STAMP HEX
   list FIRST COUNT                                    lines K, and packets as JSON
+  check FIRST COUNT                                   lines K, and findings as JSON
   origins FIRST COUNT                                 lines K, and frames as JSON
   header N                                            lines K, and fields as JSON
   macroblocks N                                       lines K, and macroblocks as JSON

@@ -40,6 +40,19 @@ const LISTED: Run = Run {
 };
 
 #[test]
+fn findings_are_reported(rt: HostRuntime) -> Result<(), Fail> {
+    expect_run(&rt, rt.alloc(), &CHECKED)
+}
+
+// The findings of vp8list in the file with the packets that are left: the one that is lost with packet 1 has none of its own.
+const CHECKED: Run = Run {
+    packets: &[KEY, HIDDEN, &[0x11, 0], INTER],
+    requests: b"delete 1\ncheck 0 3\ncheck 1 1\ncheck 2 9\ncheck 3 1\ncheck 4 1\ncheck 0\n",
+    replies: b"ok 3\nlines 6\n{\"packet\":0,\"frame\":0,\"kind\":\"past_end\",\"partition\":null,\"bytes\":68,\"severity\":\"damage\"}\n{\"packet\":0,\"frame\":0,\"kind\":\"past_end\",\"partition\":0,\"bytes\":3,\"severity\":\"damage\"}\n{\"packet\":1,\"frame\":1,\"kind\":\"refused\",\"cause\":\"ShortPacket\",\"lost\":1,\"severity\":\"damage\"}\n{\"packet\":1,\"frame\":1,\"kind\":\"stamp_repeats\",\"stamp\":0,\"severity\":\"note\"}\n{\"packet\":2,\"frame\":2,\"kind\":\"stamp_repeats\",\"stamp\":0,\"severity\":\"note\"}\n{\"damage\":3,\"notes\":2}\nlines 3\n{\"packet\":1,\"frame\":1,\"kind\":\"refused\",\"cause\":\"ShortPacket\",\"lost\":1,\"severity\":\"damage\"}\n{\"packet\":1,\"frame\":1,\"kind\":\"stamp_repeats\",\"stamp\":0,\"severity\":\"note\"}\n{\"damage\":1,\"notes\":1}\nlines 2\n{\"packet\":2,\"frame\":2,\"kind\":\"stamp_repeats\",\"stamp\":0,\"severity\":\"note\"}\n{\"damage\":0,\"notes\":1}\nlines 1\n{\"damage\":0,\"notes\":0}\nrefused Place\nrefused Line\n",
+    frames: None,
+};
+
+#[test]
 fn origins_are_reported(rt: HostRuntime) -> Result<(), Fail> {
     expect_run(&rt, rt.alloc(), &ORIGINS)
 }

@@ -3,7 +3,7 @@
 # The requests that change something.
 EDITS = frozenset(("use", "insert", "replace", "delete", "move", "copy", "blank", "hold", "hide", "show", "script"))
 # The requests that are not edits, and the first word of their replies. The reply to an edit begins with `ok`.
-REPLIES = {"frame": "served", "count": "packets", "stats": "decoded", "packet": "packet", "list": "lines", "origins": "lines", "header": "lines", "macroblocks": "lines"}
+REPLIES = {"frame": "served", "count": "packets", "stats": "decoded", "packet": "packet", "list": "lines", "origins": "lines", "header": "lines", "macroblocks": "lines", "check": "lines"}
 # The edits after which the bytes that a packet had are nowhere in the session.
 LOSING = frozenset(("delete", "replace", "hide", "show"))
 
