@@ -24,8 +24,6 @@ answer_kept (Findings checking) tables bytes status w w' w'' answer kept = recor
   read = answer.read;
   tally = answer.tally;
   checked = record {
-    pace = answer.checked.pace;
-    paced = answer.checked.paced;
     written = Appends-kept _ _ _ _ answer.checked.written kept;
     counted = answer.checked.counted;
   };

@@ -16,8 +16,6 @@ returns-clause-checked g c =
       read = c.in-Ok.ensures;
       tally = c.in-Ok-check.tally;
       checked = record {
-        pace = checked.pace;
-        paced = checked.paced;
         written = Appends-kept _ _ _ _ checked.written c.in-Ok-flush.ensures.bytes;
         counted = checked.counted;
       };
