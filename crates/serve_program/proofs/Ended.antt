@@ -56,6 +56,10 @@ save_fault unsaved.Write fault is = inl is
 save_fault (unsaved.Sync error) fault is = inl is
 save_fault (unsaved.Rename error) fault is = inl is
 
+-- an error of a save, after the frames were exported
+pub save_fails : (end : SessionState) (fault : Fault) → IsSaveFault fault → IsSaveFault fault ⊎ IsExportFault end fault
+save_fails end fault why = inl why
+
 module _ (run : RunFiles) (line : Accepted) where
   module _ (left left' : Option (List ℕ)) (replies replies' : Option (List ℕ)) (Stopped : TableEntries → List (List ℕ) → Type 0) (Replied : SessionState → TableEntries → List (List ℕ) → Type 0) where
     -- a file was not read
@@ -81,7 +85,7 @@ module _ (run : RunFiles) (line : Accepted) where
       unreplied_ended stopped (CannotRead path) so why = absurd why
       unreplied_ended stopped (TooLong path) so why = absurd why
       unreplied_ended stopped Tables so why = absurd why
-      unreplied_ended stopped (Input source fault) so why = (tables, sources, over, why.0, why.1)
+      unreplied_ended stopped (Input source fault) so why = (tables, sources, over, why)
       unreplied_ended stopped (NotExported cause) so why = absurd why
       unreplied_ended stopped CannotWrite so (inl kept) = inl (inl kept)
       unreplied_ended stopped CannotWrite so (inr why) = so why

@@ -11,7 +11,7 @@ use Rattle.serve_program.proofs.live.answer_live.Goals as goal
 
 pub returns-in_err-files-clause-ended : goal.returns-in_err-files-clause-ended
 returns-in_err-files-clause-ended g c =
-    let run = run_files (g.R.NamedFiles.bytes_at c.args.rt.now) g.R.NamedFiles.Made.Write.contents (g.R.NamedFiles.is_made_at c.args.rt.now) (g.R.SavedFiles.is_saved_at c.args.rt.now) in
+    let run = run_files (g.R.NamedFiles.bytes_at c.args.rt.now) g.R.Made.Write.contents (g.R.NamedFiles.is_made_at c.args.rt.now) (g.R.SavedFiles.is_saved_at c.args.rt.now) in
     let why = files_ended run c.args.line.now (g.I.Read.remaining c.args.input.now) (g.O.Write.contents c.args.output.now) c.in_err-files.field-0.0 c.in_err-files.ensures.fault in
     search rules
 
@@ -24,5 +24,5 @@ pub returns-clause-ended : goal.returns-clause-ended
 returns-clause-ended g c =
     let i = g.I.Read.remaining in
     let o = g.O.Write.contents in
-    let run = run_files (g.R.NamedFiles.bytes_at c.args.rt.now) g.R.NamedFiles.Made.Write.contents (g.R.NamedFiles.is_made_at c.args.rt.now) (g.R.SavedFiles.is_saved_at c.args.rt.now) in
+    let run = run_files (g.R.NamedFiles.bytes_at c.args.rt.now) g.R.Made.Write.contents (g.R.NamedFiles.is_made_at c.args.rt.now) (g.R.SavedFiles.is_saved_at c.args.rt.now) in
     IfErr-weaker c.answer_files.result _ _ (λ fault why. live_ended run c.args.line.now (i c.args.input.now) (i c.answer_files.new.input) (o c.args.output.now) (o c.answer_files.new.output) fault c.in_ok-files.files.tables (map (λ bytes. bytes.items) c.in_ok-files.files.sources.items) c.in_ok-files.ensures.read why) c.answer_files.ensures.refused
