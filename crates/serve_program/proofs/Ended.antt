@@ -1,5 +1,6 @@
 -- Why the program exits, part by part.
-use Rattle.std.proofs.Common.{◌≡◌, ◌⊎◌, inl, inr, ℕ, List, Option, refl}
+use Rattle.std.proofs.Common.{◌≡◌, ◌⊎◌, inl, inr, ℕ, List, Option, Result, Ok, Err, refl, sym, subst}
+use Rattle.std.specs.Prelude.{IfErr, IfOk, IsErrAnd}
 use Rattle.std.specs.Io.KnownBytes.{Keeps}
 use Rattle.std.proofs.KnownBytes.{Keeps-refl}
 use Rattle.vp8_tables.specs.Tables.{TableEntries}
@@ -56,9 +57,15 @@ save_fault unsaved.Write fault is = inl is
 save_fault (unsaved.Sync error) fault is = inl is
 save_fault (unsaved.Rename error) fault is = inl is
 
--- an error of a save, after the frames were exported
-pub save_fails : (end : SessionState) (fault : Fault) → IsSaveFault fault → IsSaveFault fault ⊎ IsExportFault end fault
-save_fails end fault why = inl why
+-- what holds of the error that `?` returns
+pub returned : {T E : Type 0} (r : Result T E) (P : E → Type 0) (e : E) → IsErrAnd r (λ v. v ≡ e) → P e → IfErr r P
+returned (Ok x) P e is p = tt
+returned (Err v) P e is p = subst P (sym is) p
+
+-- of one result
+pub both_ok : {T E : Type 0} (r : Result T E) (P Q S : T → Type 0) → ((x : T) → P x → Q x → S x) → IfOk r P → IfOk r Q → IfOk r S
+both_ok (Ok x) P Q S so p q = so x p q
+both_ok (Err v) P Q S so p q = tt
 
 module _ (run : RunFiles) (line : Accepted) where
   module _ (left left' : Option (List ℕ)) (replies replies' : Option (List ℕ)) (Stopped : TableEntries → List (List ℕ) → Type 0) (Replied : SessionState → TableEntries → List (List ℕ) → Type 0) where

@@ -223,7 +223,6 @@ fn answer_files<'a, R: NamedFiles + SavedFiles + AllocGlobal, I: Read, O: Write,
 }
 
 /// Does what an accepted command line with `--live` asks for.
-#[tactic(auto, using(crate::proofs::Finished::live_served))]
 pub fn answer_live<'a, R: NamedFiles + SavedFiles + AllocGlobal, I: Read, O: Write, E: Write>(
     rt: &R,
     line: &Accepted<'a>,

@@ -202,7 +202,7 @@ pub fn finish<R: SavedFiles + AllocGlobal, E: Write>(
 }
 
 /// Exports the frames if that is asked for, then begins the saves and finishes them. Returns the session.
-#[tactic(auto, using(crate::proofs::Finished::all_saved, crate::proofs::Ended::save_fails))]
+#[tactic(auto, using(crate::proofs::Finished::all_saved))]
 fn finish_batch<R: SavedFiles + AllocGlobal, E: Write>(
     rt: &R,
     session: Session,
@@ -266,7 +266,7 @@ fn answer_inputs<R: NamedFiles + SavedFiles + AllocGlobal, O: Write, E: Write>(
 }
 
 /// Does what an accepted command line asks for.
-#[tactic(auto, using(crate::proofs::Ended::unread_ended, crate::proofs::Finished::served))]
+#[tactic(auto, using(crate::proofs::Ended::unread_ended))]
 fn answer<'a, R: NamedFiles + SavedFiles + AllocGlobal, I: Read, O: Write, E: Write>(
     rt: &R,
     line: &Accepted<'a>,

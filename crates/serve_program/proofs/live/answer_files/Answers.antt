@@ -2,6 +2,7 @@ use Rattle.std.proofs.Common.{◌≡◌, inl, ℕ, List, map, rules, subst}
 use Rattle.std.specs.Rc.{rc_slice_items}
 use Rattle.vp8_tables.specs.Tables.{TableEntries}
 use Rattle.serve_program.specs.Endings.{IsLiveRefused, run_files}
+use Rattle.serve_program.proofs.Ended.{returned}
 use Rattle.serve_program.proofs.LiveEnded.{live_unfinished}
 use Rattle.serve_program.proofs.live.answer_files.Goals as goal
 
@@ -23,5 +24,5 @@ returns-in_err-session-in-Ok-clause-refused g c =
     let r' = g.O.Write.contents c.run_requests-answered.new.replies in
     let run = run_files (g.R.NamedFiles.bytes_at c.args.rt.now) g.R.Made.Write.contents (g.R.NamedFiles.is_made_at c.args.rt.now) (g.R.SavedFiles.is_saved_at c.args.rt.now) in
     let sources : map rc_slice_items c.as_slice-2.result.now ≡ map (λ bytes. bytes.items) c.args.files.sources.items = search rules in
-    let why = live_unfinished run c.args.line.now i r r' c.args.files.tables c.in_ok-settings.settings.tables (map (λ bytes. bytes.items) c.args.files.sources.items) (map rc_slice_items c.as_slice-2.result.now) c.in-Ok.session.now c.in_err-session-in-Ok.field-0.0 c.in_ok-settings.ensures.tables sources c.in-Ok.ensures.replied c.in_err-session-in-Ok.ensures.fault in
-    search rules
+    returned c.from_residual-in_err-session-in-Ok.result _ c.in_err-session-in-Ok.field-0.0 c.from_residual-in_err-session-in-Ok.ensures.1
+    (live_unfinished run c.args.line.now i r r' c.args.files.tables c.in_ok-settings.settings.tables (map (λ bytes. bytes.items) c.args.files.sources.items) (map rc_slice_items c.as_slice-2.result.now) c.in-Ok.session.now c.in_err-session-in-Ok.field-0.0 c.in_ok-settings.ensures.tables sources c.in-Ok.ensures.replied c.in_err-session-in-Ok.ensures.fault)
