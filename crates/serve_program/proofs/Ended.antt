@@ -130,3 +130,17 @@ module _ (run : RunFiles) (line : Accepted) where
     pub finish_ended : (end : SessionState) (fault : Fault) → IsReplied (run.out line.words.frames.now) tables sources lines replies replies' end → IsSaveFault fault ⊎ IsExportFault end fault → IsEnded run line left left' replies replies' (AreStopped run line left replies replies') (AreReplied run line left replies replies') fault
     finish_ended end fault replied why =
         after_ended left left' replies replies' (AreStopped run line left replies replies') (AreReplied run line left replies replies') tables sources over end (lines, are, replied) fault why
+
+-- the same over tables, sources and requests that are equal to these
+module _ (run : RunFiles) (line : Accepted) (left left' r r' : Option (List ℕ)) (tables tables' : TableEntries) (sources sources' : List (List ℕ)) (lines lines' : List ℕ) (fault : Fault) (same : tables' ≡ tables) (same' : sources' ≡ sources) (same'' : lines' ≡ lines) (over : IsOver run line tables sources) (are : AreRequests run.contents line.words.requests.now left lines) where
+  pub run_ended_over : IsUnreplied sources' (IsStopped tables' sources' lines' r r') r r' fault → IsEnded run line left left' r r' (AreStopped run line left r r') (AreReplied run line left r r') fault
+  run_ended_over why =
+      let a = subst (λ (t : TableEntries). IsUnreplied sources' (IsStopped t sources' lines' r r') r r' fault) same why in
+      let b = subst (λ (s : List (List ℕ)). IsUnreplied s (IsStopped tables s lines' r r') r r' fault) same' a in
+      run_ended run line left left' r r' tables sources over lines are fault (subst (λ (l : List ℕ). IsUnreplied sources (IsStopped tables sources l r r') r r' fault) same'' b)
+
+  pub finish_ended_over : (end : SessionState) → IsReplied (run.out line.words.frames.now) tables' sources' lines' r r' end → IsSaveFault fault ⊎ IsExportFault end fault → IsEnded run line left left' r r' (AreStopped run line left r r') (AreReplied run line left r r') fault
+  finish_ended_over end replied why =
+      let a = subst (λ (t : TableEntries). IsReplied (run.out line.words.frames.now) t sources' lines' r r' end) same replied in
+      let b = subst (λ (s : List (List ℕ)). IsReplied (run.out line.words.frames.now) tables s lines' r r' end) same' a in
+      finish_ended run line left left' r r' tables sources over lines are end fault (subst (λ (l : List ℕ). IsReplied (run.out line.words.frames.now) tables sources l r r' end) same'' b) why
