@@ -1,5 +1,5 @@
 -- Answers whose writers are flushed after them, a file that gained the frames, and what is saved.
-use Rattle.std.proofs.Common.{◌≡◌, ◌≢◌, ◌≤◌, ◌⊎◌, ◌∙◌, inl, inr, ℕ, List, [], ◌++◌, Option, Some, None, Result, Ok, Err, Bool, true, false, refl, sym, ap, subst, arith, append-nil}
+use Rattle.std.proofs.Common.{◌≡◌, ◌≤◌, ◌⊎◌, ◌∙◌, inl, inr, ℕ, List, [], ◌++◌, Option, Some, None, Result, Ok, Err, Bool, true, false, refl, sym, ap, subst, arith, append-nil}
 use Rattle.std.proofs.lemmas.Bool.{false≢true}
 use Rattle.std.specs.Borrow.{Bor}
 use Rattle.std.specs.Prelude.{IfOk, IfSome, MatchBool, codes, is_some}
@@ -10,7 +10,6 @@ use Rattle.vp8_tables.specs.Tables.{TableEntries}
 use Rattle.frame_session.specs.Answers.{Means, frames_of, replies_of}
 use Rattle.frame_session.specs.Exported.{IsExportFile}
 use Rattle.frame_session.specs.Live.{LiveMeans}
-use Rattle.frame_session.specs.Noted.{LiveMeansNoted}
 use Rattle.frame_session.specs.Sessions.{SessionState}
 use Rattle.frame_session.specs.declared.export.Export.{Export}
 use Rattle.serve_arguments.specs.CachedStates.{AreStates}
@@ -25,7 +24,7 @@ use Rattle.serve_arguments.specs.declared.words.Words.{Words}
 use Rattle.serve_program.specs.Done.{IsDone, IsExitStatus, IsServedAs}
 use Rattle.serve_program.specs.Endings.{AreLiveReplied, AreReplied, Gained, IsLiveReplied, IsOut, IsOver, IsReplied, IsServed, OverSources, RunFiles, stream_in}
 use Rattle.serve_program.specs.Noted.{AreLiveNoted, AreNoted, IsLiveNoted, IsNoted, IsNotedAs}
-use Rattle.serve_program.specs.Saved.{ArePacketsSaved, AreFramesSaved, AreSaved, IsAfterExport, IsExportSaved, SavedAt, exported_text}
+use Rattle.serve_program.specs.Saved.{ArePacketsSaved, AreSaved, IsAfterExport, IsExportSaved, SavedAt, exported_text}
 use Rattle.serve_program.proofs.Flushed.{flushed, flushed_noted}
 
 appends_from : (a b c : Option (List ℕ)) (bs : List ℕ) → Keeps a b → Appends b c bs → Appends a c bs
