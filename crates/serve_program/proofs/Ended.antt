@@ -1,5 +1,6 @@
 -- Why the program exits, part by part.
-use Rattle.std.proofs.Common.{◌≡◌, ◌⊎◌, inl, inr, ℕ, List, Option, refl}
+use Rattle.std.proofs.Common.{◌≡◌, ◌⊎◌, inl, inr, ℕ, List, Option, Result, Ok, Err, sym, subst}
+use Rattle.std.specs.Prelude.{IfErr, IfOk, IsErrAnd}
 use Rattle.std.specs.Io.KnownBytes.{Keeps}
 use Rattle.std.proofs.KnownBytes.{Keeps-refl}
 use Rattle.vp8_tables.specs.Tables.{TableEntries}
@@ -56,6 +57,16 @@ save_fault unsaved.Write fault is = inl is
 save_fault (unsaved.Sync error) fault is = inl is
 save_fault (unsaved.Rename error) fault is = inl is
 
+-- what holds of the error that `?` returns
+pub returned : {T E : Type 0} (r : Result T E) (P : E → Type 0) (e : E) → IsErrAnd r (λ v. v ≡ e) → P e → IfErr r P
+returned (Ok x) P e is p = tt
+returned (Err v) P e is p = subst P (sym is) p
+
+-- of one result
+pub both_ok : {T E : Type 0} (r : Result T E) (P Q S : T → Type 0) → ((x : T) → P x → Q x → S x) → IfOk r P → IfOk r Q → IfOk r S
+both_ok (Ok x) P Q S so p q = so x p q
+both_ok (Err v) P Q S so p q = tt
+
 module _ (run : RunFiles) (line : Accepted) where
   module _ (left left' : Option (List ℕ)) (replies replies' : Option (List ℕ)) (Stopped : TableEntries → List (List ℕ) → Type 0) (Replied : SessionState → TableEntries → List (List ℕ) → Type 0) where
     -- a file was not read
@@ -81,7 +92,7 @@ module _ (run : RunFiles) (line : Accepted) where
       unreplied_ended stopped (CannotRead path) so why = absurd why
       unreplied_ended stopped (TooLong path) so why = absurd why
       unreplied_ended stopped Tables so why = absurd why
-      unreplied_ended stopped (Input source fault) so why = (tables, sources, over, why.0, why.1)
+      unreplied_ended stopped (Input source fault) so why = (tables, sources, over, why)
       unreplied_ended stopped (NotExported cause) so why = absurd why
       unreplied_ended stopped CannotWrite so (inl kept) = inl (inl kept)
       unreplied_ended stopped CannotWrite so (inr why) = so why
@@ -119,3 +130,17 @@ module _ (run : RunFiles) (line : Accepted) where
     pub finish_ended : (end : SessionState) (fault : Fault) → IsReplied (run.out line.words.frames.now) tables sources lines replies replies' end → IsSaveFault fault ⊎ IsExportFault end fault → IsEnded run line left left' replies replies' (AreStopped run line left replies replies') (AreReplied run line left replies replies') fault
     finish_ended end fault replied why =
         after_ended left left' replies replies' (AreStopped run line left replies replies') (AreReplied run line left replies replies') tables sources over end (lines, are, replied) fault why
+
+-- the same over tables, sources and requests that are equal to these
+module _ (run : RunFiles) (line : Accepted) (left left' r r' : Option (List ℕ)) (tables tables' : TableEntries) (sources sources' : List (List ℕ)) (lines lines' : List ℕ) (fault : Fault) (same : tables' ≡ tables) (same' : sources' ≡ sources) (same'' : lines' ≡ lines) (over : IsOver run line tables sources) (are : AreRequests run.contents line.words.requests.now left lines) where
+  pub run_ended_over : IsUnreplied sources' (IsStopped tables' sources' lines' r r') r r' fault → IsEnded run line left left' r r' (AreStopped run line left r r') (AreReplied run line left r r') fault
+  run_ended_over why =
+      let a = subst (λ (t : TableEntries). IsUnreplied sources' (IsStopped t sources' lines' r r') r r' fault) same why in
+      let b = subst (λ (s : List (List ℕ)). IsUnreplied s (IsStopped tables s lines' r r') r r' fault) same' a in
+      run_ended run line left left' r r' tables sources over lines are fault (subst (λ (l : List ℕ). IsUnreplied sources (IsStopped tables sources l r r') r r' fault) same'' b)
+
+  pub finish_ended_over : (end : SessionState) → IsReplied (run.out line.words.frames.now) tables' sources' lines' r r' end → IsSaveFault fault ⊎ IsExportFault end fault → IsEnded run line left left' r r' (AreStopped run line left r r') (AreReplied run line left r r') fault
+  finish_ended_over end replied why =
+      let a = subst (λ (t : TableEntries). IsReplied (run.out line.words.frames.now) t sources' lines' r r' end) same replied in
+      let b = subst (λ (s : List (List ℕ)). IsReplied (run.out line.words.frames.now) tables s lines' r r' end) same' a in
+      finish_ended run line left left' r r' tables sources over lines are end fault (subst (λ (l : List ℕ). IsReplied (run.out line.words.frames.now) tables sources l r r' end) same'' b) why

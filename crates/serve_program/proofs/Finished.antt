@@ -1,5 +1,5 @@
 -- Answers whose writers are flushed after them, a file that gained the frames, and what is saved.
-use Rattle.std.proofs.Common.{◌≡◌, ◌≢◌, ◌≤◌, ◌⊎◌, ◌∙◌, inl, inr, ℕ, List, [], ◌++◌, Option, Some, None, Result, Ok, Err, Bool, true, false, refl, sym, ap, subst, arith, append-nil}
+use Rattle.std.proofs.Common.{◌≡◌, ◌≤◌, ◌⊎◌, ◌∙◌, inl, inr, ℕ, List, [], ◌++◌, Option, Some, None, Result, Ok, Err, Bool, true, false, refl, sym, ap, subst, arith, append-nil}
 use Rattle.std.proofs.lemmas.Bool.{false≢true}
 use Rattle.std.specs.Borrow.{Bor}
 use Rattle.std.specs.Prelude.{IfOk, IfSome, MatchBool, codes, is_some}
@@ -10,7 +10,6 @@ use Rattle.vp8_tables.specs.Tables.{TableEntries}
 use Rattle.frame_session.specs.Answers.{Means, frames_of, replies_of}
 use Rattle.frame_session.specs.Exported.{IsExportFile}
 use Rattle.frame_session.specs.Live.{LiveMeans}
-use Rattle.frame_session.specs.Noted.{LiveMeansNoted}
 use Rattle.frame_session.specs.Cached.{Capacity as Cached}
 use Rattle.frame_session.specs.Sessions.{SessionState}
 use Rattle.frame_session.specs.declared.export.Export.{Export}
@@ -23,9 +22,9 @@ use Rattle.serve_arguments.specs.declared.fault.Fault.TheVariants.{CommandLine, 
 use Rattle.serve_arguments.specs.declared.words.Accepted.{Accepted}
 use Rattle.serve_arguments.specs.declared.words.Words.{Words}
 use Rattle.serve_program.specs.Done.{IsDone, IsExitStatus, IsServedAs}
-use Rattle.serve_program.specs.Endings.{AreLiveReplied, AreReplied, Gained, IsLiveReplied, IsOut, IsReplied, IsServed, OverSources, RunFiles}
+use Rattle.serve_program.specs.Endings.{AreLiveReplied, AreReplied, Gained, IsLiveReplied, IsOut, IsOver, IsReplied, IsServed, OverSources, RunFiles, cached_by}
 use Rattle.serve_program.specs.Noted.{AreLiveNoted, AreNoted, IsLiveNoted, IsNoted, IsNotedAs}
-use Rattle.serve_program.specs.Saved.{ArePacketsSaved, AreFramesSaved, AreSaved, IsAfterExport, IsExportSaved, SavedAt, exported_text}
+use Rattle.serve_program.specs.Saved.{ArePacketsSaved, AreSaved, IsAfterExport, IsExportSaved, SavedAt, exported_text}
 use Rattle.serve_program.proofs.Flushed.{flushed, flushed_noted}
 
 appends_from : (a b c : Option (List ℕ)) (bs : List ℕ) → Keeps a b → Appends b c bs → Appends a c bs
@@ -58,7 +57,7 @@ means_around tables sources requests f f' f'' f''' r r' end before m after = rec
   };
 }
 
-live_around : (tables : TableEntries) (sources : List (List ℕ)) (left left' f f' f'' f''' r r' r'' : Option (List ℕ)) (end : SessionState) → Keeps f f' → LiveMeans tables sources left left' f' f'' r r' end → Keeps f'' f''' → Keeps r' r'' → LiveMeans tables sources left left' f f''' r r'' end
+abbrev live_around : (tables : TableEntries) (sources : List (List ℕ)) (left left' f f' f'' f''' r r' r'' : Option (List ℕ)) (end : SessionState) → Keeps f f' → LiveMeans tables sources left left' f' f'' r r' end → Keeps f'' f''' → Keeps r' r'' → LiveMeans tables sources left left' f f''' r r'' end
 live_around tables sources left left' f f' f'' f''' r r' r'' end before m after kept = record {
   text = m.text;
   taken = m.taken;
@@ -186,6 +185,13 @@ module _ (run : RunFiles) (line : Accepted) (cached : Cached) (new : SessionStat
       noted = subst (λ (b : Bool). IsNotedAs run line left r r'' b seen') fresh (noted_as_kept run line left r r' r'' seen seen' kept line.words.is_live noted);
     }
 
+module _ (run : RunFiles) (line : Accepted) (left r r' : Option (List ℕ)) (tables : TableEntries) (sources : List (List ℕ)) (end new : SessionState) (cached : Cached) (over : IsOver run line tables sources) where
+  pub served : AreReplied run line left r r' end tables sources → AreSaved run.saved line.words end new → cached ≡ cached_by line.capacity → IsServed run line cached (AreReplied run line left r r') new
+  served replied saved is = record { tables = tables; sources = sources; over = over; end = end; replied = replied; saved = saved; cached_is = is }
+
+  pub live_served : AreLiveReplied run line left r r' end tables sources → AreSaved run.saved line.words end new → cached ≡ cached_by line.capacity → IsServed run line cached (AreLiveReplied run line left r r') new
+  live_served replied saved is = record { tables = tables; sources = sources; over = over; end = end; replied = replied; saved = saved; cached_is = is }
+
 -- ---- what is saved
 
 frames_saved : (saved : SavedAt) (pads : Bool) (end : SessionState) (exported : Option (Bor (List ℕ))) (export : Option Export) → is_some export ≡ is_some exported → IfSome export (IsExportFile end) → IfSome export (λ export. IfSome exported (λ path. saved path.now (exported_text pads export))) → IfSome exported (λ path. (export : Export) × IsExportFile end export × saved path.now (exported_text pads export))
@@ -219,5 +225,5 @@ no_error fault status is (inr e) = let range = status_range fault in omega (arit
 
 -- a status of 0 or 3 is not an error's
 pub exits : (run : RunFiles) (parsed : Result Words Error) (is_named : Bool) (left r r' : Option (List ℕ)) (answer : Result ℕ Fault) (status : ℕ) → status ≡ exit_status status_of answer → (status ≡ 0) ⊎ (status ≡ 3) → IfOk answer (IsExitStatus run parsed is_named left r r') → IsExitStatus run parsed is_named left r r' status
-exits run parsed is_named left r r' (Ok n) status is either done = subst (IsExitStatus run parsed is_named left r r') (sym is) done
-exits run parsed is_named left r r' (Err fault) status is either done = absurd (no_error fault status is either)
+exits run parsed is_named left r r' (Ok n) status is either exit = subst (IsExitStatus run parsed is_named left r r') (sym is) exit
+exits run parsed is_named left r r' (Err fault) status is either exit = absurd (no_error fault status is either)

@@ -1,5 +1,5 @@
 -- Why the program exits with requests that are answered as they come.
-use Rattle.std.proofs.Common.{◌≡◌, ◌⊎◌, inl, inr, ℕ, List, Option, None, refl, sym}
+use Rattle.std.proofs.Common.{◌≡◌, ◌⊎◌, inl, inr, ℕ, List, Option, None, refl, subst, sym}
 use Rattle.std.specs.Borrow.{Bor}
 use Rattle.std.specs.Io.KnownBytes.{Keeps}
 use Rattle.std.proofs.KnownBytes.{Keeps-refl}
@@ -64,6 +64,12 @@ module _ (run : RunFiles) (line : Accepted) where
   pub files_ended : (left replies : Option (List ℕ)) (fault : FileFault) → ((left : Option (List ℕ)) → IsInputFault run.contents (tables_name line) (source_names line) line.words.requests.now left left fault) → IsLiveEnded run line left left replies replies (file_fault fault)
   files_ended left replies fault why =
       inl (unread_ended run line left left replies replies (AreLiveStopped run line left replies replies) (AreLiveReplied run line left replies replies) fault refl (Keeps-refl replies) (why left))
+
+  -- all lines were answered, and the packets were not saved, or the frames not exported
+  pub live_unfinished : (left replies replies' : Option (List ℕ)) (tables tables' : TableEntries) (sources sources' : List (List ℕ)) (end : SessionState) (fault : Fault) → tables' ≡ tables → sources' ≡ sources → AreLiveReplied run line left replies replies' end tables' sources' → IsSaveFault fault ⊎ IsExportFault end fault
+      → IsLiveRefused run line tables sources left replies replies' fault ⊎ (IsSaveFault fault × Keeps replies replies') ⊎ ((end : SessionState) × AreLiveReplied run line left replies replies' end tables sources × (IsSaveFault fault ⊎ IsExportFault end fault))
+  live_unfinished left replies replies' tables tables' sources sources' end fault same same' replied why =
+      inr (inr (end, subst (λ (s : List (List ℕ)). AreLiveReplied run line left replies replies' end tables s) same' (subst (λ (t : TableEntries). AreLiveReplied run line left replies replies' end t sources') same replied), why))
 
   module _ (left left' replies replies' : Option (List ℕ)) where
     unopened_ended : (fault : Fault) → IsUnopened run line replies replies' fault → IsEnded run line left left' replies replies' (AreLiveStopped run line left replies replies') (AreLiveReplied run line left replies replies') fault

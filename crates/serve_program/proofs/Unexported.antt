@@ -1,14 +1,12 @@
 -- Why nothing is exported.
-use Rattle.std.proofs.Common.{◌≡◌, ◌<◌, ◌≤◌, ℕ, Bool, false, true, inl, inr, refl, sym, subst, arith}
+use Rattle.std.proofs.Common.{◌≡◌, ◌<◌, ◌≤◌, ℕ, Bool, true, inl, inr, refl, sym, subst, arith}
 use Rattle.frame_session.specs.ExportSizes.{saved_bytes}
 use Rattle.frame_session.specs.Exported.{IsExportFile, IsNotExported}
 use Rattle.frame_session.specs.declared.export.Export.{Export}
 use Rattle.frame_session.specs.Sessions.{SessionState}
-use Rattle.frame_session.specs.declared.refusal.Refusal.{Refusal}
 use Rattle.frame_session.specs.declared.refusal.Refusal.TheVariants as refusals
 use Rattle.frame_session.specs.declared.session.exports.ExportFault.{ExportFault}
 use Rattle.frame_session.specs.declared.session.exports.ExportFault.TheVariants as exports
-use Rattle.lossless_cuts.specs.declared.faults.CutFault.{CutFault}
 use Rattle.lossless_cuts.specs.declared.faults.CutFault.TheVariants as cuts
 use Rattle.serve_arguments.specs.declared.exports.NotExported.TheVariants as unexported
 use Rattle.serve_arguments.specs.declared.fault.Fault.{Fault}

@@ -1,5 +1,5 @@
 -- What is saved after a run: the packets of source 0, and the frames as they were exported.
-use Rattle.std.specs.Prelude.{◌≡◌, ◌≤◌, Bool, false, ℕ, List, map, Option, IfSome, is_some, if◌then◌else◌}
+use Rattle.std.specs.Prelude.{◌≡◌, ◌≤◌, Bool, false, ℕ, List, map, IfSome, is_some, if◌then◌else◌}
 use Rattle.stream_files.specs.Texts.{written_text}
 use Rattle.stream_files.specs.declared.ivf.Head.{Head}
 use Rattle.stream_files.specs.declared.packets.Packet.{Packet}

@@ -71,7 +71,9 @@ fn run_to_path<R: NamedFiles + AllocGlobal, I: BufRead, P: Write, E: Write>(
     );
     match answered {
         Ok(session) => {
-            flush_buffer(&mut frames).map_err(|_| LiveFault::Write)?;
+            if flush_buffer(&mut frames).is_err() {
+                return Err(LiveFault::Write);
+            }
             Ok(session)
         }
         Err(fault) => {
@@ -111,7 +113,7 @@ fn run_over<R: NamedFiles + AllocGlobal, I: Read, P: Write, E: Write>(
 }
 
 /// Answers the request lines as they come: those of `input` if no file is given.
-#[tactic(auto, using(crate::proofs::LiveEnded::requests_refused))]
+#[tactic(auto, using(crate::proofs::LiveEnded::unopened))]
 fn run_requests<'a, R: NamedFiles + SavedFiles + AllocGlobal, I: Read, P: Write, E: Write>(
     rt: &R,
     line: &Accepted<'a>,
@@ -136,7 +138,10 @@ fn run_requests<'a, R: NamedFiles + SavedFiles + AllocGlobal, I: Read, P: Write,
             Err(fault) => Err(live_fault(fault, path)),
         };
     }
-    let mut file = rt.open_named(path).map_err(|_| Fault::CannotRead(path))?;
+    let mut file = match rt.open_named(path) {
+        Ok(file) => file,
+        Err(_) => return Err(Fault::CannotRead(path)),
+    };
     match run_over(rt, settings, sources, &mut file, frames, replies, messages) {
         Ok(session) => Ok(session),
         Err(fault) => Err(live_fault(fault, path)),

@@ -227,7 +227,7 @@ pub struct Served {
 }
 
 /// Answers the requests over what was read, exports the frames and saves the packets of source 0 if that is asked for.
-#[tactic(auto, using(crate::proofs::Ended::run_ended, crate::proofs::Ended::memory_ended, crate::proofs::Ended::finish_ended))]
+#[tactic(auto, using(crate::proofs::Ended::memory_ended))]
 fn answer_inputs<R: NamedFiles + SavedFiles + AllocGlobal, O: Write, E: Write>(
     rt: &R,
     line: &Accepted<'_>,
@@ -265,7 +265,6 @@ fn answer_inputs<R: NamedFiles + SavedFiles + AllocGlobal, O: Write, E: Write>(
 }
 
 /// Does what an accepted command line asks for.
-#[tactic(auto, using(crate::proofs::Ended::unread_ended))]
 fn answer<'a, R: NamedFiles + SavedFiles + AllocGlobal, I: Read, O: Write, E: Write>(
     rt: &R,
     line: &Accepted<'a>,
@@ -304,7 +303,6 @@ fn answer_accepted<'a, R: NamedFiles + SavedFiles + AllocGlobal, I: Read, O: Wri
 }
 
 /// Does what the values of a command line ask for, and flushes the replies. Returns whether a request for a frame was refused.
-#[tactic(auto, using(crate::proofs::Finished::done))]
 fn answer_words<'a, R: NamedFiles + SavedFiles + AllocGlobal, I: Read, O: Write + Drop, E: Write>(
     rt: &R,
     words: Words<'a>,

@@ -1,4 +1,4 @@
-use Rattle.std.proofs.Common.{◌≡◌, map, take}
+use Rattle.std.proofs.Common.{◌≡◌, map}
 use Rattle.std.specs.Rc.{rc_slice_items}
 use Rattle.serve_program.proofs.runs.shared.Given as goal
 
