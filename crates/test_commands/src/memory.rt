@@ -11,12 +11,14 @@ use std::alloc::{AllocError, Allocator, Global};
 use std::cell::Cell;
 use std::fs::{Metadata, OpenOptions};
 use std::io::{self, BufWriter, ErrorKind, Write};
+use std::process::Abort;
 use std::rt::Files;
 use std::test::Fail;
 use stream_files::ReadFault;
 use vp8_tables::Tables;
 
 /// Two files, `a.ivf` and `b.ivf`. Of the file that is made, and of the one that is saved, the sum of the bytes is noted.
+#[derive(Drop)]
 struct Memory<'a> {
     host: &'a HostRuntime,
     a: &'static [u8],
@@ -188,8 +190,8 @@ impl Files for Memory<'_> {
 }
 
 /// Runs the program over files in memory, and checks its replies, its messages and its exit status.
-fn expect_in(
-    rt: &HostRuntime,
+fn expect_in<R: Abort + AllocGlobal>(
+    rt: &R,
     files: &Memory<'_>,
     line: &str,
     requests: &str,
@@ -225,7 +227,13 @@ fn expect_in(
 }
 
 /// Checks which frame a source has: the sum of the file for the frames.
-fn expect_frame(rt: &HostRuntime, files: &Memory<'_>, line: &str, requests: &str, want: &[u8]) {
+fn expect_frame<R: Abort + AllocGlobal>(
+    rt: &R,
+    files: &Memory<'_>,
+    line: &str,
+    requests: &str,
+    want: &[u8],
+) {
     expect_in(rt, files, line, requests, "ok 0\nserved 0\n", "");
     assert!(rt; files.made.get() == sum_of(want), "frames of {line}");
 }
