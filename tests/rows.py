@@ -7,6 +7,7 @@ A file of rows/ has these lines, in this order:
     cut: 3                              the last bytes of the file that are left out
     tables: 80                          the long tables have this byte throughout
     options: --cache 8                  more words of the command line
+    needs: check FIRST COUNT            a text of --help: a vp8serve without it, an earlier one, is not run on the row
     > frame 0                           a request
     < served 0                          its reply
     = 16x16 64*80 192*81 128*80         the frame: its size, and the bytes of Y, U and V, each as often as is said
@@ -34,6 +35,7 @@ class Row:
     sources: list = field(default_factory=list)
     cut: int = 0
     tables: str = ""
+    needs: str = ""
     exported: str = ""
     options: list = field(default_factory=list)
     requests: list = field(default_factory=list)
@@ -51,7 +53,7 @@ def read(path):
             row.sources.append([bytes.fromhex(text.replace("-", "")) for text in rest.split("|")] if rest.strip() else [])
         elif mark in ("cut:", "status:"):
             setattr(row, mark[:-1], int(rest))
-        elif mark in ("tables:", "exported:"):
+        elif mark in ("tables:", "exported:", "needs:"):
             setattr(row, mark[:-1], rest)
         elif mark == "options:":
             row.options = rest.split()

@@ -26,6 +26,8 @@ CRATES = TOP / "crates"
 CLIENT = TOP / "clients/python/tests"
 SERVE, LIST = (os.environ.get(name, "") for name in ("VP8SERVE", "VP8LIST"))
 LIMIT = 900
+# Tests of what the version in dist/ may not have yet, by a text of the help that has it.
+LATER = {"tests/test_questions.py": "check FIRST COUNT", "tests/test_long_lines.py": "--fail-refused"}
 
 
 class Skipped(Exception):
@@ -127,9 +129,27 @@ def checks():
     return wrong, []
 
 
+def need(text):
+    """Skips the test if the help of vp8serve has not this text: it is an earlier version."""
+    if text not in ran([SERVE, "--help"], limit=60)[1].decode():
+        raise Skipped(f"this vp8serve is an earlier one, without {text}")
+
+
+def later(text, path):
+    """A test that is a script of its own, of a vp8serve whose help has this text."""
+
+    def test():
+        need(text)
+        return script(path)()
+
+    return test
+
+
 def row(path):
     def test():
         read, wrong = rows.read(path), []
+        if read.needs:
+            need(read.needs)
         for name, is_live in (("batch", False), ("--live", True)):
             with tempfile.TemporaryDirectory() as folder:
                 wrong += [f"{name}: {line}" for line in rows.differences(read, SERVE, pathlib.Path(folder), is_live)]
@@ -171,6 +191,7 @@ def all_tests():
     found = {f"clients/python/tests/{name}.py": script("clients/python/tests/run.py", name, WOKURETI_ENGINE="program") for name in names}
     found |= {f"clients/python/tests/{name}.py, by the library": by_the_library(name) for name in names}
     found |= {f"tests/{path.name}": script(f"tests/{path.name}") for path in sorted(HERE.glob("test_*.py"))}
+    found |= {path: later(text, path) for path, text in LATER.items()}
     found |= {name: script(name) for name in ("conformance/records.py", "compare/options.py", "conformance/check")}
     found["compare/definitions.py"] = script("compare/definitions.py", "--quiet")
     found["compare/first_command.py"] = script("compare/first_command.py", "--quiet")

@@ -170,7 +170,9 @@ class Engine:
             total += len(file)
             ends[place] = total
         fault = Fault()
-        opens, most = (library.wk_open, states) if most_bytes is None else (library.wk_open_bytes, most_bytes)
+        # An earlier library has no limit in bytes: few states then.
+        has_limit = most_bytes is not None and hasattr(library, "wk_open_bytes")
+        opens, most = (library.wk_open_bytes, most_bytes) if has_limit else (library.wk_open, states or CACHE)
         status = opens(self.handle, b"".join(files), total, ends, len(files), most, tables, len(tables), ctypes.byref(fault))
         self.trouble = None if status == OK else (status, fault.source, fault.cause)
 
