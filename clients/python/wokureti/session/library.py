@@ -160,7 +160,7 @@ def load(path=None):
 class Engine:
     """A session of the library. All its calls are made on one thread."""
 
-    def __init__(self, library, files, states, most_bytes, tables, explains):
+    def __init__(self, library, files, states, tables, explains, most_bytes=None):
         self.library, self.explains, self.reasons = library, explains, []
         self.handle = (ctypes.c_void_p * 1)()
         self.shown, self.length = Shown(), ctypes.c_size_t()
@@ -297,7 +297,7 @@ class Library:
         start_worker(self.asked)
         self.engine, self.is_over, self.save, self.pad = None, False, save, pad
         self.finalizer = weakref.finalize(self, self.asked.put, None)
-        self.engine = self.call(lambda: Engine(library, files, states, most_bytes, tables, explains))
+        self.engine = self.call(lambda: Engine(library, files, states, tables, explains, most_bytes))
         if self.engine.trouble:
             status, source, cause = self.engine.trouble
             self.finalizer()
