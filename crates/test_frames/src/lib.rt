@@ -17,8 +17,6 @@ mod frames;
 #[cfg(test)]
 mod inter;
 #[cfg(test)]
-mod limits;
-#[cfg(test)]
 mod modes;
 #[cfg(test)]
 mod residuals;
