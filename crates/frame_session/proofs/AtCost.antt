@@ -33,7 +33,7 @@ on_ok_anyway : {A E P : Type 0} (w : Result A E) → P → OnOk w P
 on_ok_anyway (Ok _) p = p
 on_ok_anyway (Err _) p = tt
 
--- what is returned for a line is told of its answer: a line that is not a request for a frame has nothing to tell
+-- what is returned for a line reports the refusal of its answer: a line that is not a request for a frame has none
 abbrev pub IsTold : {E : Type 0} → Result (Option Refusal) E → Line → Answer → Type 0
 IsTold w line answer = IfOk w (λ refusal. refuses_frame line answer ≡ (is_frame line && is_some refusal))
 

@@ -35,10 +35,10 @@ noted_append old new ls ls' xs ys seen seen' seen'' ran before after =
 
 -- one line
 pub noted_line : (line : Line) (answer : Answer) (asks : Bool) (refusal : Option Refusal) (seen seen' : Bool) → asks ≡ is_frame line → refuses_frame line answer ≡ (is_frame line && is_some refusal) → Notes seen seen' asks refusal → seen' ≡ (seen || refuses_some (line ∷ []) (answer ∷ []))
-noted_line line answer asks refusal seen seen' is told notes =
+noted_line line answer asks refusal seen seen' is reported notes =
     notes
     ∙ ap (λ (b : Bool). seen || b && is_some refusal) is
-    ∙ ap (λ (b : Bool). seen || b) (sym told ∙ sym (or_false (refuses_frame line answer)))
+    ∙ ap (λ (b : Bool). seen || b) (sym reported ∙ sym (or_false (refuses_frame line answer)))
 
 -- if no line is left, all are done
 pub all_noted : (old new : SessionState) (done : List Line) (left : List (List ℕ)) (all : List Line) (f f' r r' : Option (List ℕ)) (seen seen' : Bool) → left ≡ [] → done ++ map asked_by left ≡ all → (ran : WritesAnswers old done f f' r r' new) → seen' ≡ (seen || refuses_some done ran.answers) → RunsNoted old all f f' r r' new seen seen'

@@ -32,7 +32,7 @@ LineCosts old (requests.Frame n) answer new =
 LineCosts old (requests.Edit edit) answer new = (edited : Result ℕ Refusal) × (answer ≡ reply_only (edit_line edited)) × EditCosts edit edited old new
 LineCosts old line answer new = LeavesCache old new
 
--- a line was answered, and cost what it has to; unless a writer failed, the writers gained the answer, and for a frame the result is a refusal exactly if
+-- a line was answered at its cost; unless a writer failed, the writers gained the answer, and for a frame the result is a refusal exactly if
 -- the reply is one
 pub record AnswersAtCost {E : Type 0} (old : SessionValue) (line : Line) (frames frames' replies replies' : Option (List ℕ)) (result : Result (Option Refusal) E) (new : SessionValue) : Type 0 where
   pub answer : Answer
@@ -50,17 +50,17 @@ RunCosts old (line ∷ lines) (answer ∷ answers) new =
 RunCosts old [] (answer ∷ answers) new = ⊥
 RunCosts old (line ∷ lines) [] new = ⊥
 
--- lines were answered, the writers gained the answers, and each line cost what it has to
+-- lines were answered, each at its cost, and the writers gained the answers
 pub record RunsAtCost (old : SessionValue) (lines : List Line) (frames frames' replies replies' : Option (List ℕ)) (new : SessionValue) : Type 0 where
   pub runs : WritesAnswers old.now lines frames frames' replies replies' new.now
   pub costs : RunCosts old lines runs.answers new
 
--- the requests of this text were answered over the files of these bytes, and each line cost what it has to
+-- the requests of this text were answered over the files of these bytes, each at its cost
 pub record MeansAtCost (tables : Tables) (capacity : Capacity) (sources : List (List ℕ)) (requests : List ℕ) (frames frames' replies replies' : Option (List ℕ)) (end : SessionValue) : Type 0 where
   pub means : Means tables sources requests frames frames' replies replies' end.now
   pub costs : RunCosts (begun tables capacity means.files) (requests_of requests) means.runs.answers end
 
--- the lines that the reader gave were answered, and each cost what it has to
+-- the lines that the reader gave were answered, each at its cost
 pub record LiveMeansAtCost (tables : Tables) (capacity : Capacity) (sources : List (List ℕ)) (left left' frames frames' replies replies' : Option (List ℕ)) (end : SessionValue) : Type 0 where
   pub means : LiveMeans tables sources left left' frames frames' replies replies' end.now
   pub costs : RunCosts (begun tables capacity means.files) means.answers.requests means.answers.runs.answers end

@@ -42,7 +42,7 @@ abbrev pub MayFollow : Bool → (left left' : Option (List ℕ)) → List ℕ �
 MayFollow true left left' text = IsEmptyOrEndsWith text 10
 MayFollow false left left' text = OnSome left (IsAtEnd left')
 
--- a text of at least this many lines was read, its lines were answered, each cost what it has to, and the observer has seen whether a request for a
+-- a text of at least this many lines was read, its lines were answered, each at its cost, and the observer has seen whether a request for a
 -- frame was refused
 pub record RunsText (least : ℕ) (old new : SessionValue) (left left' frames frames' replies replies' : Option (List ℕ)) (more : Bool) (seen seen' : Bool) : Type 0 where
   pub text : List ℕ

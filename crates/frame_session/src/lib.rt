@@ -17,7 +17,7 @@ mod settings;
 mod size;
 
 pub use export::Export;
-pub use live::{LiveFault, run_live, run_live_over};
+pub use live::{LiveFault, run_live_over};
 pub use lossless_cuts::CutFault;
 pub use observer::{Observer, Unobserved};
 pub use refusal::Refusal;

@@ -2,14 +2,13 @@
 ghost use Rattle.std.specs.Prelude.{◌≡◌, ◌≤◌, ◌+◌, ◌++◌, ℕ, List, [], IfOk, IfErr, OnOk, false, if◌then◌else◌, length, map};
 ghost use Rattle.std.specs.Io.KnownBytes.{Consumes};
 ghost use Rattle.std.specs.Str.Lines.{strip_carriage_return};
-ghost use Rattle.frame_session.specs.Answers.{texts_of};
 ghost use Rattle.frame_session.specs.LineCosts.{LiveMeansAtCost};
 ghost use Rattle.frame_session.specs.Live.{IsAsked, LiveEnds, LiveMeans, LiveStops, live_fault_by, longest_line};
 ghost use Rattle.frame_session.specs.Noted.{LiveMeansNoted};
 ghost use Rattle.frame_session.specs.LiveSteps.{IsRead, IsShort, ReadsLine, ReadsPart, RunsText};
 ghost use Rattle.frame_session.specs.Replies.{live_fault_word};
 
-use crate::observer::{Observer, Unobserved};
+use crate::observer::Observer;
 use crate::serving::{Flushing, RunFault, is_frame, read_sources, serve_line};
 use crate::session::Session;
 use crate::settings::Settings;
@@ -252,8 +251,18 @@ fn serve_live<I: BufRead, F: Write, P: Write, V: Observer>(
     Err(LiveFault::Endless)
 }
 
-/// Runs requests as `run_live` does, over bytes that are borrowed or shared, and calls an observer after the reply to each line is
-/// written and flushed. The packets of shared bytes are not copied.
+/// Runs requests over IVF files, 1 to 8, as `run_over` does, but answers each line of `input` when its newline is read:
+/// its frame is written and flushed, then its reply is written and flushed, the observer is called, and only then the next line is read.
+///
+/// The last line may be unterminated. A line has at most 1,073,741,824 bytes, its newline not counted. The memory
+/// is that of the session and of one line, however many lines there are. A line for which there is no memory is refused as
+/// NoMemory, its bytes are dropped, and the next line is answered.
+///
+/// `LiveFault::Ivf` with the first source whose bytes are not an IVF file, or for whose packets there is no
+/// memory, and `LiveFault::NoMemory` if out of memory for the session: nothing is read or written then. `LiveFault::Read` if the
+/// reader fails, `LiveFault::TooLong` if a line is too long, and `LiveFault::Endless` after 2^64 - 1 lines: the lines
+/// before that were answered. `LiveFault::Write` if a writer fails: nothing was read after the line whose answer could not be
+/// written.
 pub fn run_live_over<B: FileBytes, I: BufRead, F: Write, P: Write, V: Observer>(
     alloc: Global,
     settings: Settings,
@@ -279,42 +288,4 @@ pub fn run_live_over<B: FileBytes, I: BufRead, F: Write, P: Write, V: Observer>(
     };
     serve_live(alloc, &mut session, input, frames, replies, observer)?;
     Ok(session)
-}
-
-/// Runs requests over IVF files, 1 to 8, as `run` does, but answers each line of `input` when its newline is read:
-/// its frame is written and flushed, then its reply is written and flushed, and only then the next line is read.
-///
-/// The last line may be unterminated. A line has at most 1,073,741,824 bytes, its newline not counted. The memory
-/// is that of the session and of one line, however many lines there are. A line for which there is no memory is refused as
-/// NoMemory, its bytes are dropped, and the next line is answered.
-///
-/// `LiveFault::Ivf` with the first source whose bytes are not an IVF file, or for whose packets there is no
-/// memory, and `LiveFault::NoMemory` if out of memory for the session: nothing is read or written then. `LiveFault::Read` if the
-/// reader fails, `LiveFault::TooLong` if a line is too long, and `LiveFault::Endless` after 2^64 - 1 lines: the lines
-/// before that were answered. `LiveFault::Write` if a writer fails: nothing was read after the line whose answer could not be
-/// written.
-pub fn run_live<I: BufRead, F: Write, P: Write>(
-    alloc: Global,
-    settings: Settings,
-    ivfs: &[&[u8]],
-    input: &mut I,
-    frames: &mut F,
-    replies: &mut P,
-) -> Result<Session, LiveFault>
-    requires capacity { (1 ≤ settings.capacity.states) × (settings.capacity.states ≤ 4096) }
-    requires sources { (1 ≤ length ivfs.now) × (length ivfs.now ≤ 8) }
-    ensures means { IfOk result (λ session. LiveMeans settings.tables (texts_of ivfs.now) (I.remaining input.old) (I.remaining input.new) (F.contents frames.old) (F.contents frames.new) (P.contents replies.old) (P.contents replies.new) session.now) }
-    ensures costs { IfOk result (LiveMeansAtCost settings.tables settings.capacity (texts_of ivfs.now) (I.remaining input.old) (I.remaining input.new) (F.contents frames.old) (F.contents frames.new) (P.contents replies.old) (P.contents replies.new)) }
-    ensures capacity { IfOk result (λ session. session.cache.capacity ≡ settings.capacity) }
-    ensures stops { IfErr result (LiveStops settings.tables (texts_of ivfs.now) (I.remaining input.old) (I.remaining input.new) (F.contents frames.old) (F.contents frames.new) (P.contents replies.old) (P.contents replies.new)) }
-{
-    run_live_over(
-        alloc,
-        settings,
-        ivfs,
-        input,
-        frames,
-        replies,
-        &mut Unobserved {},
-    )
 }

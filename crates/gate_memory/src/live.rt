@@ -1,7 +1,7 @@
 //! A live run whose lines take memory: one for which it runs out is refused, and the next line is answered.
 
 use crate::fault::Fault;
-use frame_session::{Capacity, LiveFault, Settings, run_live};
+use frame_session::{Capacity, LiveFault, Settings, Unobserved, run_live_over};
 use std::alloc::Global;
 use std::io::{self, BufReader, Write};
 use std::str;
@@ -25,13 +25,14 @@ fn try_answer(alloc: Global, replies: &mut Vec<u8>) -> Result<(), LiveFault> {
         tables: Tables::rfc(),
         capacity: Capacity::of_states(1),
     };
-    run_live(
+    run_live_over(
         alloc,
         settings,
         &[&EMPTY],
         &mut requests,
         &mut io::sink(),
         replies,
+        &mut Unobserved {},
     )?;
     Ok(())
 }

@@ -68,7 +68,7 @@ fn abandon<R: SavedFiles + AllocGlobal>(rt: &R, begun: Option<R::Begun>) {
 }
 
 /// Gives up the saves that were begun.
-pub fn abandon_saves<R: SavedFiles + AllocGlobal>(rt: &R, saves: Saves<R::Begun>) {
+pub(crate) fn abandon_saves<R: SavedFiles + AllocGlobal>(rt: &R, saves: Saves<R::Begun>) {
     let Saves { packets, frames } = saves;
     abandon(rt, packets);
     abandon(rt, frames);

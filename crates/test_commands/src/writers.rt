@@ -1,6 +1,6 @@
 // Readers and writers that fail.
 use crate::expected::{Broken, ONE, OPENING, run_line};
-use frame_session::{Capacity, LiveFault, Settings, Unobserved, run_live};
+use frame_session::{Capacity, LiveFault, Settings, Unobserved, run_live_over};
 use output_files::SavedFiles;
 use program_parts::NamedFiles;
 use serve_program::{Fault, run_to};
@@ -105,13 +105,14 @@ fn stops_at_a_writer_that_fails(rt: HostRuntime) {
     };
     let mut requests = b"blank 0 16 16\nframe 0\ncount\n".as_slice();
     let mut replies = Vec::new(rt.alloc());
-    let run = run_live(
+    let run = run_live_over(
         rt.alloc(),
         settings,
         &[&EMPTY],
         &mut requests,
         &mut Broken {},
         &mut replies,
+        &mut Unobserved {},
     );
     assert!(rt; run.err() == Some(LiveFault::Write));
     assert!(rt; replies.as_slice() == b"ok 1\n".as_slice());
@@ -185,13 +186,14 @@ fn flushes_a_frame_before_its_reply(rt: HostRuntime) -> Result<(), Fail> {
         tables: Tables::rfc(),
         capacity: Capacity::of_states(1),
     };
-    let run = run_live(
+    let run = run_live_over(
         rt.alloc(),
         settings,
         &[ONE],
         &mut b"frame 0\nframe 0\n".as_slice(),
         &mut frames,
         &mut replies,
+        &mut Unobserved {},
     );
     assert!(rt; run.is_ok());
     assert!(rt; noted.get() == OPENING.len() + 2 * 390);
