@@ -28,7 +28,7 @@ fn try_answer(alloc: Global, replies: &mut Vec<u8>) -> Result<(), LiveFault> {
     run_live_over(
         alloc,
         settings,
-        &[&EMPTY],
+        &[EMPTY.as_slice()],
         &mut requests,
         &mut io::sink(),
         replies,

@@ -108,7 +108,7 @@ fn stops_at_a_writer_that_fails(rt: HostRuntime) {
     let run = run_live_over(
         rt.alloc(),
         settings,
-        &[&EMPTY],
+        &[EMPTY.as_slice()],
         &mut requests,
         &mut Broken {},
         &mut replies,
