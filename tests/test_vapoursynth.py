@@ -6,6 +6,7 @@ VapourSynth is not there: the plugin is loaded by a host of its own, tests/vapou
 bin/libwokureti.so.0. It prints what differs and ends with 1, or prints nothing and ends with 0; a line `skipped: ..` names what could not be run.
 """
 
+import ctypes
 import os
 import pathlib
 import random
@@ -25,6 +26,8 @@ LIBRARY = pathlib.Path(os.environ.get("LIBWOKURETI") or TOP / "bin/libwokureti.s
 SERVE = os.environ.get("VP8SERVE") or str(TOP / "bin/vp8serve")
 LIMIT = 120
 CHECKS = (["-fsanitize=address,undefined", "-fno-sanitize-recover=all"], [])
+# Links tests/opened.c into the plugin.
+NOTES = (TOP / "tests/opened.c", "-Wl,--wrap=wk_open,--wrap=wk_open_bytes")
 PROPERTIES = "_Matrix=6 _ColorRange=1 _ChromaLocation=1 _FieldBased=0"
 
 
@@ -35,7 +38,8 @@ def ran(*words, **more):
 class Host:
     """The plugin and its host, compiled into a folder."""
 
-    def __init__(self, folder):
+    def __init__(self, folder, more=()):
+        """With `more` to link into the plugin."""
         self.folder = folder
         self.plugin, self.host = folder / "libwokureti-vapoursynth.so", folder / "host"
         own = ran("pkg-config", "--cflags", "vapoursynth", text=True) if shutil.which("pkg-config") else None
@@ -44,7 +48,7 @@ class Host:
         flags += own.stdout.split() if self.has_header else []
         for checks in CHECKS:
             self.is_checked = bool(checks)
-            made = ran("gcc", *flags, *checks, "-fPIC", "-shared", "-o", self.plugin, TOP / "clients/vapoursynth/wokureti.c", LIBRARY, f"-Wl,-rpath,{LIBRARY.parent}", "-pthread", text=True)
+            made = ran("gcc", *flags, *checks, "-fPIC", "-shared", "-o", self.plugin, TOP / "clients/vapoursynth/wokureti.c", *more, LIBRARY, f"-Wl,-rpath,{LIBRARY.parent}", "-pthread", text=True)
             host = ran("gcc", *flags, *checks, "-o", self.host, TOP / "tests/vapoursynth_host.c", "-ldl", "-pthread", text=True)
             if made.returncode == host.returncode == 0:
                 return
@@ -53,7 +57,8 @@ class Host:
     def run(self, numbers, *arguments, threads=4):
         """The host's status, its lines, and the samples."""
         out = self.folder / "frames"
-        done = ran(self.host, self.plugin, out, threads, *arguments, "--", *numbers, text=True)
+        room = {**os.environ, "OPENED": str(self.folder / "opened")}
+        done = ran(self.host, self.plugin, out, threads, *arguments, "--", *numbers, text=True, env=room)
         lines = (done.stdout + done.stderr[-500:]).splitlines()
         return done.returncode, lines, out.read_bytes() if done.returncode == 0 else b""
 
@@ -85,9 +90,9 @@ def rate(path):
     return found.numerator, found.denominator
 
 
-def frames(host, path, chance, script=None, sources=(), cache=None):
+def frames(host, path, chance, script=None, sources=(), cache=()):
     """What is wrong with the frames of a clip, which are asked for three times each."""
-    given = [f"path={path}", *(f"sources={one}" for one in sources)] + ([f"script={script}"] if script else []) + ([f"cache={cache}"] if cache else [])
+    given = [f"path={path}", *(f"sources={one}" for one in sources), *([f"script={script}"] if script else []), *cache]
     status, lines, _ = host.run([], *given)
     if status or not lines or not lines[0].startswith("clip "):
         return [f"{path.name}: status {status}, {lines}"]
@@ -132,6 +137,9 @@ def refusals(host, folder):
         ([f"path={clip}", *[f"sources={clip}"] * 8], "there are more than seven sources"),
         ([f"path={clip}", "cache=0"], "cache is 0, but must be 1 to 4096"),
         ([f"path={clip}", "cache=4097"], "cache is 4097, but must be 1 to 4096"),
+        ([f"path={clip}", "cache_bytes=0"], "cache_bytes is 0, but must be 1 or more"),
+        ([f"path={clip}", "cache_bytes=-1"], "cache_bytes is -1, but must be 1 or more"),
+        ([f"path={clip}", "cache=32", "cache_bytes=1048576"], "either cache or cache_bytes is given, not both"),
         ([f"path={clip}", "script=trim 0"], "script: refused Syntax"),
         ([f"path={clip}", "script=source 1"], "script: refused Reference"),
         ([f"path={clip}", "script=trim 0 0 9\nuse 0"], "script: refused Syntax"),
@@ -145,12 +153,27 @@ def refusals(host, folder):
             yield f"{words}: status {status}, {lines}"
 
 
+def limits(folder):
+    """The limit of what a session caches is the one that is given, or 512 MiB."""
+    folder.mkdir()
+    host, clip, opened = Host(folder, NOTES), DATA / "scene-cuts.ivf", folder / "opened"
+    most = 2**63 - 1
+    for words, wanted in (([], "bytes 536870912"), (["cache=7"], "states 7"), (["cache_bytes=1"], "bytes 1"), ([f"cache_bytes={most}"], f"bytes {most}")):
+        opened.unlink(missing_ok=True)
+        status, lines, _ = host.run([3, 0], f"path={clip}", *words)
+        if status or len(lines) != 3 or opened.read_text() != wanted + "\n":
+            yield f"{words}: status {status}, {lines}, opened with {opened.read_text()!r}"
+
+
 def main():
     if shutil.which("gcc") is None:
         print("skipped: gcc is not there")
         return 0
     if not LIBRARY.is_file():
         print("skipped: the library is not built: ./build.py --library makes it")
+        return 0
+    if not hasattr(ctypes.CDLL(str(LIBRARY)), "wk_open_bytes"):
+        print("skipped: the library is an earlier one, without wk_open_bytes")
         return 0
     chance = random.Random(75)
     with tempfile.TemporaryDirectory() as name:
@@ -161,7 +184,8 @@ def main():
         if not host.has_header:
             print("skipped: VapourSynth is not there: the plugin is compiled with the declarations of clients/vapoursynth/vapoursynth4.h, and loaded by tests/vapoursynth_host.c")
         clip, other, key = DATA / "hidden-altref.ivf", DATA / "scene-cuts.ivf", ivf.read_packets(DATA / "scene-cuts.ivf")[1][0][1]
-        wrong = [*frames(host, clip, chance), *frames(host, other, chance, cache=2), *refusals(host, folder)]
+        wrong = [*frames(host, clip, chance), *frames(host, other, chance, cache=["cache=2"]), *refusals(host, folder), *limits(folder / "limits")]
+        wrong += frames(host, other, chance, cache=["cache_bytes=1"])
         wrong += frames(host, clip, chance, script="crop 0 2 2 16 8; trim 1 3 4")
         wrong += frames(host, clip, chance, script="source 1; trim 1 0 4; splice 2 1; fade 3 0 4 256 0", sources=[clip])
         wrong += frames(host, written(folder, "middle.ivf", {4: bytes(2), 7: key}), chance)

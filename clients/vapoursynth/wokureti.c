@@ -14,7 +14,9 @@
 #include "vapoursynth4.h"
 #include "wokureti.h"
 
-enum { SOURCES = 8, STATES = 32, MOST_STATES = 4096, TEXT = 512 };
+enum { SOURCES = 8, MOST_STATES = 4096, TEXT = 512 };
+/* The most bytes of cached states where nothing is said. */
+static const int64_t CACHE_BYTES = 512 << 20;
 
 typedef struct Source Source;
 
@@ -119,7 +121,9 @@ typedef struct {
     uint8_t *files;
     size_t ends[SOURCES], count;
     const char *path, *script;
+    /* The most cached states, or 0: then the most bytes that they take. */
     uint16_t states;
+    uint64_t bytes;
     char wrong[TEXT];
 } Opening;
 
@@ -265,11 +269,17 @@ static bool find_kinds(Source *source, Opening *opening) {
     return true;
 }
 
+static uint32_t open_handle(wk_handle *handle, const Opening *opening, wk_fault *fault) {
+    size_t size = opening->ends[opening->count - 1];
+    if (opening->states) return wk_open(handle, opening->files, size, opening->ends, opening->count, opening->states, NULL, 0, fault);
+    return wk_open_bytes(handle, opening->files, size, opening->ends, opening->count, opening->bytes, NULL, 0, fault);
+}
+
 static void open_session(Source *source, void *given) {
     static const char *causes[] = {"", "Header", "Magic", "FourCc", "HeaderLength", "TooMany", "NoMemory"};
     Opening *opening = given;
     wk_fault fault = {0};
-    uint32_t status = wk_open(&source->handle, opening->files, opening->ends[opening->count - 1], opening->ends, opening->count, opening->states, NULL, 0, &fault);
+    uint32_t status = open_handle(&source->handle, opening, &fault);
     if (status == WK_FILE) {
         fails(opening, "source %llu is not an IVF file of VP8: %s", (unsigned long long)fault.source, causes[fault.cause]);
     } else if (status) {
@@ -297,6 +307,18 @@ static bool read_file(Opening *opening, const char *path) {
     return is_read ? true : fails(opening, "cannot read %s", path);
 }
 
+/* Takes `cache`, a number of states, or `cache_bytes`. */
+static bool take_cache(Opening *opening, const VSMap *in, const VSAPI *api) {
+    int no_states = 0, no_bytes = 0;
+    int64_t states = api->mapGetInt(in, "cache", 0, &no_states), bytes = api->mapGetInt(in, "cache_bytes", 0, &no_bytes);
+    if (!no_states && !no_bytes) return fails(opening, "either cache or cache_bytes is given, not both");
+    if (!no_states && (states < 1 || states > MOST_STATES)) return fails(opening, "cache is %lld, but must be 1 to %d", (long long)states, MOST_STATES);
+    if (!no_bytes && bytes < 1) return fails(opening, "cache_bytes is %lld, but must be 1 or more", (long long)bytes);
+    opening->states = no_states ? 0 : (uint16_t)states;
+    opening->bytes = (uint64_t)(no_bytes ? CACHE_BYTES : bytes);
+    return true;
+}
+
 /* Takes the arguments of Source. */
 static bool take_arguments(Opening *opening, const VSMap *in, const VSAPI *api) {
     int error = 0, sources = api->mapNumElements(in, "sources");
@@ -304,10 +326,7 @@ static bool take_arguments(Opening *opening, const VSMap *in, const VSAPI *api) 
     if (error) return fails(opening, "path is missing");
     opening->script = api->mapGetData(in, "script", 0, &error);
     if (error) opening->script = "";
-    int64_t states = api->mapGetInt(in, "cache", 0, &error);
-    if (error) states = STATES;
-    if (states < 1 || states > MOST_STATES) return fails(opening, "cache is %lld, but must be 1 to %d", (long long)states, MOST_STATES);
-    opening->states = (uint16_t)states;
+    if (!take_cache(opening, in, api)) return false;
     if (sources >= SOURCES) return fails(opening, "there are more than seven sources");
     if (!read_file(opening, opening->path)) return false;
     for (int k = 0; k < sources; k++) {
@@ -403,5 +422,5 @@ __attribute__((visibility("default"))) void VS_CC VapourSynthPluginInit2(VSPlugi
 void VS_CC VapourSynthPluginInit2(VSPlugin *plugin, const VSPLUGINAPI *api) {
     int version = VS_MAKE_VERSION((int)wk_version() / 10000, (int)wk_version() / 100 % 100);
     api->configPlugin("wokureti.source", "wokureti", "Frames of edited VP8 streams", version, VAPOURSYNTH_API_VERSION, 0, plugin);
-    api->registerFunction("Source", "path:data;sources:data[]:opt;script:data:opt;cache:int:opt;", "clip:vnode;", create, NULL, plugin);
+    api->registerFunction("Source", "path:data;sources:data[]:opt;script:data:opt;cache:int:opt;cache_bytes:int:opt;", "clip:vnode;", create, NULL, plugin);
 }
