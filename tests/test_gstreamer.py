@@ -5,6 +5,7 @@ The library is that of the variable LIBWOKURETI, or bin/libwokureti.so.0. It pri
 `skipped: ..` names what could not be run.
 """
 
+import ctypes
 import os
 import pathlib
 import shutil
@@ -20,17 +21,20 @@ NEEDED = ("gstreamer-video-1.0", "gstreamer-base-1.0")
 LIMIT = 120
 # A clip of the example's size has strides that are its widths.
 CLIP = TOP / "examples/mandelbrot.ivf"
+# Links tests/opened.c into the plugin.
+NOTES = (TOP / "tests/opened.c", "-Wl,--wrap=wk_open,--wrap=wk_open_bytes")
 
 
 def ran(*words, **more):
     return subprocess.run(list(map(str, words)), capture_output=True, timeout=LIMIT, check=False, **more)
 
 
-def compiled(folder):
-    """The folder of the plugin."""
+def compiled(folder, more=()):
+    """The folder of the plugin, with `more` linked into it."""
+    folder.mkdir(exist_ok=True)
     flags = ran("pkg-config", "--cflags", "--libs", *NEEDED, text=True)
     made = folder / "libgstwokureti.so"
-    done = ran("gcc", "-std=c11", "-O1", "-Wall", "-Wextra", "-Werror", "-fPIC", "-shared", "-o", made, TOP / "clients/gstreamer/wokuretisrc.c", "-I", TOP / "clients/c/include",
+    done = ran("gcc", "-std=c11", "-O1", "-Wall", "-Wextra", "-Werror", "-fPIC", "-shared", "-o", made, TOP / "clients/gstreamer/wokuretisrc.c", *more, "-I", TOP / "clients/c/include",
                *flags.stdout.split(), LIBRARY, f"-Wl,-rpath,{LIBRARY.parent}", text=True)
     if done.returncode != 0:
         raise SystemExit(f"the plugin does not compile: {done.stderr}")
@@ -54,6 +58,9 @@ def main():
         return 0
     if not LIBRARY.is_file():
         print("skipped: the library is not built: ./build.py --library makes it")
+        return 0
+    if not hasattr(ctypes.CDLL(str(LIBRARY)), "wk_open_bytes"):
+        print("skipped: the library is an earlier one, without wk_open_bytes")
         return 0
     wrong = []
     with tempfile.TemporaryDirectory() as name:
@@ -82,8 +89,24 @@ def main():
         if not done.returncode or "IVF" not in done.stderr:
             wrong.append(f"a file that is none: status {done.returncode}, {done.stderr[-300:]}")
         wrong += sought(folder, room, whole)
+        wrong += limits(folder / "limits")
     print("".join(line + "\n" for line in wrong), end="")
     return 1 if wrong else 0
+
+
+def limits(folder):
+    """The limit of what a session caches is the one that is given, or 512 MiB."""
+    made, opened = compiled(folder, NOTES), folder / "opened"
+    room = {**os.environ, "GST_PLUGIN_PATH": str(made), "GST_REGISTRY": str(folder / "registry"), "OPENED": str(opened)}
+    most = 2**64 - 1
+    for words, wanted in (
+        ([], "bytes 536870912"), (["states=7"], "states 7"), (["cache-bytes=1"], "bytes 1"), ([f"cache-bytes={most}"], f"bytes {most}"), (["states=0", "cache-bytes=2"], "bytes 2"),
+        (["states=7", "cache-bytes=2"], "states 7"),
+    ):
+        opened.unlink(missing_ok=True)
+        done = ran("gst-launch-1.0", "-q", "wokuretisrc", f"location={CLIP}", "num-buffers=2", *words, "!", "fakesink", env=room, text=True)
+        if done.returncode or opened.read_text() != wanted + "\n":
+            yield f"{words}: status {done.returncode}, opened with {opened.read_text()!r}, {done.stderr[-300:]}"
 
 
 SEEK = """

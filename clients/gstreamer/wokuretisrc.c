@@ -31,7 +31,9 @@ typedef struct {
 struct _WokuretiSrc {
     GstPushSrc parent;
     gchar *location, *sources, *script;
+    /* The most cached states, or 0: then the most bytes that they take. */
     guint states;
+    guint64 cache_bytes;
     GThread *worker;
     GMutex lock;
     GCond changed;
@@ -47,7 +49,10 @@ struct _WokuretiSrc {
 
 G_DEFINE_TYPE(WokuretiSrc, wokureti_src, GST_TYPE_PUSH_SRC)
 
-enum { PROP_LOCATION = 1, PROP_SOURCES, PROP_SCRIPT, PROP_STATES };
+enum { PROP_LOCATION = 1, PROP_SOURCES, PROP_SCRIPT, PROP_STATES, PROP_CACHE_BYTES };
+
+/* The most bytes of cached states where nothing is said. */
+static const guint64 CACHE_BYTES = 512 << 20;
 
 static GstStaticPadTemplate template = GST_STATIC_PAD_TEMPLATE("src", GST_PAD_SRC, GST_PAD_ALWAYS, GST_STATIC_CAPS(GST_VIDEO_CAPS_MAKE("I420")));
 
@@ -100,10 +105,16 @@ static gchar *reply_to(WokuretiSrc *src, const gchar *line) {
     return g_strchomp(reply);
 }
 
+static uint32_t open_handle(WokuretiSrc *src, const Opening *opening, wk_fault *fault) {
+    const GByteArray *files = opening->files;
+    if (src->states) return wk_open(&src->handle, files->data, files->len, opening->ends, opening->count, (uint16_t)src->states, NULL, 0, fault);
+    return wk_open_bytes(&src->handle, files->data, files->len, opening->ends, opening->count, src->cache_bytes, NULL, 0, fault);
+}
+
 static void open_session(WokuretiSrc *src, gpointer given) {
     Opening *opening = given;
     wk_fault fault = {0};
-    uint32_t status = wk_open(&src->handle, opening->files->data, opening->files->len, opening->ends, opening->count, (uint16_t)src->states, NULL, 0, &fault);
+    uint32_t status = open_handle(src, opening, &fault);
     if (status) {
         opening->wrong = status == WK_FILE ? g_strdup_printf("file %" G_GUINT64_FORMAT " is not an IVF file of VP8 (cause %u)", (guint64)fault.source, fault.cause)
                                            : g_strdup_printf("the session is not opened (%u)", status);
@@ -360,6 +371,8 @@ static void set_property(GObject *object, guint id, const GValue *value, GParamS
     gchar **texts[] = {NULL, &src->location, &src->sources, &src->script};
     if (id == PROP_STATES) {
         src->states = g_value_get_uint(value);
+    } else if (id == PROP_CACHE_BYTES) {
+        src->cache_bytes = g_value_get_uint64(value);
     } else if (id <= PROP_SCRIPT) {
         g_free(*texts[id]);
         *texts[id] = g_value_dup_string(value);
@@ -373,6 +386,8 @@ static void get_property(GObject *object, guint id, GValue *value, GParamSpec *s
     gchar *texts[] = {NULL, src->location, src->sources, src->script};
     if (id == PROP_STATES) {
         g_value_set_uint(value, src->states);
+    } else if (id == PROP_CACHE_BYTES) {
+        g_value_set_uint64(value, src->cache_bytes);
     } else if (id <= PROP_SCRIPT) {
         g_value_set_string(value, texts[id]);
     } else {
@@ -393,7 +408,7 @@ static void finalize(GObject *object) {
 static void wokureti_src_init(WokuretiSrc *src) {
     g_mutex_init(&src->lock);
     g_cond_init(&src->changed);
-    src->states = 32;
+    src->cache_bytes = CACHE_BYTES;
     gst_video_info_init(&src->info);
     gst_base_src_set_format(GST_BASE_SRC(src), GST_FORMAT_TIME);
 }
@@ -409,7 +424,9 @@ static void wokureti_src_class_init(WokuretiSrcClass *class) {
     g_object_class_install_property(object, PROP_LOCATION, g_param_spec_string("location", "Location", "The path of an IVF file of VP8", NULL, flags));
     g_object_class_install_property(object, PROP_SOURCES, g_param_spec_string("sources", "Sources", "The paths of sources 1 to 7, with : between them", NULL, flags));
     g_object_class_install_property(object, PROP_SCRIPT, g_param_spec_string("script", "Script", "The script whose frames are served", NULL, flags));
-    g_object_class_install_property(object, PROP_STATES, g_param_spec_uint("states", "States", "The most decoded states that are cached", 1, 4096, 32, flags));
+    g_object_class_install_property(object, PROP_STATES, g_param_spec_uint("states", "States", "The most decoded states that are cached (0: cache-bytes is the limit)", 0, 4096, 0, flags));
+    g_object_class_install_property(object, PROP_CACHE_BYTES,
+                                    g_param_spec_uint64("cache-bytes", "Cache bytes", "The most bytes of the pictures of cached states, if states is 0", 1, G_MAXUINT64, CACHE_BYTES, flags));
     gst_element_class_add_static_pad_template(element, &template);
     gst_element_class_set_static_metadata(element, "Wokureti source", "Source/File/Video", "Frames of an edited VP8 stream", "The founders of Wokureti");
     base->start = start;
