@@ -5,6 +5,7 @@ The library is that of the variable LIBWOKURETI, or bin/libwokureti.so.0. It pri
 `skipped: ..` names what could not be run.
 """
 
+import ctypes
 import os
 import pathlib
 import shutil
@@ -58,6 +59,9 @@ def main():
         return 0
     if not LIBRARY.is_file():
         print("skipped: the library is not built: ./build.py --library makes it")
+        return 0
+    if not hasattr(ctypes.CDLL(str(LIBRARY)), "wk_open_bytes"):
+        print("skipped: the library is an earlier one, without wk_open_bytes")
         return 0
     with tempfile.TemporaryDirectory() as folder:
         # The linker looks for libwokureti.so, and the program for the name of the library's own.

@@ -18,7 +18,7 @@ use wokureti_sys as sys;
 /// Why a call has no result.
 #[derive(Clone, Debug, PartialEq, Eq)]
 pub enum Fault {
-    /// There are no files or more than eight, or the number of states is not 1 to 4,096.
+    /// There are no files or more than eight, or the number of cached states is not 1 to 4,096.
     Argument,
     /// The bytes of this source, counted from 0, are not an IVF file of VP8.
     File { source: u64, cause: u32 },
@@ -66,6 +66,29 @@ pub struct Frame {
     pub cr: Vec<u8>,
 }
 
+/// The limit of what a session caches.
+#[derive(Clone, Copy, Debug, PartialEq, Eq)]
+pub enum Cache {
+    /// At most this many decoded states, 1 to 4,096.
+    States(u16),
+    /// The pictures of the cached states, four for each, take at most this many bytes, or are those of the newest state alone.
+    Bytes(u64),
+}
+
+impl Default for Cache {
+    /// 512 MiB.
+    fn default() -> Cache {
+        Cache::Bytes(512 << 20)
+    }
+}
+
+impl From<u16> for Cache {
+    /// This many states.
+    fn from(states: u16) -> Cache {
+        Cache::States(states)
+    }
+}
+
 /// A session over one to eight streams. It stays on the thread that opened it.
 pub struct Session {
     // The library gets a pointer to the handle at each call, so it lies still.
@@ -73,8 +96,8 @@ pub struct Session {
 }
 
 impl Session {
-    /// A session over the bytes of IVF files, with at most this many cached states.
-    pub fn open(files: &[&[u8]], states: u16) -> Result<Session, Fault> {
+    /// A session over the bytes of IVF files. The limit of what it caches is a number of states, or a [`Cache`].
+    pub fn open(files: &[&[u8]], cache: impl Into<Cache>) -> Result<Session, Fault> {
         let bytes = files.concat();
         let ends: Vec<usize> = files
             .iter()
@@ -85,19 +108,13 @@ impl Session {
             .collect();
         let mut handle = Box::new(sys::wk_handle { at: ptr::null_mut() });
         let mut fault = sys::wk_fault::default();
+        let (at, size, ends_at, sources) = (bytes.as_ptr(), bytes.len(), ends.as_ptr(), ends.len());
         // SAFETY: all pointers are to memory of this function, with its sizes, and the handle is new.
         let status = unsafe {
-            sys::wk_open(
-                &mut *handle,
-                bytes.as_ptr(),
-                bytes.len(),
-                ends.as_ptr(),
-                ends.len(),
-                states,
-                ptr::null(),
-                0,
-                &mut fault,
-            )
+            match cache.into() {
+                Cache::States(most) => sys::wk_open(&mut *handle, at, size, ends_at, sources, most, ptr::null(), 0, &mut fault),
+                Cache::Bytes(most) => sys::wk_open_bytes(&mut *handle, at, size, ends_at, sources, most, ptr::null(), 0, &mut fault),
+            }
         };
         match status {
             sys::WK_OK => Ok(Session { handle }),

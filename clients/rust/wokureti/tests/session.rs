@@ -4,7 +4,7 @@ use std::fs;
 use std::hash::{Hash, Hasher};
 use std::path::PathBuf;
 
-use wokureti::{Fault, Frame, Session};
+use wokureti::{Cache, Fault, Frame, Session};
 
 fn clip(name: &str) -> Vec<u8> {
     let folder = PathBuf::from(env!("CARGO_MANIFEST_DIR")).join("../../../crates/gate_clips/data");
@@ -69,6 +69,27 @@ fn an_export_has_the_frames_of_the_script() {
     assert_eq!(session.export(true), Err(Fault::Unserved { frame: 5, why }));
 }
 
+/// The number of packets that are decoded for frame 5 and then frame 0.
+fn decoded(cache: impl Into<Cache>) -> Option<String> {
+    let file = clip("small.ivf");
+    let mut session = Session::open(&[&file], cache).expect("an IVF file");
+    session.frame(5).expect("a frame");
+    session.frame(0).expect("a frame");
+    session.request("stats").ok()
+}
+
+#[test]
+fn the_cache_has_its_limit() {
+    assert_eq!(Cache::default(), Cache::Bytes(536_870_912));
+    assert_eq!(decoded(Cache::default()), Some("decoded 6".into()));
+    assert_eq!(decoded(Cache::Bytes(1 << 30)), Some("decoded 6".into()));
+    assert_eq!(decoded(6), Some("decoded 6".into()));
+    // The newest state alone.
+    for least in [Cache::Bytes(1), Cache::States(1)] {
+        assert_eq!(decoded(least), Some("decoded 7".into()));
+    }
+}
+
 #[test]
 fn refusals_have_their_words() {
     let file = clip("small.ivf");
@@ -80,6 +101,7 @@ fn refusals_have_their_words() {
     assert_eq!(session.frame(3), Err(Fault::Refused("packet 0 ShortPacket".into())));
     assert!(matches!(Session::open(&[&file, b"no file of packets, but longer than a header"], 2), Err(Fault::File { source: 1, .. })));
     assert!(matches!(Session::open(&[], 2), Err(Fault::Argument)));
+    assert!(matches!(Session::open(&[], Cache::default()), Err(Fault::Argument)));
     assert!(matches!(Session::open(&[&file], 0), Err(Fault::Argument)));
 }
 
