@@ -301,7 +301,9 @@ def look(page):
     """Stepping, zooming and selecting."""
     browser = page.browser
     browser.run("document.getElementById('timeline').focus()")
-    for keys, frame in ((["Right"], 1), (["Right"], 2), (["Left"], 1), (["PageDown"], 11), (["End"], 249), (["Home"], 0)):
+    # A key frame is every 50th one.
+    steps = (["Right"], 1), (["Right"], 2), (["Left"], 1), (["PageDown"], 11), (["Down"], 50), (["Down"], 100), (["Up"], 50), (["PageUp"], 40), (["Up"], 0), (["End"], 249), (["Home"], 0)
+    for keys, frame in steps:
         browser.key(*keys)
         browser.wait(f"wokureti.model.frame === {frame}")
     browser.click("#frame")
@@ -1123,7 +1125,11 @@ def shots_and_fades(browser, room, clip, other):
     browser.wait("wokureti.model.session.script !== '-'")
     wanted = "trim 0 0 20; trim 0 60 20; splice 1 2; trim 0 20 40; splice 3 4; trim 0 80 170; splice 5 6"
     expect(page.members("session")["script"] == wanted, f"the script after V is {page.members('session')['script']}")
-    expect(browser.run("return [wokureti.model.frame, wokureti.model.packet]") == [20, 60], "the picture is not the first one that was moved")
+    browser.wait("wokureti.model.frame === 20 && wokureti.model.packet === 60")
+    # The script joins at frames 20, 40 and 80.
+    for keys, frame in ((("Shift", "PageDown"), 40), (("Shift", "PageDown"), 80), (("Shift", "PageUp"), 40), (("Shift", "PageUp"), 20)):
+        browser.key(*keys)
+        browser.wait(f"wokureti.model.frame === {frame}")
     browser.run("wokureti.model.select(100, 250)")
     browser.key("x")
     browser.wait("wokureti.model.frames === 100")
