@@ -78,11 +78,15 @@ def make_million(path, count=1 << 20):
 class Page:
     """A browser on the page of a stream."""
 
+    # The commands that were started.
+    started = []
+
     def __init__(self, browser, *words, **more):
         self.browser = browser
         command = [sys.executable, "-m", "wokureti", "open", *map(str, words), "--no-browser"]
         env = dict(os.environ, PYTHONPATH=str(TOP / "clients/python"), PYTHONDONTWRITEBYTECODE="1", **more)
         self.process = subprocess.Popen(command, env=env, stdout=subprocess.PIPE, stderr=subprocess.PIPE, text=True)
+        self.started.append(self.process)
         self.address = self.process.stdout.readline().strip()
 
     def open(self, fragment=""):
@@ -130,6 +134,14 @@ class Page:
         """Nothing is wrong in the console. What it has of reading canvases back is about this comparison."""
         errors = [error for error in self.browser.errors() if "willReadFrequently" not in error]
         expect(not errors, f"{what}: the console has {errors[:3]}")
+
+
+def end_all():
+    """Ends the commands that a failure left."""
+    for process in Page.started:
+        if process.poll() is None:
+            process.terminate()
+            process.wait(60)
 
 
 def by_ffmpeg(clip, frame, width, height):
@@ -1237,6 +1249,8 @@ def small_windows(browser, room, clip, looks):
             return !(box.left >= -1 && box.right <= innerWidth + 1 && box.top >= -1 && box.top + Math.min(box.height, 60) <= innerHeight + 1 && box.width >= 20 && box.height >= 20);
         });""")
         expect(not seen, f"{width}x{height}: not seen at first: {seen}")
+        covered = browser.run("return document.getElementById('now-canvas').getBoundingClientRect().bottom - document.getElementById('lower').getBoundingClientRect().top")
+        expect(covered <= 1, f"{width}x{height}: the timeline covers {covered} pixels of the picture")
         missing = browser.run(MISSING, NEEDED)
         expect(not missing, f"{width}x{height}: cannot be reached: {missing}")
         across = browser.run("return document.documentElement.scrollWidth - innerWidth")
@@ -1442,7 +1456,7 @@ def million(browser, room):
         }
         return times;"""
     browser.run(steps)
-    browser.wait("wokureti.model.session.listed", seconds=120)
+    browser.wait("wokureti.model.session.listed", seconds=600)
     browser.run("wokureti.timeline.zoomAll()")
     times = sorted(browser.run(steps))
     # Two frames of the browser are 33 ms; what is measured is from the wheel to the second frame after it.
@@ -1555,7 +1569,8 @@ def cutting_shot(browser, folder, clip):
 def main():
     folder = sys.argv[2] if sys.argv[1:2] == ["--shots"] and len(sys.argv) == 3 else None
     looks = pathlib.Path(sys.argv[2]) if sys.argv[1:2] == ["--looks"] and len(sys.argv) == 3 else None
-    with tempfile.TemporaryDirectory() as name, Browser() as browser:
+    with tempfile.TemporaryDirectory() as name, Browser() as browser, contextlib.ExitStack() as ends:
+        ends.callback(end_all)
         room = pathlib.Path(name)
         say(f"chromium {browser.version}, vp8serve {subprocess.run([programs.find('vp8serve'), '--version'], capture_output=True, text=True, check=True).stdout.split()[1]}")
         clip, broken, place = room / "clip.ivf", room / "broken.ivf", 93
