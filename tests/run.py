@@ -18,10 +18,12 @@ import time
 from dataclasses import dataclass
 
 sys.dont_write_bytecode = True
-import rows  # noqa: E402
-
 HERE = pathlib.Path(__file__).resolve().parent
 TOP = HERE.parent
+sys.path.insert(1, str(TOP))
+import build  # noqa: E402
+import rows  # noqa: E402
+
 CRATES = TOP / "crates"
 CLIENT = TOP / "clients/python/tests"
 SERVE, LIST = (os.environ.get(name, "") for name in ("VP8SERVE", "VP8LIST"))
@@ -45,10 +47,10 @@ class Result:
     seconds: float
 
 
-def ran(words, data=b"", folder=None, limit=LIMIT, more=()):
-    """Runs a program to its end, with all that it starts, and with more variables."""
+def ran(words, data=b"", folder=None, limit=LIMIT, more=(), environment=os.environ):
+    """Runs a program to its end, with all that it starts, and with more variables than those of an environment."""
     streams = {"stdin": subprocess.PIPE, "stdout": subprocess.PIPE, "stderr": subprocess.STDOUT}
-    with subprocess.Popen(list(map(str, words)), **streams, cwd=folder, env={**os.environ, **dict(more)}, start_new_session=True) as process:
+    with subprocess.Popen(list(map(str, words)), **streams, cwd=folder, env={**environment, **dict(more)}, start_new_session=True) as process:
         try:
             output, _ = process.communicate(data, timeout=limit)
         except subprocess.TimeoutExpired:
@@ -166,6 +168,31 @@ def versions():
     return [f"{name}: {got!r}" for name, got in found.items() if got != (0, f"{name} {version}\n".encode())], []
 
 
+def links():
+    """bin/wokureti, as build.py writes it, is started by a link of another name in another folder, and by a link to that, with the programs next to it."""
+    version, wrong = (TOP / "VERSION").read_text().strip(), []
+    room = {name: value for name, value in os.environ.items() if name not in ("PYTHONPATH", "VP8SERVE", "VP8LIST", "LIBWOKURETI")}
+    with tempfile.TemporaryDirectory() as name:
+        folder = pathlib.Path(name)
+        programs, command = folder / "a tree/bin", folder / "a tree/bin/wokureti"
+        programs.mkdir(parents=True)
+        command.write_text(build.WOKURETI)
+        command.chmod(0o755)
+        for path, target in ((programs / "vp8serve", os.path.abspath(SERVE)), (programs / "vp8list", os.path.abspath(LIST)), (folder / "a tree/clients", TOP / "clients"), (folder / "one", "a tree/bin/wokureti")):
+            path.symlink_to(target)
+        other = folder / "another folder/two"
+        other.parent.mkdir()
+        other.symlink_to(folder / "one")
+        for link in (folder / "one", other):
+            said = ran([link, "--version"], folder=folder, limit=60, environment=room)
+            if said != (0, f"wokureti {version}\n".encode()):
+                wrong.append(f"{link.name} --version: {said}")
+        said = ran([other, "cut", TOP / "examples/mandelbrot.ivf", "part.ivf", "--from", "0", "--to", "5"], folder=folder, limit=60, environment=room)
+        if said[0] or not (folder / "part.ivf").is_file():
+            wrong.append(f"{other.name} cut: {said}")
+    return wrong, []
+
+
 def growths():
     program = CRATES / "gate_memory/out/gate_memory"
     if not program.is_file():
@@ -195,7 +222,7 @@ def all_tests():
     found |= {name: script(name) for name in ("conformance/records.py", "compare/options.py", "conformance/check")}
     found["compare/definitions.py"] = script("compare/definitions.py", "--quiet")
     found["compare/first_command.py"] = script("compare/first_command.py", "--quiet")
-    found |= {"compare/growths.py": growths, "findings": checks, "versions": versions}
+    found |= {"compare/growths.py": growths, "findings": checks, "links": links, "versions": versions}
     found |= {f"stored run of {name}": stored_run(name, program) for name, program in (("vp8serve", SERVE), ("vp8list", LIST))}
     found |= {f"clip {' '.join(line.split()[:-2])}": clip(line) for line in (CRATES / "gate_clips/stdout").read_text().splitlines()}
     return found | {f"row {path.stem}": row(path) for path in sorted(rows.ROWS.glob("*.row"))}
