@@ -59,8 +59,8 @@ def run(path, folder):
     programs = f"{TOP}/bin"
     path_of_programs = f"{folder}/bin:{programs}:{os.environ['PATH']}"
     env = dict(os.environ, PATH=path_of_programs, PYTHONPATH=str(TOP / "clients/python"), PYTHONDONTWRITEBYTECODE="1")
-    # Most of it is the page, which is open for 8 s.
-    ran = subprocess.run([*on_three(), "bash", "-c", script], cwd=folder, env=env, capture_output=True, text=True, stdin=subprocess.DEVNULL, timeout=300)
+    # On an idle machine most of it is the page, which is open for 8 s; on a busy one it took 8 minutes.
+    ran = subprocess.run([*on_three(), "bash", "-c", script], cwd=folder, env=env, capture_output=True, text=True, stdin=subprocess.DEVNULL, timeout=1800)
     outputs = ran.stdout.split("--end--\n")
     for (command, wanted), output in zip(commands, outputs):
         lines = output.splitlines()

@@ -1008,6 +1008,7 @@ def add_and_crop(browser, room, clip, other):
     expect(browser.run("return document.getElementById('name').textContent") == other.name, "the page of its own is of another stream")
     browser.send("DELETE", "/window")
     browser.use_tab(mine)
+    dropped_files(browser, other)
     # As a source.
     browser.click("#add-source")
     browser.wait("document.getElementById('ask').open")
@@ -1043,6 +1044,35 @@ def add_and_crop(browser, room, clip, other):
     said = page.end()
     say("another stream on a page of its own and as a source, a crop, bits")
     return said
+
+
+def dropped_files(browser, other):
+    """A stream of the folder that is dropped on the page is offered; another one of its name and size, a folder and two files are not, and the page stays."""
+
+    def drop(*paths):
+        data = {"items": [], "files": list(map(str, paths)), "dragOperationsMask": 1}
+        for kind in ("dragEnter", "dragOver", "drop"):
+            browser.command("Input.dispatchDragEvent", type=kind, x=300, y=200, data=data)
+
+    address = browser.run("return location.href.split('#')[0]")
+    with tempfile.TemporaryDirectory() as name:
+        another = pathlib.Path(name, other.name)
+        another.write_bytes(other.read_bytes()[:-1] + bytes([other.read_bytes()[-1] ^ 1]))
+        for path in (another, another.parent):
+            drop(path)
+            browser.wait("document.getElementById('notices').textContent.includes(args[0])", f"{path.name} is no stream in the folders")
+            browser.click("#notices button")
+            browser.wait("document.getElementById('notices').textContent === ''")
+        drop(other, another)
+        browser.wait("document.getElementById('status').textContent === 'one file is opened at a time'")
+    drop(other)
+    browser.wait("document.getElementById('ask').open")
+    offered = browser.run("return [...document.querySelector('#ask select').options].map((option) => option.value)")
+    expect(offered == [str(other)], f"for {other.name} {offered} are offered")
+    browser.key("Escape")
+    browser.wait("!document.getElementById('ask').open")
+    expect(browser.run("return location.href.split('#')[0]") == address, "the page was left for a file that was dropped")
+    say("files dropped on the page: one of the folder is offered, no other one")
 
 
 def asides(browser, room, clip, other):

@@ -1,5 +1,6 @@
 """wokureti open: the files of the page, and what the page asks for."""
 
+import hashlib
 import http.client
 import json
 import os
@@ -14,6 +15,7 @@ import tempfile
 import threading
 import time
 import unittest
+import urllib.parse
 from array import array
 from unittest import mock
 
@@ -1189,6 +1191,34 @@ class MoreSources(PageCase):
         status, answer = self.add(found[-1])
         self.assertEqual((status, answer["source"]), (200, 1))
         self.assertEqual(self.add(room / "sub/.hidden/four.ivf")[0], 404)
+
+    def same(self, path, name=None, digest=None):
+        data = path.read_bytes()
+        asked = {"name": name or path.name, "size": len(data), "sha256": digest or hashlib.sha256(data).hexdigest()}
+        return self.members(f"/same?{urllib.parse.urlencode(asked)}")["files"]
+
+    def test_a_file_that_is_dropped_is_found_by_its_name_and_its_bytes(self):
+        room = self.opened()
+        for name in ("sub/two.ivf", "sub/\N{SNOWMAN} & a.ivf", "sub/.hidden/two.ivf"):
+            (room / name).parent.mkdir(parents=True, exist_ok=True)
+            shutil.copy(ODD, room / name)
+        # Another stream of its name and size.
+        data = bytearray(ODD.read_bytes())
+        data[-1] ^= 1
+        (room / "other").mkdir()
+        (room / "other/two.ivf").write_bytes(data)
+        self.assertEqual(self.same(ODD, "two.ivf"), [str(room / "two.ivf"), str(room / "sub/two.ivf")])
+        self.assertEqual(self.same(room / "other/two.ivf"), [str(room / "other/two.ivf")])
+        self.assertEqual(self.same(ODD, "\N{SNOWMAN} & a.ivf"), [str(room / "sub/\N{SNOWMAN} & a.ivf")])
+        for path, name in ((ODD, "one.ivf"), (ODD, "sub/two.ivf"), (ODD, ""), (SMALL, "notes.txt"), (pathlib.Path("/etc/passwd"), None)):
+            self.assertEqual(self.same(path, name), [], (path, name))
+        self.assertEqual(self.same(ODD, "two.ivf", "0" * 64), [])
+        self.assertEqual(self.ask("/same?name=two.ivf&size=x&sha256=0")[0], 400)
+        self.assertEqual(self.members("/same")["files"], [])
+        # One that cannot be read is none.
+        (room / "two.ivf").unlink()
+        os.mkfifo(room / "two.ivf")
+        self.assertEqual(self.same(ODD, "two.ivf"), [str(room / "sub/two.ivf")])
 
     def test_a_list_without_edits_stays_quiet(self):
         room = self.opened()

@@ -5,6 +5,8 @@ import * as server from "./interface.js";
 import { notice } from "./status.js";
 
 const find = (id) => document.getElementById(id);
+// Bytes of a file that is dropped, at most: an IVF file has no more.
+const MOST_BYTES = 1 << 30;
 
 /** A file as it is called below the folder that all files have in common. */
 export function namedFrom(file, files) {
@@ -13,25 +15,57 @@ export function namedFrom(file, files) {
   return file.split("/").slice(common.length).join("/");
 }
 
+/** The SHA-256 of a file that was dropped, or null if it is a folder or too large for a stream. */
+async function digestOf(file) {
+  const bytes = file.size > MOST_BYTES ? null : await file.arrayBuffer().catch(() => null);
+  if (!bytes) return null;
+  const digest = new Uint8Array(await crypto.subtle.digest("SHA-256", bytes));
+  return [...digest].map((byte) => byte.toString(16).padStart(2, "0")).join("");
+}
+
 export class Adding {
   constructor(model, status) {
     Object.assign(this, { model, status });
     find("add-source").addEventListener("click", () => this.add().catch((error) => this.status.say(error.message)));
+    // For a file that is dropped a browser leaves the page, if the page does not take it.
+    const hasFiles = ({ dataTransfer }) => dataTransfer !== null && dataTransfer.types.includes("Files");
+    addEventListener("dragover", (event) => hasFiles(event) && event.preventDefault());
+    addEventListener("drop", (event) => {
+      if (!hasFiles(event)) return;
+      event.preventDefault();
+      this.drop([...event.dataTransfer.files]).catch((error) => this.status.say(error.message));
+    });
   }
 
   async add() {
     const { files } = await server.members("files");
-    if (!files.length) {
-      this.status.say("there is no stream in this folder");
+    if (files.length) await this.choose(files, files);
+    else this.status.say("there is no stream in this folder");
+  }
+
+  /** Opens a file that was dropped, where the server has it: a page learns its name and its bytes, and not its path. */
+  async drop(dropped) {
+    if (find("add-source").disabled || document.querySelector("dialog[open]")) return;
+    if (dropped.length !== 1) {
+      this.status.say("one file is opened at a time");
       return;
     }
-    const choices = files.map((file) => [namedFrom(file, files), file]);
+    const { name, size } = dropped[0];
+    const digest = await digestOf(dropped[0]);
+    const same = digest ? (await server.members(`same?name=${encodeURIComponent(name)}&size=${size}&sha256=${digest}`)).files : [];
+    if (same.length) await this.choose(same, (await server.members("files")).files);
+    else notice(`${name} is no stream in the folders of those that are open, or below them: move it there, or name it with --source`, { isBad: true, id: "dropped" });
+  }
+
+  /** Opens one of these streams, which are called as below the folder that `files` have in common. */
+  async choose(offered, files) {
+    const choices = offered.map((file) => [namedFrom(file, files), file]);
     const how = [
       ["the next source", "source"],
       ["a page of its own", "page"],
     ];
     const fields = [
-      { name: "file", label: "Stream", value: files[0], choices },
+      { name: "file", label: "Stream", value: offered[0], choices },
       { name: "how", label: "As", value: "source", choices: how },
     ];
     const found = await ask("Open another stream", "Open", fields, "Packets are copied from a source, and a script shows its frames. The stream itself is only read.");

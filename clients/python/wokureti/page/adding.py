@@ -1,5 +1,6 @@
 """Streams that are added to a session on its page: those in the folders of the streams that the command names."""
 
+import hashlib
 import os
 
 from ..tools import convert, muxing
@@ -31,6 +32,25 @@ def files_of(paths):
             if len(found) >= MOST_FILES:
                 return found[:MOST_FILES]
     return found
+
+
+def same_as(paths, name, size, digest):
+    """The streams of these folders that have this name, number of bytes and SHA-256."""
+    return [path for path in files_of(paths) if os.path.basename(path) == name and is_same(path, size, digest)]
+
+
+def is_same(path, size, digest):
+    """Whether a file has this number of bytes and this SHA-256."""
+    found = hashlib.sha256()
+    try:
+        with open(path, "rb") as file:
+            if os.fstat(file.fileno()).st_size != size:
+                return False
+            while piece := file.read(1 << 20):
+                found.update(piece)
+    except OSError:
+        return False
+    return found.hexdigest() == digest
 
 
 def add(live, path, stem):

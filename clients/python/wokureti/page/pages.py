@@ -89,6 +89,7 @@ class PageRoutes(Routes):
                 ("download",): self.download,
                 ("exported",): self.exported,
                 ("files",): self.list_files,
+                ("same",): self.same_files,
                 ("times",): self.times,
                 ("sound.webm",): self.sound,
             }
@@ -574,6 +575,12 @@ class PageRoutes(Routes):
         """The streams that can be added."""
         self.only(request)
         return as_json({"revision": self.live.revision, "files": adding.files_of(self.paths)})
+
+    def same_files(self, request):
+        """Those of these streams that are a file with this name, number of bytes and SHA-256."""
+        self.only(request, "name", "size", "sha256")
+        size = self.number(request, "size", 0)
+        return as_json({"revision": self.live.revision, "files": adding.same_as(self.paths, request.query.get("name"), size, request.query.get("sha256"))})
 
     def file_of(self, request):
         """The file of a body, which is one of these."""
