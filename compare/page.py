@@ -94,7 +94,7 @@ class Page:
         self.ready()
 
     def ready(self):
-        self.browser.wait("document.body.dataset.ready === 'yes'", seconds=60)
+        self.browser.wait("document.body.dataset.ready === 'yes'", seconds=300)
 
     def end(self):
         """Ends the command, and returns what it says."""
