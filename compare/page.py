@@ -376,10 +376,12 @@ def move_about(page):
     browser.wait("document.fullscreenElement && document.fullscreenElement.id === 'viewer'")
     browser.key("w")
     browser.wait("!document.fullscreenElement")
-    browser.run("document.getElementById('timeline').focus(); await wokureti.model.go(30)")
+    # On a busy machine it would end before the next key.
+    browser.run("document.getElementById('timeline').focus(); wokureti.player.isLoop = true; await wokureti.model.go(30)")
     for key, speed in (("l", 1), ("l", 2), ("j", -1), ("j", -2), ("k", 0), ("j", -1), ("k", 0)):
         browser.key(key)
         browser.wait(f"wokureti.player.speed === {speed}")
+    browser.run("wokureti.player.isLoop = false")
     say("moving: a selection snaps to a key packet, the picture at 4:1 is dragged, the whole screen, J K L")
 
 
