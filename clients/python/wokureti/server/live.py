@@ -8,6 +8,7 @@ import threading
 from ..tools import containers, facts, muxing, rooms
 from ..session.edit_files import NotWritten
 from ..session.errors import Ended, Lost, Refused
+from ..session.lines import lines_of
 from ..session.outcomes import Outcomes
 from ..tools.progress import say
 from .saves import Saves
@@ -244,7 +245,7 @@ class Live:
 
     def details(self, word, source, packet):
         """What `header` or `macroblocks` reports of a packet of a source now, line by line."""
-        return self.ask(lambda session: session.ask(f"{word} {packet}", source)).encode().split(b"\n")[1:]
+        return lines_of(self.ask(lambda session: session.ask(f"{word} {packet}", source)))
 
     def ask(self, function):
         """What a function returns of the session. If the program ended, it is started again, and asked again once."""

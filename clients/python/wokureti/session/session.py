@@ -2,7 +2,6 @@
 
 from __future__ import annotations
 
-import json
 import os
 import pathlib
 import threading
@@ -16,7 +15,7 @@ from .errors import Ended, Refused, Unexported
 from .frames import Frame, frame_of
 from .inputs import Inputs
 from .library import MOST_FILE, Library, NotExported, engine_of
-from .lines import EDITS, begins_reply, first_word, is_edit, is_refusal, plain, rest_of, words_of
+from .lines import EDITS, begins_reply, first_word, is_edit, is_refusal, objects_of, plain, rest_of, words_of
 from .pipes import Gone, Late, Pipes, Strange
 from .scripts import Script
 
@@ -592,11 +591,6 @@ def batches(lines):
             batch, size = [], 0
     if batch:
         yield batch
-
-
-def objects_of(reply):
-    """The objects of a reply of several lines."""
-    return [json.loads(line) for line in reply.split("\n")[1:]]
 
 
 def is_reply(reply, line):
