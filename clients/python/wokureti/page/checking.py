@@ -9,6 +9,8 @@ from ..session.lines import objects_of
 
 # The packets of the first question. Seconds that a question should take in the session of the stream, and in one of its own.
 FIRST, SHORT, LONG = 16, 0.03, 0.25
+# The least time of a question.
+LEAST = 0.0001
 # Each question reads from the last key packet on, and the time stamps of all packets. If that takes more seconds, a session of its own is asked.
 MOST_BEFORE = 0.1
 # Seconds between two questions: whoever waits for the session comes first.
@@ -68,7 +70,7 @@ class Pace:
     def slow_down(self, took, before):
         """After a question that was late, when the time that was taken before its packets was found."""
         self.before = before
-        each = max(took - before, self.short / 100) / self.count
+        each = max(took - before, LEAST) / self.count
         self.count = max(1, min(self.count, int(self.wanted / each)))
 
 
@@ -96,6 +98,11 @@ class Check:
         """Whether all packets were checked."""
         return self.is_over and not self.error and not self.stopped.is_set()
 
+    @property
+    def is_left(self):
+        """Whether it was left in the middle, so that another check of the same packets follows it."""
+        return self.stopped.is_set() or (self.has_ended and self.tries < MOST_TRIES)
+
     def stop(self):
         """Ends the check after the question that is asked now."""
         if not self.is_over:
@@ -110,6 +117,10 @@ class Check:
             self.has_ended, self.error = True, str(error)
         except (Earlier, Refused, OSError, ValueError) as error:
             self.error = str(error)
+        except BaseException as error:
+            # It must not look as if nothing was found.
+            self.error = repr(error)
+            raise
         finally:
             self.is_over = True
 

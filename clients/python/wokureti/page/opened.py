@@ -6,7 +6,7 @@ import threading
 import time
 
 from ..server import live
-from .checking import MOST_TRIES, Check, Stale, answer
+from .checking import Check, Stale, answer
 from ..session.errors import Ended, Lost, Refused
 from ..session.lines import first_word
 from ..session.origins import runs_of
@@ -187,7 +187,7 @@ class Opened(live.Live):
         """The check of the current stream, begun now if it is another one than that of the check before."""
         view = self.living_view()
         with self.check_lock:
-            if self.check is None or self.check.stopped.is_set() or not (self.check.is_of(view) or self.was_last_try(view)):
+            if self.check is None or self.check.is_left or not (self.check.is_of(view) or self.was_last_try(view)):
                 self.check = self.known_check(view) or self.new_check(view)
             return self.check
 
@@ -201,7 +201,7 @@ class Opened(live.Live):
 
     def was_last_try(self, view):
         """Whether the session ended with several checks of a revision: another one would end it again."""
-        return self.check.has_ended and self.check.tries >= MOST_TRIES and self.check.view.revision == view.revision
+        return self.check.has_ended and self.check.view.revision == view.revision
 
     def known_check(self, view):
         """A check of the same packets that is over: after undo, nothing is checked again."""

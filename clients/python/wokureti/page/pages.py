@@ -414,8 +414,7 @@ class PageRoutes(Routes):
         self.only(request, "from")
         check = self.live.checked()
         first = self.number(request, "from", 0)
-        # One that was stopped is followed by another one.
-        is_over = check.is_over and not check.stopped.is_set()
+        is_over = check.is_over and not check.is_left
         findings = check.findings[first:]
         members = {
             "revision": self.live.revision,
@@ -428,7 +427,7 @@ class PageRoutes(Routes):
             "done": check.done,
             "packets": len(check.stream),
             "over": is_over,
-            "failed": check.error,
+            "failed": check.error if is_over else None,
         }
         return as_json(members)
 
