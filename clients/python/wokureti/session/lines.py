@@ -62,6 +62,12 @@ def rest_of(reply):
     return reply.partition(" ")[2]
 
 
+def lines_in(text):
+    """The lines of a text of requests or of replies. The last one may lack its newline."""
+    lines = text.split("\n")
+    return lines if lines[-1] else lines[:-1]
+
+
 def lines_of(reply):
     """The lines of a reply after its first one."""
     return reply.split("\n")[1:]
