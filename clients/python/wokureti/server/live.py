@@ -201,7 +201,7 @@ class Live:
         """Writes the packets of a source, and returns the name of the file."""
         contents = self.contents()
         restamps = not self.keeps_stamps and contents.is_edited(source, contents.streams[source])
-        path = self.saves.save(source, contents, lambda path: contents.save(path, self.pad, source, restamps, self.sound, self.notice))
+        path = self.saves.save(source, contents, lambda path: self.session.save(path, self.pad, source, restamps, self.sound, self.notice))
         self.changed.notify_all()
         return path
 
