@@ -321,6 +321,25 @@ class Between(CheckCase):
                     time.sleep(0.01)
                 self.assertFalse(self.live.beside.is_open)
 
+    def test_a_source_is_added_during_a_check(self):
+        small_ranges(self)
+        with mock.patch.object(checking, "MOST_BEFORE", -1), mock.patch.object(checking.Pace, "is_late", return_value=True):
+            self.serve(self.broken(40))
+            held = self.waiting()
+            self.members("/check")
+            held.wait(self)
+            check, beside = self.live.check, self.live.beside
+            self.live.add_source(str(DATA / "odd-size.ivf"), "odd", ".ivf")
+            held.let.set()
+            limit = time.monotonic() + 10 * SLOW
+            while not check.is_over:
+                self.assertLess(time.monotonic(), limit)
+                time.sleep(0.01)
+            # The program that was closed was not started again.
+            self.assertFalse(beside.is_open)
+            self.await_list()
+            self.assertEqual(self.checked()["findings"], self.saved())
+
     def test_two_checks_one_after_the_other(self):
         small_ranges(self)
         self.serve(self.broken(40))

@@ -160,9 +160,6 @@ class Opened(live.Live):
     def close(self):
         if self.saves.named is None or self.is_known_saved():
             interrupt(self)
-        with self.check_lock:
-            if self.check is not None:
-                self.check.stop()
         for original in self.originals.values():
             interrupt(original)
             original.close()
@@ -170,6 +167,10 @@ class Opened(live.Live):
         super().close()
 
     def close_others(self):
+        # A check would start them again.
+        with self.check_lock:
+            if self.check is not None:
+                self.check.stop()
         for other in (self.preview, self.aside, self.beside, self.meanwhile):
             other.close()
 
