@@ -15,7 +15,7 @@ import unittest
 TOP = pathlib.Path(__file__).resolve().parents[3]
 sys.path.insert(0, str(TOP / "clients/python"))
 
-from wokureti import Session  # noqa: E402
+from wokureti import Refused, Session  # noqa: E402
 from wokureti.session import library  # noqa: E402
 from wokureti.tools import ivf, programs  # noqa: E402
 
@@ -45,6 +45,16 @@ def slowness():
 
 
 SLOW = slowness()
+
+
+def knows(question):
+    """Whether sessions answer a question: those of an earlier version may not."""
+    with Session() as session:
+        try:
+            session.ask(question)
+        except Refused:
+            return False
+        return True
 
 
 class Case(unittest.TestCase):

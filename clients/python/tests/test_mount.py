@@ -147,6 +147,9 @@ class Files(Case):
             self.assertEqual(list(self.live.session.edits), ["delete 3", "delete 6"])
             self.assertTrue(self.whole("edits.err"))
             self.assertEqual(self.whole("clip.ivf"), before)
+        # Only a newline ends a line, so these are comments.
+        folder.edit("# a page \f delete 3\n# a line \u2028delete 3\ndelete 2\n")
+        self.assertEqual(list(self.live.session.edits), ["delete 2"])
         folder.edit("")
         self.assertEqual((list(self.live.session.edits), "edits.err" in folder.names()), ([], False))
 

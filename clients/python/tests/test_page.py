@@ -19,7 +19,7 @@ import urllib.parse
 from array import array
 from unittest import mock
 
-from support import DATA, ENGINE, ODD, SLOW, SMALL, Case, children_of, command, crash, frames_of, list_of, packets_of, serve, start, write_packets
+from support import DATA, ENGINE, ODD, SLOW, SMALL, Case, children_of, command, crash, frames_of, knows, list_of, packets_of, serve, start, write_packets
 from test_serve import TOKEN, ServerCase
 from wokureti import Refused, Script, Session
 from wokureti.page import views
@@ -84,6 +84,8 @@ class PageCase(ServerCase):
         while True:
             found = self.members("/check")
             if found["over"]:
+                if "is an earlier one" in (found["failed"] or ""):
+                    self.skipTest("this vp8serve is an earlier one, without check FIRST COUNT")
                 self.assertIsNone(found["failed"])
                 return found
             self.assertLess(time.monotonic(), limit)
@@ -1013,6 +1015,7 @@ class Previews(PageCase):
         self.assertEqual(self.preview(lines=["hold 6"], frame=99999)[0], 404)
         self.assertEqual(self.preview(lines=["hold 6"], frame=9)[2].partition(b"\nFRAME\n")[2], wanted)
 
+    @unittest.skipUnless(knows("check 0 0"), "this vp8serve is an earlier one, without check FIRST COUNT")
     def test_findings_of_a_preview(self):
         self.serve(self.broken(), sources=[SCENES])
         for lines, kinds in ((["copy 1 5 5", "delete 6"], set()), ([], {"refused"})):

@@ -163,7 +163,7 @@ class Order(RepairCase):
 def serve_hold(width, height):
     from wokureti.tools import runs
 
-    return runs.saved_packets(programs.find("vp8serve"), [f"blank 0 {width} {height}", "hold 1"])[-1][1]
+    return runs.last_packet(programs.find("vp8serve"), [f"blank 0 {width} {height}", "hold 1"])
 
 
 class Second(RepairCase):

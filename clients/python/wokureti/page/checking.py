@@ -1,139 +1,191 @@
-"""vp8list --check in the background: its findings as they come, and how far it is. There is no question for findings yet, so the packets are written to another program."""
+"""A check of the packets in the background. The session is asked for the findings at some packets at a time, so that frames and edits do not wait long."""
 
-import contextlib
-import json
-import os
-import re
-import subprocess
 import threading
+import time
 
-from ..session import checks
+from . import file_findings
+from ..session.errors import Ended, Lost, Refused
+from ..session.lines import objects_of
 
-# The line of progress that vp8list shows on a terminal.
-PROGRESS = re.compile(rb"(\d+) of \d+ packets")
+# The packets of the first question. Seconds that a question should take in the session of the stream, and in one of its own.
+FIRST, SHORT, LONG = 16, 0.03, 0.25
+# The least time of a question.
+LEAST = 0.0001
+# Each question reads from the last key packet on, and the time stamps of all packets. If that takes more seconds, a session of its own is asked.
+MOST_BEFORE = 0.1
+# Seconds between two questions: whoever waits for the session comes first.
+PAUSE = 0.001
 # Findings that are stored, at most; those that follow are only counted.
 MOST_FINDINGS = 20000
+# Checks of the same revision with which the session ended, at most: it is not started again for ever.
+MOST_TRIES = 2
 # Kinds of findings that say that a packet decodes to other samples than were coded.
 INSIDE = ("past_end", "unread")
 
 
-def words_of(contents):
-    """The command line, which reads the stream from standard input."""
-    return [contents.lister, "-", "--check", "--json", *(["--tables", checks.path(contents.tables)] if contents.tables is not None else [])]
+class Stale(Exception):
+    """The check was stopped, or the session has other packets by now."""
+
+
+class Earlier(Exception):
+    """The session is one of an earlier version."""
+
+    def __init__(self):
+        super().__init__("this vp8serve is an earlier one, which has no question for findings: install version 0.13 or a later one")
+
+
+def answer(session, first, count):
+    """What `check` reports of packets of source 0: the findings, and their numbers."""
+    try:
+        reply = session.ask(f"check {first} {count}", 0)
+    except Refused as refused:
+        if refused.word == "Line":
+            raise Earlier from None
+        raise
+    *findings, numbers = objects_of(reply)
+    return findings, numbers
+
+
+class Pace:
+    """How many packets are asked for at a time, so that a question takes some seconds. `before` is how long it takes to read what is before its packets: a
+    question takes twice as long as that at least, or the whole check would take much longer than its packets."""
+
+    def __init__(self):
+        self.count, self.short, self.before = FIRST, SHORT, 0.0
+
+    @property
+    def wanted(self):
+        return max(self.short, 2 * self.before)
+
+    def is_late(self, took):
+        return took > 1.5 * (self.before + self.wanted)
+
+    def go_on(self, took):
+        """After a question that took so long, and was not late."""
+        if took < (self.before + self.wanted) / 2:
+            self.count *= 2
+        # It is less after the next key packet.
+        self.before /= 2
+
+    def slow_down(self, took, before):
+        """After a question that was late, when the time that was taken before its packets was found."""
+        self.before = before
+        each = max(took - before, LEAST) / self.count
+        self.count = max(1, min(self.count, int(self.wanted / each)))
 
 
 class Check:
-    """A check of a stream. `stream` is the list of packets of the view that it is of."""
+    """A check of source 0 of a view. `beside` is the session of its own, a `Preview`, and `tries` the checks of this revision with which the session ended."""
 
-    def __init__(self, view, number):
-        self.view, self.stream, self.number = view, view.streams[0], number
+    def __init__(self, view, number, beside, tries=0):
+        self.view, self.stream, self.number, self.beside, self.tries = view, view.streams[0], number, beside, tries
         self.findings, self.damage, self.notes = [], 0, 0
         # How many packets were checked, and the packets that are damaged inside.
         self.done, self.inside = 0, []
-        self.is_over, self.error = False, None
-        self.process = None
+        self.is_over, self.has_ended, self.error = False, False, None
+        # The edits, if the session of its own is asked.
+        self.lines = None
         self.stopped = threading.Event()
         threading.Thread(target=self.run, daemon=True).start()
 
     def is_of(self, view):
-        """Whether the packets of a view are those that are checked."""
+        """Whether the packets of a view are those that are checked. A session that was started again may have other packets by the same numbers."""
         stream = view.streams[0]
-        return self.stream is stream or self.stream == stream
+        return self.view.contents is view.contents and (self.stream is stream or self.stream == stream)
+
+    @property
+    def is_whole(self):
+        """Whether all packets were checked."""
+        return self.is_over and not self.error and not self.stopped.is_set()
+
+    @property
+    def is_left(self):
+        """Whether it was left in the middle, so that another check of the same packets follows it."""
+        return self.stopped.is_set() or (self.has_ended and self.tries < MOST_TRIES)
 
     def stop(self):
-        """Ends the check if it is not over."""
-        if self.is_over:
-            return
-        self.stopped.set()
-        process = self.process
-        if process is not None:
-            with contextlib.suppress(OSError):
-                process.kill()
+        """Ends the check after the question that is asked now."""
+        if not self.is_over:
+            self.stopped.set()
 
     def run(self):
         try:
             self.check()
-        except (OSError, ValueError) as error:
+        except Stale:
+            self.stopped.set()
+        except (Ended, Lost) as error:
+            self.has_ended, self.error = True, str(error)
+        except (Earlier, Refused, OSError, ValueError) as error:
             self.error = str(error)
+        except BaseException as error:
+            # It must not look as if nothing was found.
+            self.error = repr(error)
+            raise
         finally:
             self.is_over = True
 
     def check(self):
+        contents, pace = self.view.contents, Pace()
+        if self.beside.is_open:
+            # The stream is long, as was found before.
+            self.go_beside(pace)
+        self.take(file_findings.at_header(contents, self.stream, self.asked(self.first_size)))
+        while self.done < len(self.stream):
+            since = time.monotonic()
+            findings, numbers = self.ask(self.done, pace.count)
+            took = time.monotonic() - since
+            self.take(findings, numbers)
+            self.done = min(len(self.stream), self.done + pace.count)
+            self.adapt(pace, took)
+            time.sleep(PAUSE)
+        self.take(file_findings.at_end(contents, self.stream))
+
+    def adapt(self, pace, took):
+        if not pace.is_late(took):
+            pace.go_on(took)
+        elif self.done < len(self.stream):
+            since = time.monotonic()
+            self.ask(self.done, 0)
+            pace.slow_down(took, time.monotonic() - since)
+            if pace.before > MOST_BEFORE and self.lines is None:
+                self.go_beside(pace)
+
+    def go_beside(self, pace):
+        self.lines, pace.short = self.asked(lambda session: list(session.edits)), LONG
+
+    def ask(self, first, count):
+        """The findings at packets, and their numbers."""
+        if self.lines is None:
+            return self.asked(lambda session: answer(session, first, count))
+        if self.view.contents.streams[0] != self.stream:
+            raise Stale
+        return self.beside.check(self.lines, first, count, self.stopped)
+
+    def asked(self, function):
+        """What a function returns of the session of the stream, which has the packets that are checked."""
         contents = self.view.contents
-        item = contents.inputs.all[0]
-        ours, terminal = pseudo_terminal()
-        try:
-            # An unedited file is checked as it is, with the end of it that is no whole record.
-            as_it_is = item.descriptor is not None and len(self.stream) == len(item.records()) and not any(self.view.timeline(0).edited)
-            given = item.again() if as_it_is else subprocess.PIPE
-            try:
-                self.process = subprocess.Popen(
-                    words_of(contents), stdin=given, stdout=subprocess.PIPE, stderr=subprocess.DEVNULL if terminal is None else terminal
-                )
-            finally:
-                if as_it_is:
-                    os.close(given)
-        except BaseException:
-            if ours is not None:
-                os.close(ours)
-            raise
-        finally:
-            if terminal is not None:
-                os.close(terminal)
-        if self.stopped.is_set():
-            self.process.kill()
-        if not as_it_is:
-            threading.Thread(target=self.feed, daemon=True).start()
-        watcher = threading.Thread(target=self.watch, args=(ours,), daemon=True)
-        watcher.start()
-        with self.process.stdout as out:
-            for line in out:
-                self.take(json.loads(line))
-        status = self.process.wait()
-        watcher.join()
-        if status not in (0, 1) and not self.stopped.is_set():
-            raise OSError(f"vp8list --check ended with status {status}")
-        self.done = len(self.stream)
+        with contents.session.turn():
+            if self.stopped.is_set() or contents.session.edits.contents() is not contents or contents.streams[0] != self.stream:
+                raise Stale
+            return function(contents.session)
 
-    def feed(self):
-        """Writes the stream to the program."""
-        with contextlib.suppress(OSError, ValueError), self.process.stdin as file:
-            contents = self.view.contents
-            file.write(contents.inputs.all[0].head.text(len(self.stream)))
-            for piece in contents.records(self.stream):
-                file.write(piece)
-                if self.stopped.is_set():
-                    return
+    def first_size(self, session):
+        """The size of the first key packet that has one, as `list` has it, or None."""
+        keys = self.view.timeline(0).keys
+        place = keys.find(1)
+        while place >= 0:
+            size = session.packets(range(place, place + 1), 0)[0]["size"]
+            if size is not None:
+                return size
+            place = keys.find(1, place + 1)
+        return None
 
-    def watch(self, ours):
-        """Reads how far the program is."""
-        if ours is None:
-            return
-        with contextlib.suppress(OSError):
-            while piece := os.read(ours, 1 << 12):
-                found = PROGRESS.findall(piece)
-                if found:
-                    self.done = max(self.done, int(found[-1]))
-        os.close(ours)
-
-    def take(self, finding):
-        """Takes a finding."""
-        if finding["severity"] == "damage":
-            self.damage += 1
-        else:
-            self.notes += 1
-        place = finding["packet"]
-        if place is not None:
-            self.done = max(self.done, place)
-            if finding["kind"] in INSIDE:
-                self.inside.append(place)
-        if len(self.findings) < MOST_FINDINGS:
-            self.findings.append(finding)
-
-
-def pseudo_terminal():
-    """The two ends of a terminal, or None and None: without one the program does not say how far it is."""
-    try:
-        return os.openpty()
-    except OSError:
-        return None, None
+    def take(self, findings, numbers=None):
+        """Takes findings, of which some are damage and the others are notes."""
+        if numbers is None:
+            damage = sum(finding["severity"] == "damage" for finding in findings)
+            numbers = {"damage": damage, "notes": len(findings) - damage}
+        self.damage += numbers["damage"]
+        self.notes += numbers["notes"]
+        self.inside += [finding["packet"] for finding in findings if finding["kind"] in INSIDE]
+        self.findings += findings[: MOST_FINDINGS - len(self.findings)]

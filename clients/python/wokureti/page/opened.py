@@ -2,17 +2,13 @@
 
 import concurrent.futures
 import contextlib
-import json
 import threading
 import time
 
 from ..server import live
-from ..session import checks
-from ..tools import facts
-from .checking import Check
-from ..session.contents import packet_of
+from .checking import Check, Stale, answer
 from ..session.errors import Ended, Lost, Refused
-from ..session.lines import first_word, rest_of
+from ..session.lines import first_word
 from ..session.origins import runs_of
 from .views import Pool, View
 
@@ -37,8 +33,8 @@ class Opened(live.Live):
         self.pad = pad
         self.current, self.pool, self.known_runs = None, None, (None, None)
         self.check_lock, self.check, self.checks, self.count = threading.Lock(), None, [], 0
-        # Programs beside the one of the stream: of edits that are not made, and of packets that no frame shows.
-        self.originals, self.preview, self.aside, self.meanwhile = {}, Preview(options), Preview(options), Preview(options, 0)
+        # Programs beside the one of the stream: of edits that are not made, of packets that no frame shows, and of checks of long streams.
+        self.originals, self.preview, self.aside, self.beside, self.meanwhile = {}, Preview(options), Preview(options), Preview(options), Preview(options, 0)
         # While an edit is made: the revision before it, the rate of the frames, and the edits that were made by then.
         self.before = None
         # What goes on: a word, how much of it is done, of how much, and since when.
@@ -128,9 +124,8 @@ class Opened(live.Live):
     def forget(self):
         super().forget()
         self.current, self.pool = None, None
-        for other in (self.preview, self.aside, self.meanwhile):
-            other.close()
-        self.preview, self.aside, self.meanwhile = Preview(self.options), Preview(self.options), Preview(self.options, 0)
+        self.close_others()
+        self.preview, self.aside, self.beside, self.meanwhile = Preview(self.options), Preview(self.options), Preview(self.options), Preview(self.options, 0)
         threading.Thread(target=self.list_files, daemon=True).start()
 
     # Edits
@@ -165,15 +160,19 @@ class Opened(live.Live):
     def close(self):
         if self.saves.named is None or self.is_known_saved():
             interrupt(self)
-        with self.check_lock:
-            if self.check is not None:
-                self.check.stop()
         for original in self.originals.values():
             interrupt(original)
             original.close()
-        for other in (self.preview, self.aside, self.meanwhile):
-            other.close()
+        self.close_others()
         super().close()
+
+    def close_others(self):
+        # A check would start them again.
+        with self.check_lock:
+            if self.check is not None:
+                self.check.stop()
+        for other in (self.preview, self.aside, self.beside, self.meanwhile):
+            other.close()
 
     def is_known_saved(self):
         """Whether there is nothing to save at the end, without waiting for a request that goes on."""
@@ -187,22 +186,37 @@ class Opened(live.Live):
 
     def checked(self):
         """The check of the current stream, begun now if it is another one than that of the check before."""
-        view = self.current_view()
+        view = self.living_view()
         with self.check_lock:
-            if self.check is None or self.check.error or not self.check.is_of(view):
+            if self.check is None or self.check.is_left or not (self.check.is_of(view) or self.was_last_try(view)):
                 self.check = self.known_check(view) or self.new_check(view)
             return self.check
 
+    def living_view(self):
+        """The view of the current revision, of a session that answers."""
+        view = self.current_view()
+        if view.contents.session.is_over:
+            self.ask(lambda session: None)
+            view = self.current_view()
+        return view
+
+    def was_last_try(self, view):
+        """Whether the session ended with several checks of a revision: another one would end it again."""
+        return self.check.has_ended and self.check.view.revision == view.revision
+
     def known_check(self, view):
         """A check of the same packets that is over: after undo, nothing is checked again."""
-        return next((check for check in self.checks if check.is_over and not check.error and check.is_of(view)), None)
+        return next((check for check in self.checks if check.is_whole and check.is_of(view)), None)
 
     def new_check(self, view):
+        tries = 0
         if self.check is not None:
             self.check.stop()
+            if self.check.has_ended and self.check.view.revision == view.revision:
+                tries = self.check.tries + 1
         self.count += 1
-        check = Check(view, self.count)
-        self.checks = [check, *(old for old in self.checks if old.is_over and not old.stopped.is_set())][:MOST_CHECKS]
+        check = Check(view, self.count, self.beside, tries)
+        self.checks = [check, *(old for old in self.checks if old.is_whole)][:MOST_CHECKS]
         return check
 
     def original(self, source):
@@ -270,19 +284,22 @@ class Preview:
             return self.live.picture(frame)
 
     def findings(self, lines, packet):
-        """What vp8list --check says of the group of pictures that has a packet of source 0, after these edits."""
+        """The findings at the group of pictures that has a packet of source 0, after these edits."""
         with self.lock:
             self.follow(lines)
-            contents = self.live.contents()
-            first, end = self.live.ask(lambda session: group_of(session, packet))
-            answers = self.live.ask(lambda session: session.ask_all([f"packet {index}" for index in range(first, end)], 0))
-            packets = [packet_of(rest_of(answer)) for answer in answers]
-        tables = [] if contents.tables is None else ["--tables", checks.path(contents.tables)]
-        found = [json.loads(line) for line in facts.run_on(contents.lister, packets, "--check", "--json", *tables, statuses=(0, 1))]
-        found = [finding for finding in found if finding["packet"] is not None]
-        for finding in found:
-            finding["packet"] += first
-        return found
+            return self.live.ask(lambda session: findings_of(session, *group_of(session, packet)))
+
+    @property
+    def is_open(self):
+        return self.live is not None
+
+    def check(self, lines, first, count, stopped):
+        """What `check` reports of packets of source 0 after these edits. `Stale` if the check was stopped: a closed program is not started again for it."""
+        with self.lock:
+            if stopped.is_set():
+                raise Stale
+            self.follow(lines)
+            return self.live.ask(lambda session: answer(session, first, count))
 
     def close(self):
         if self.live is not None:
@@ -297,6 +314,11 @@ def interrupt(stream):
     """Ends the program of a stream that is closed, also in the middle of a frame."""
     stream.closed = True
     stream.session.kill()
+
+
+def findings_of(session, first, end):
+    """The findings at packets of source 0, from one index to another."""
+    return answer(session, first, end - first)[0]
 
 
 def frame_at(session, source, packet):

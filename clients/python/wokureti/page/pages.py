@@ -12,6 +12,7 @@ import time
 from . import adding, others
 from ..session import records
 from ..tools import exports, ivf, muxing, repair
+from .checking import Earlier
 from .clipboard import Clipboard, Gone, numbers_of, runs_of
 from ..tools.differences import Lasting
 from ..session.errors import Ended, Refused
@@ -401,7 +402,7 @@ class PageRoutes(Routes):
         """The macroblocks of a packet, in raster order, as objects of the question `macroblocks`."""
         lines, members = self.lines_of(request, "macroblocks")
         # Thousands of lines that are JSON are not read here to be written again.
-        text = json.dumps(members).encode()[:-1] + b', "macroblocks": [' + b",".join(lines) + b"]}\n"
+        text = f'{json.dumps(members)[:-1]}, "macroblocks": [{",".join(lines)}]}}\n'.encode()
         return Response(200, "application/json", text)
 
     def header(self, request):
@@ -414,7 +415,7 @@ class PageRoutes(Routes):
         self.only(request, "from")
         check = self.live.checked()
         first = self.number(request, "from", 0)
-        is_over = check.is_over
+        is_over = check.is_over and not check.is_left
         findings = check.findings[first:]
         members = {
             "revision": self.live.revision,
@@ -427,7 +428,7 @@ class PageRoutes(Routes):
             "done": check.done,
             "packets": len(check.stream),
             "over": is_over,
-            "failed": check.error,
+            "failed": check.error if is_over else None,
         }
         return as_json(members)
 
@@ -522,7 +523,10 @@ class PageRoutes(Routes):
         with self.live.lock:
             made = list(self.live.alive().edits)
         if "findings" in members:
-            found = self.live.preview.findings(made + lines, members["findings"])
+            try:
+                found = self.live.preview.findings(made + lines, members["findings"])
+            except Earlier as error:
+                raise Refuse(409, str(error)) from None
             return as_json({"revision": view.revision, "findings": found})
         if "packet" in members:
             source, packet = members.get("source", 0), members["packet"]

@@ -12,7 +12,7 @@ from ..tools import ivf, png
 from ..session.errors import Refused
 from ..session.frames import MARK, frame_of
 from ..session.lines import EDITS as EDIT_WORDS
-from ..session.lines import first_word
+from ..session.lines import first_word, lines_in, lines_of
 from .live import Changed
 from ..session.outcomes import TooMany
 from .virtual import Cannot, Clip
@@ -156,7 +156,8 @@ class Revision:
             if name == EDITS:
                 return Text("".join(f"{line}\n" for line in live.session.edits).encode())
             if name == FACTS:
-                return Text(live.ask(lambda session: session.ask(f"list 0 {len(contents.streams[0])}", 0)).partition("\n")[2].encode() + b"\n" * bool(contents.streams[0]))
+                found = live.ask(lambda session: session.ask(f"list 0 {len(contents.streams[0])}", 0))
+                return Text("".join(f"{line}\n" for line in lines_of(found)).encode())
             if name in CONTAINERS:
                 return self.container(contents, name)
         if name == CLIP:
@@ -237,7 +238,7 @@ class Folder:
 
     def edit(self, text):
         """Makes the list of edits this text. `ValueError` if an edit is refused; the list is then as it was, and the reason is in a file."""
-        lines = [line.strip() for line in text.splitlines()]
+        lines = [line.strip() for line in lines_in(text)]
         lines = [line for line in lines if line and not line.startswith("#")]
         try:
             for line in lines:

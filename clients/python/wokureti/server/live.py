@@ -8,6 +8,7 @@ import threading
 from ..tools import containers, facts, muxing, rooms
 from ..session.edit_files import NotWritten
 from ..session.errors import Ended, Lost, Refused
+from ..session.lines import lines_of
 from ..session.outcomes import Outcomes
 from ..tools.progress import say
 from .saves import Saves
@@ -200,7 +201,7 @@ class Live:
         """Writes the packets of a source, and returns the name of the file."""
         contents = self.contents()
         restamps = not self.keeps_stamps and contents.is_edited(source, contents.streams[source])
-        path = self.saves.save(source, contents, lambda path: contents.save(path, self.pad, source, restamps, self.sound, self.notice))
+        path = self.saves.save(source, contents, lambda path: self.session.save(path, self.pad, source, restamps, self.sound, self.notice))
         self.changed.notify_all()
         return path
 
@@ -244,7 +245,7 @@ class Live:
 
     def details(self, word, source, packet):
         """What `header` or `macroblocks` reports of a packet of a source now, line by line."""
-        return self.ask(lambda session: session.ask(f"{word} {packet}", source)).encode().split(b"\n")[1:]
+        return lines_of(self.ask(lambda session: session.ask(f"{word} {packet}", source)))
 
     def ask(self, function):
         """What a function returns of the session. If the program ended, it is started again, and asked again once."""

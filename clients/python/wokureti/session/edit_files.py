@@ -92,14 +92,6 @@ class EditFile:
             self.known = signature(os.fstat(self.descriptor))
         self.size = at
 
-    def reopen(self):
-        """Opens the file again after `close`, to try again later. Whether it could be."""
-        try:
-            self.descriptor, _ = open_locked(self.path, False)
-        except (OSError, ValueError):
-            return False
-        return True
-
     def close(self):
         """A file that was made here goes if it has nothing, as long as it is locked: nobody else has it then."""
         try:

@@ -19,7 +19,7 @@ from .contents import Contents
 from .edit_files import EditFile, NotWritten
 from .errors import OtherStream, Refused, sentence
 from ..tools.files import write_whole
-from .lines import first_word, is_edit, plain, question_before, rest_of, words_of
+from .lines import first_word, is_edit, lines_in, plain, question_before, rest_of, words_of
 
 STEP = re.compile(r"# step (\d{1,9})(?: (.*))?")
 STREAM = re.compile(r"# wokureti: edits of (\d+) packets, (\d+) bytes, sha256 ([0-9a-f]{64})")
@@ -52,8 +52,7 @@ def parsed(text, step=0):
     """The edits of the text of a list as entries, the number of the line of each, and the lines after the last one. Steps are numbered from
     `step` + 1 on."""
     entries, numbers, before, left, title = [], [], "", 0, ""
-    lines = text.split("\n")
-    for number, line in enumerate(lines if lines[-1] else lines[:-1], 1):
+    for number, line in enumerate(lines_in(text), 1):
         if not is_edit(line):
             before += f"{line}\n"
             found = STEP.fullmatch(line.removesuffix("\r"))
@@ -156,7 +155,7 @@ class EditList:
             return
         text = self._file.text()
         if text and not text.endswith("\n"):
-            last = text.splitlines()[-1]
+            last = lines_in(text)[-1]
             raise ValueError(f"{self.path}: the last line has no newline, so it may be cut off: {last[:80]!r}. End the line, or delete it")
         entries, numbers, after = self._parsed(text, self.path)
         self._replay(entries, self.path, numbers)
@@ -164,7 +163,7 @@ class EditList:
         self._know_all()
         self._step = entries[-1].step if entries else 0
         place = 0
-        lines = text.split("\n")[:-1]
+        lines = lines_in(text)
         for before, number in zip([0, *numbers], numbers):
             place += sum(len(line.encode()) + 1 for line in lines[before:number])
             self._ends.append(place)

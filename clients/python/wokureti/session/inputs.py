@@ -126,14 +126,6 @@ class Input:
             raise OSError(f"{self.path} is not open any more")
         return self.descriptor
 
-    def again(self):
-        """The file, opened again: it stays open when the session ends."""
-        found = os.open(f"/dev/fd/{self.opened()}", os.O_RDONLY | os.O_CLOEXEC)
-        if self.sign(os.fstat(found)) != self.signature:
-            os.close(found)
-            raise OSError(f"{self.path} was changed, or is not open any more")
-        return found
-
     def read(self, number, size=None):
         """The bytes of a packet, or the first ones of them."""
         index = self.records()

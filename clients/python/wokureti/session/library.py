@@ -13,6 +13,7 @@ import weakref
 from ..tools import ivf, programs, versions
 from ..tools.files import write_whole
 from .frames import MARK, size_of
+from .lines import is_refusal, words_of
 from .pipes import Gone, Late, Strange
 
 NAME = "libwokureti.so.0"
@@ -190,9 +191,9 @@ class Engine:
         if status != OK:
             raise Strange(f"out of memory for a reply ({status})")
         reply = self.text().decode(errors="replace").rstrip("\n")
-        if self.explains and reply.startswith("refused "):
+        if self.explains and is_refusal(reply):
             self.reasons.append(self.reason())
-        return reply, self.picture(int(reply.split()[1])) if reply.startswith("served ") else None
+        return reply, self.picture(int(words_of(reply)[1])) if reply.startswith("served ") else None
 
     def picture(self, number):
         """A frame that was just served, into new memory."""

@@ -1,5 +1,7 @@
 """Request lines, replies and scripts as words: the only place where the client splits them. docs/requests.md has the requests."""
 
+import json
+
 # The requests that change something.
 EDITS = frozenset(("use", "insert", "replace", "delete", "move", "copy", "blank", "hold", "hide", "show", "script"))
 # The requests that are not edits, and the first word of their replies. The reply to an edit begins with `ok`.
@@ -58,6 +60,22 @@ def is_refusal(reply):
 def rest_of(reply):
     """A reply without its first word."""
     return reply.partition(" ")[2]
+
+
+def lines_in(text):
+    """The lines of a text of requests or of replies. The last one may lack its newline."""
+    lines = text.split("\n")
+    return lines if lines[-1] else lines[:-1]
+
+
+def lines_of(reply):
+    """The lines of a reply after its first one."""
+    return reply.split("\n")[1:]
+
+
+def objects_of(reply):
+    """The objects of a reply of several lines."""
+    return list(map(json.loads, lines_of(reply)))
 
 
 def nodes_of(script):

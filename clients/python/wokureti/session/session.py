@@ -2,7 +2,6 @@
 
 from __future__ import annotations
 
-import json
 import os
 import pathlib
 import threading
@@ -11,12 +10,13 @@ from typing import Any, Callable, ContextManager, Iterable, Iterator, NamedTuple
 
 from . import checks
 from ..tools import exports, files, muxing, programs
+from ..tools.progress import say
 from .edits import EditList
 from .errors import Ended, Refused, Unexported
 from .frames import Frame, frame_of
 from .inputs import Inputs
 from .library import MOST_FILE, Library, NotExported, engine_of
-from .lines import EDITS, begins_reply, first_word, is_edit, is_refusal, plain, rest_of, words_of
+from .lines import EDITS, begins_reply, first_word, is_edit, is_refusal, objects_of, plain, rest_of, words_of
 from .pipes import Gone, Late, Pipes, Strange
 from .scripts import Script
 
@@ -510,12 +510,13 @@ class Session:
             contents = self._edits.contents()
             return contents.shown_kinds(0) if contents.script == "-" else None
 
-    def save(self, path: AnyPath, pad: bool = False, source: int = 0, restamp: bool = False, sound: Optional[str] = None) -> None:
+    def save(self, path: AnyPath, pad: bool = False, source: int = 0, restamp: bool = False, sound: Optional[str] = None, say: Callable[[str], None] = say) -> None:
         """Writes the current packets of a source as an IVF file now, as `--save` does at the end; with `restamp` with new time stamps, by which each
         shown packet stays as long as in its file.
 
         If the path ends in `.webm` or `.mkv`, the time stamps are new ones, and the sound of the files is cut with the packets: `sound` is `copy`,
-        `encode` or `none`; without it packets of sound are copied where that is exact, else coded again. `ValueError` if it cannot be done."""
+        `encode` or `none`; without it packets of sound are copied where that is exact, else coded again. `ValueError` if it cannot be done.
+        `say` is called with sentences about it."""
         with self._locked(None) as deadline:
             contents = self._edits.contents()
             number = contents.source(source)
@@ -523,7 +524,7 @@ class Session:
                 contents.check_output(path)
                 files.write_whole(path, [self._file(lambda: self._pipes.saved(pad, number, restamp, deadline))])
             else:
-                contents.save(path, pad, number, restamp, sound)
+                contents.save(path, pad, number, restamp, sound, say)
 
     def export(self, path: AnyPath, pad: bool = False, timeout: Optional[float] = None) -> None:
         """Writes the frames of the current script as an IVF file now, as `vp8serve --export` does: without coding again. `Unexported` if a frame is
@@ -592,11 +593,6 @@ def batches(lines):
             batch, size = [], 0
     if batch:
         yield batch
-
-
-def objects_of(reply):
-    """The objects of a reply of several lines."""
-    return [json.loads(line) for line in reply.split("\n")[1:]]
 
 
 def is_reply(reply, line):

@@ -1,4 +1,4 @@
-"""What vp8list says of a file, or of packets that are not those of a session: those that `wokureti repair` mends, and findings, for which there is no question yet."""
+"""What vp8list says of a file, or of packets that are not those of a session: those that `wokureti repair` mends."""
 
 import os
 import subprocess

@@ -12,7 +12,7 @@ from typing import NamedTuple
 
 from . import ivf
 from ..session.errors import Refused
-from ..session.lines import words_of
+from ..session.lines import lines_in, words_of
 
 # Parts a process: so that one long part holds up no process.
 PARTS_A_PROCESS = 4
@@ -143,7 +143,7 @@ class Room:
     def refusals(self, number, part):
         """The replies that refuse a frame of a part, as one run over the whole stream gives them."""
         with open(self.path(number, "replies"), encoding="utf-8", errors="replace") as file:
-            replies = file.read().splitlines()
+            replies = lines_in(file.read())
         leads = part.first > self.first.number
         if len(replies) != part.end - part.first + leads + (part.packets is None):
             raise ValueError(f"part {number} has {len(replies)} replies")

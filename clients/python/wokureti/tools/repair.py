@@ -174,7 +174,7 @@ class Repair:
         key = (word, width, height)
         if key not in self.forged:
             lines = [f"blank 0 {width} {height}"] + ["hold 1"] * (word == "hold")
-            data = runs.saved_packets(self.program, lines, self.tables)[-1][1]
+            data = runs.last_packet(self.program, lines, self.tables)
             self.forged[key] = data + b"\0" * (word == "hold")
         return self.forged[key]
 

@@ -3,9 +3,10 @@
 import os
 import subprocess
 
-from . import ivf, programs, rooms
+from . import programs, rooms
 from ..session import checks
 from ..session.errors import Ended
+from ..session.lines import is_refusal, lines_in, words_of
 
 # Seconds.
 MOST_TIME = 60
@@ -22,20 +23,18 @@ def run(words, lines=()):
         raise Ended(None, f"{words[0]} took longer than {MOST_TIME} seconds") from None
     if done.returncode != 0:
         raise Ended(done.returncode, done.stderr.decode(errors="replace").strip())
-    return done.stdout.decode(errors="replace").splitlines()
+    return lines_in(done.stdout.decode(errors="replace"))
 
 
-def saved_packets(program, lines, tables=None):
-    """The packets that the program saves after these requests on an empty stream."""
-    with rooms.Room() as folder:
-        path = os.path.join(folder, "saved.ivf")
-        words = [program, "-", "-", "-", "--save", path]
-        if tables is not None:
-            words += ["--tables", checks.path(tables)]
-        for line, reply in zip(lines, run(words, lines)):
-            if not reply.startswith("ok "):
-                raise Ended(0, f"{line}: {reply}")
-        return ivf.read_packets(path)[1]
+def last_packet(program, lines, tables=None):
+    """The bytes of the last packet after these edits of an empty stream, each of which inserts one."""
+    words = [program, "-", "-", "-", *([] if tables is None else ["--tables", checks.path(tables)])]
+    lines = [*lines, f"packet {len(lines) - 1}"]
+    replies = run(words, lines)
+    for line, reply in zip(lines, replies):
+        if is_refusal(reply):
+            raise Ended(0, f"{line}: {reply}")
+    return bytes.fromhex(words_of(replies[-1])[2])
 
 
 def padded(program, pieces):

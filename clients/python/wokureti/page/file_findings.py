@@ -1,0 +1,48 @@
+"""The findings of vp8list --check at the header and at the end of a file. They are of no packet, so no session answers them, and vp8list would check the
+packets too: so they are found here a second time."""
+
+import os
+
+from ..tools import ivf
+
+
+def finding(severity, kind, **numbers):
+    return {"packet": None, "frame": None, "kind": kind, **numbers, "severity": severity}
+
+
+def sides(size):
+    return "x".join(map(str, size))
+
+
+def at_header(contents, stream, size):
+    """Those at the header of the file, or of that of a save if the packets were edited. `size` is the one of the first key packet, as `list` has it, or None."""
+    item, found = contents.inputs.all[0], []
+    if is_whole(contents, stream):
+        claimed = int.from_bytes(os.pread(item.opened(), ivf.HEAD.size, 0)[24:28], "little")
+        if claimed != len(stream):
+            found.append(finding("note", "frame_count", claimed=claimed, packets=len(stream)))
+    head = item.head
+    if size is not None and size != sides(head[:2]):
+        found.append(finding("note", "frame_size", claimed=sides(head[:2]), size=size))
+    if not head.rate or not head.scale:
+        found.append(finding("note", "no_rate", rate=head.rate, scale=head.scale))
+    return found
+
+
+def at_end(contents, stream):
+    """Those at the end of the file, if the packets are all of its whole records."""
+    if not is_whole(contents, stream):
+        return []
+    item = contents.inputs.all[0]
+    index, descriptor = item.records(), item.opened()
+    begins = index.starts[-1] + index.sizes[-1] if len(index) else ivf.parse_head(os.pread(descriptor, ivf.HEAD.size, 0))[1]
+    left = os.fstat(descriptor).st_size - begins
+    if left <= 0:
+        return []
+    claimed = os.pread(descriptor, 4, begins)
+    return [finding("damage", "cut_record", record=len(stream), byte=begins, claimed=int.from_bytes(claimed, "little") if len(claimed) == 4 else None, left=left)]
+
+
+def is_whole(contents, stream):
+    """Whether the packets are those of a file as they are in it."""
+    return contents.inputs.all[0].descriptor is not None and not contents.is_edited(0, stream)
