@@ -13,6 +13,8 @@ import pathlib
 import re
 import sys
 
+import results
+
 TOP = pathlib.Path(__file__).resolve().parent.parent
 USE = re.compile(r"^use Rattle\.([a-z_0-9]+)\.specs\.([A-Z]\w*)", re.M)
 
@@ -144,9 +146,9 @@ def main():
     code = [line for line in lines if line.strip() and not line.startswith(("use ", "--"))]
     others = [*unknown_names(), *long_definitions(), *wrong_figures(counted(len(lines), len(code), len(wanted)))]
     print(*others, sep="\n", end="\n" if others else "")
-    if "--quiet" not in sys.argv:
-        print(f"{len(wanted)} files, {len(lines)} lines, {len(code)} of them without comments, imports and empty ones")
-    return 1 if gone or missing or more or others else 0
+    is_wrong = bool(gone or missing or more or others)
+    results.total(f"{len(wanted)} files, {len(lines)} lines, {len(code)} of them without comments, imports and empty ones", is_wrong, version=results.sources())
+    return 1 if is_wrong else 0
 
 
 if __name__ == "__main__":

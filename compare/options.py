@@ -16,6 +16,7 @@ import tempfile
 
 from checked import PARTITION, lines as findings
 from listed import lines as listed
+import results
 from library.conformance import objects
 from library.ivf import packets_of
 from macroblocks import cell, rows_of
@@ -241,6 +242,7 @@ def main():
     check_full()
     check_lines_of_messages()
     print(*wrong, sep="\n", end="\n" if wrong else "")
+    results.total(f"{len(STREAMS)} streams, {len(wrong)} differences", wrong)
     return 1 if wrong else 0
 
 
