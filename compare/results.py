@@ -20,6 +20,8 @@ from library.programs import TOP, VP8LIST, VP8SERVE
 FILE = pathlib.Path(__file__).resolve().parent / "results.txt"
 HEAD = "# script and arguments | total | version that was compared | day; written by results.py\n"
 SILENT = {"--quiet", "--help", "-h"}
+# Options that say how many, and make no other kind of run.
+SIZES = {"--cuts", "--lists", "--reads", "--scripts", "--seed"}
 # Scripts change the current folder.
 PROGRAMS = [path.resolve() for path in (VP8SERVE, VP8LIST)]
 # Seconds to wait for another run, which may have been stopped while it writes.
@@ -62,7 +64,7 @@ def command(words):
 def kind(line):
     """What two lines have in common of which the later one is kept."""
     script, *words = line.partition(" | ")[0].split() or [""]
-    return script, sorted({word.partition("=")[0] for word in words if word.startswith("-")}), any(map(is_name, words))
+    return script, sorted({word.partition("=")[0] for word in words if word.startswith("-")} - SIZES), any(map(is_name, words))
 
 
 def sources():

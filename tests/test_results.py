@@ -90,6 +90,7 @@ def check_lines():
     """A line of the same kind is replaced, the others stay; what differs, --quiet and --help write nothing."""
     for words, replaced, line in (
         (["/somewhere/clips.py", "40", "7"], 1, "clips.py 40 7"),
+        (["clips.py", "--seed", "7", "--lists=9"], 1, "clips.py --seed 7 --lists=9"),
         (["listed.py", "a.ivf", "/b/c|d\n.ivf"], 2, "listed.py a.ivf c d .ivf"),
         (["listed.py", "--damage=9"], 3, "listed.py --damage=9"),
         (["clips.py", "--new", "1", "2", "3", "4", "5"], None, "clips.py --new 1 2 3 4 5"),
