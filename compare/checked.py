@@ -18,6 +18,7 @@ import subprocess
 import sys
 import tempfile
 
+import results
 from library.corrupt import padded, verdicts
 from library.damage import damage
 from library.headers import copies_of, facts
@@ -278,7 +279,7 @@ def main():
         wrong, count = damaged_streams(int(words[1]), int(words[2]) if words[2:] else 1), int(words[1])
     else:
         wrong, count = sum(differs(pathlib.Path(word)) for word in words), len(words)
-    print(f"{count} checks, {wrong} differ")
+    results.total(f"{count} checks, {wrong} differ", wrong)
     sys.exit(wrong > 0)
 
 

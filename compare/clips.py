@@ -12,6 +12,7 @@ import subprocess
 import sys
 import tempfile
 
+import results
 from library.clips import SIZES, SOURCES, drawn, kinds_of, settings
 from library.frames import frames_of
 from library.ivf import packets_of
@@ -66,7 +67,7 @@ def main():
             if fault:
                 differing += 1
                 print(fault, flush=True)
-    print(f"{frames} frames of {count} clips; {differing} clips differ")
+    results.total(f"{frames} frames of {count} clips; {differing} clips differ", differing, told)
     print("packets: " + ", ".join(f"{kind} {number}" for kind, number in sorted(told.items())))
     return 1 if differing else 0
 

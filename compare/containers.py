@@ -27,6 +27,7 @@ import time
 TOP = pathlib.Path(__file__).resolve().parent.parent
 sys.path.insert(0, str(TOP / "clients/python"))
 
+import results  # noqa: E402
 from library import firefox  # noqa: E402
 from wokureti import Session  # noqa: E402
 from wokureti.tools import containers, exports, ivf, programs  # noqa: E402
@@ -229,7 +230,7 @@ def main():
         versions = [f"{name} {player.browser.version}" for name, player in players.items()]
     skipped = [name for name in ("mkvinfo", *READERS, "ffplay") if name not in tools] + [name for name in ("chromium", "firefox") if name not in players]
     print(*(f"skipped: {name}" for name in skipped), sep="\n", end="\n" if skipped else "")
-    print(f"{counts['files']} files, {counts['frames']} frames, by {', '.join([*tools, *versions])}: {wrong} wrong")
+    results.total(f"{counts['files']} files, {counts['frames']} frames, by {', '.join([*tools, *versions])}: {wrong} wrong", wrong)
     return 1 if wrong else 0
 
 

@@ -25,6 +25,7 @@ import subprocess
 import sys
 import tempfile
 
+import results
 from library.clips import SIZES, SOURCES, drawn, settings
 from library.damage import begins_with_ff, damage, padded
 from library.ivf import has_key_tag, is_shown, ivf, packets_of
@@ -176,7 +177,7 @@ def main():
                     kept = pathlib.Path(tempfile.gettempdir()) / f"damaged-{streams}.ivf"
                     kept.write_bytes(ivf(width, height, packets))
                     print(f"{kept}: frames {faults} DIFFER", flush=True)
-    print(f"{streams} streams; {differing} differ")
+    results.total(f"{streams} streams; {differing} differ", differing, told)
     print(", ".join(f"{kind} {number}" for kind, number in sorted(told.items())))
     return 1 if differing else 0
 

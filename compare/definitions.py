@@ -4,7 +4,7 @@
 The contract of `run` speaks of `Means` (frame_session, Answers). The files that it stands on are those whose definitions it uses, by
 the `use` lines, down to the lowest crate. The first part of docs/definitions.md must name each of them and no other, and each file that
 it names anywhere must exist. Each word in backquotes of definitions.md, proofs.md and architecture.md must be one of the sources, and the
-numbers of files, lines, crates, wrong bodies, clips and streams must be those that are counted here. No definition has more than ten lines
+numbers of files, lines, crates, wrong bodies, clips, streams and points must be those that are counted here. No definition has more than ten lines
 besides one for each case, field or element. With --quiet it prints what is wrong only. The gate runs it.
 """
 
@@ -12,6 +12,8 @@ import functools
 import pathlib
 import re
 import sys
+
+import results
 
 TOP = pathlib.Path(__file__).resolve().parent.parent
 USE = re.compile(r"^use Rattle\.([a-z_0-9]+)\.specs\.([A-Z]\w*)", re.M)
@@ -53,7 +55,12 @@ FIGURES = (
     ("docs/definitions.md", r"these ([\d,]+) files, ([\d,]+) lines with comments and imports", ("files", "lines")),
     ("docs/proofs.md", r"There are ([\d,]+) crates and ([\d,]+) wrong bodies", ("crates", "wrong bodies")),
     ("docs/proofs.md", r"every frame of ([\d,]+) clips", ("clips",)),
+    ("conformance/README.md", r"([\d,]+) small streams that reach ([\d,]+) points", ("streams", "reached")),
+    ("conformance/README.md", r"Streams of ([\d,]+) \| Frames of ([\d,]+) \| Points of ([\d,]+)", ("streams of libvpx", "frames of libvpx", "possible")),
+    ("conformance/README.md", r"Streams of ([\d,]+) \| Points that only .* \| Clips of ([\d,]+)", ("streams", "clips")),
+    ("conformance/README.md", r"([\d,]+) points are reached in `beyond/` alone", ("beyond",)),
 )
+CONFORMANCE = TOP / "conformance"
 
 
 @functools.lru_cache(maxsize=None)
@@ -86,8 +93,38 @@ def counted(lines, code, files):
         "crates": sum(1 for path in (TOP / "crates").iterdir() if (path / "src").is_dir()),
         "wrong bodies": sum(1 for _ in (TOP / "crates").glob("*/must-fail/*.edit")),
         "clips": len(list((TOP / "crates/gate_clips/data").glob("*.ivf"))),
-        "streams": len(list((TOP / "conformance/streams").rglob("*.ivf"))),
+        **conformance(),
     }
+
+
+def points():
+    """The lines of each group of conformance/points: a point, the first stream that reaches it or `-`, and why none can."""
+    for path in sorted((CONFORMANCE / "points").glob("*.txt")):
+        head, *lines = path.read_text(encoding="utf-8").splitlines()
+        yield head[2:].partition(" (")[0], [line.split("\t") for line in lines]
+
+
+def conformance():
+    """The numbers of streams, of the frames that libvpx shows of them, and of points."""
+    streams, beyond = CONFORMANCE / "streams", {path.stem for path in (CONFORMANCE / "streams/beyond").glob("*.ivf")}
+    rows = [row for _, lines in points() for row in lines]
+    return {
+        "streams": len(list(streams.rglob("*.ivf"))),
+        "streams of libvpx": len(list(streams.glob("*.ivf"))),
+        "frames of libvpx": sum(path.read_text().count("shown ") for path in (CONFORMANCE / "expected").glob("*.txt")),
+        "reached": sum(row[1] != "-" for row in rows),
+        "possible": sum(len(row) < 3 for row in rows),
+        "beyond": sum(row[1] in beyond for row in rows),
+    }
+
+
+def wrong_groups():
+    """The rows of conformance/README.md that do not have the numbers of conformance/points."""
+    text = (CONFORMANCE / "README.md").read_text(encoding="utf-8")
+    for group, rows in points():
+        want = [len(rows), sum(row[1] != "-" for row in rows), sum(len(row) > 2 for row in rows)]
+        if re.findall(rf"\n\| {group} \|[^|]*\| ([\d,]+) \| ([\d,]+) \| ([\d,]+) \|", text) != [tuple(f"{number:,}" for number in want)]:
+            yield f"conformance/README.md: {group} has {want} points, points reached and points that no stream can reach"
 
 
 def wrong_figures(facts):
@@ -142,11 +179,11 @@ def main():
         print(f"{file.relative_to(TOP)} is named in the first part, but the headline does not stand on it")
     lines = [line for file in wanted for line in file.read_text().splitlines()]
     code = [line for line in lines if line.strip() and not line.startswith(("use ", "--"))]
-    others = [*unknown_names(), *long_definitions(), *wrong_figures(counted(len(lines), len(code), len(wanted)))]
+    others = [*unknown_names(), *long_definitions(), *wrong_groups(), *wrong_figures(counted(len(lines), len(code), len(wanted)))]
     print(*others, sep="\n", end="\n" if others else "")
-    if "--quiet" not in sys.argv:
-        print(f"{len(wanted)} files, {len(lines)} lines, {len(code)} of them without comments, imports and empty ones")
-    return 1 if gone or missing or more or others else 0
+    is_wrong = bool(gone or missing or more or others)
+    results.total(f"{len(wanted)} files, {len(lines)} lines, {len(code)} of them without comments, imports and empty ones", is_wrong, version=results.sources())
+    return 1 if is_wrong else 0
 
 
 if __name__ == "__main__":

@@ -10,6 +10,8 @@ import subprocess
 import sys
 import tempfile
 
+import results
+
 TOP = pathlib.Path(__file__).resolve().parent.parent
 
 
@@ -73,7 +75,7 @@ def run(path, folder):
     print(f"{path.name}: {len(commands)} commands, {wrong} differ")
     if ran.stderr:
         print(ran.stderr, end="")
-    return wrong
+    return len(commands), wrong
 
 
 def main():
@@ -81,7 +83,7 @@ def main():
     if missing:
         sys.exit(f"{TOP}/bin has no {' and no '.join(missing)}: run ./build.py first")
     paths = [pathlib.Path(name) for name in sys.argv[1:]] or [TOP / "docs/cookbook.md"]
-    wrong = 0
+    commands = wrong = 0
     for path in paths:
         with tempfile.TemporaryDirectory() as folder:
             os.mkdir(f"{folder}/bin")
@@ -92,7 +94,9 @@ def main():
             page = pathlib.Path(folder, "bin", "wokureti")
             page.write_text(f'#!/bin/sh\n[ "$1" != open ] || exec timeout -s INT 8 {TOP}/bin/wokureti "$@" --no-browser 2> /dev/null\nexec {TOP}/bin/wokureti "$@"\n')
             page.chmod(0o755)
-            wrong += run(path, folder)
+            found = run(path, folder)
+            commands, wrong = commands + found[0], wrong + found[1]
+    results.total(f"{commands} commands, {wrong} differ", wrong)
     return 1 if wrong else 0
 
 

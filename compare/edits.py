@@ -14,6 +14,7 @@ import subprocess
 import sys
 import tempfile
 
+import results
 from library.ivf import ivf
 from library.programs import VP8SERVE
 
@@ -225,10 +226,9 @@ def main():
                 kinds[kind] = kinds.get(kind, 0) + 1
         for seed in range(long_lists):
             compare_long(room, seed)
-    print(f"{lists} lists of 60 requests each: all replies are the model's")
-    print(f"{long_lists} lists of 60 edits of 1,000 to 5,000 packets each: all replies and saved packets are the model's")
     for kind, count in sorted(kinds.items()):
         print(f"{count:7} {kind}")
+    results.total(f"{lists} lists of 60 requests, {long_lists} of 60 edits of 1,000 to 5,000 packets: all replies and saved packets are the model's")
 
 
 if __name__ == "__main__":

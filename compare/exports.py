@@ -19,6 +19,7 @@ import subprocess
 import sys
 import tempfile
 
+import results
 from library.ivf import has_key_tag, is_shown
 from library.programs import TOP, VP8LIST, VP8SERVE, real_streams
 
@@ -268,7 +269,7 @@ def main():
                     print(f"script {number} of {[os.path.basename(it.path) for it in case[0]]}: {case[1]}: {text}", flush=True)
         except KeyboardInterrupt:
             print(f"interrupted after {totals.scripts} scripts")
-    print(totals.text())
+    results.total(totals.text(), totals.wrong or totals.scripts < args.scripts)
     return 1 if totals.wrong else 0
 
 

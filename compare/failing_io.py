@@ -15,6 +15,7 @@ import sys
 import tempfile
 from dataclasses import dataclass
 
+import results
 from library.ivf import ivf
 from library.programs import VP8SERVE
 from library.traced import EINTR, EIO, Program, traced
@@ -267,7 +268,7 @@ def main():
         os.chdir("/")
     for kind, number in sorted(told.items()):
         print(f"{number:9} {kind}")
-    print(f"{faults} differences")
+    results.total(f"{faults} differences", faults, told)
     return 1 if faults else 0
 
 

@@ -19,6 +19,8 @@ import tempfile
 import time
 import zipfile
 
+import results
+
 TOP = pathlib.Path(__file__).resolve().parent.parent
 KIT = "rattle-kit-false logic 0123456789abcdef"
 NOBODY = 65534
@@ -245,8 +247,7 @@ def main():
         os.chmod(folder, 0o755)
         for part in (spaces, interrupted, twice, read_only, without_kit, failing, ready):
             part(pathlib.Path(folder))
-    if "--quiet" not in sys.argv:
-        print(f"{TOLD['runs']} comparisons, {TOLD['differences']} differences")
+        results.total(f"{TOLD['runs']} comparisons, {TOLD['differences']} differences", TOLD["differences"], version=results.sources())
     return 1 if TOLD["differences"] else 0
 
 

@@ -17,6 +17,7 @@ import subprocess
 import sys
 import tempfile
 
+import results
 from library.ivf import records
 from library.programs import VP8LIST, real_streams
 
@@ -153,7 +154,7 @@ def sound(paths):
         totals["streams"] += 1
         for who, says in reports(path).items():
             totals[who] += says
-    print(", ".join(f"{name} {number}" for name, number in totals.items()))
+    results.total(", ".join(f"{name} {number}" for name, number in totals.items()))
 
 
 def damaged(count, seed, paths):
@@ -174,6 +175,7 @@ def damaged(count, seed, paths):
                 totals[kind][who] += says
     for kind, found in totals.items():
         print(f"{kind}: " + ", ".join(f"{name} {number}" for name, number in sorted(found.items())))
+    results.total(f"{count} damaged streams", told=sum(totals.values(), collections.Counter()))
 
 
 def main():

@@ -15,6 +15,8 @@ import sys
 import tempfile
 import time
 
+import results
+
 TOP = pathlib.Path(__file__).resolve().parent.parent
 # The MD5 of vpxdec's frame 0 of the example: vpxdec --i420 --limit=1 --md5 examples/mandelbrot.ivf
 FRAME = "37d20bd18336c72aa8d9f7e695c8433c"
@@ -71,15 +73,18 @@ def main():
         top = (root or folder) / "wokureti"
         clone(top)
         environment = bare(folder) if root is None else None
-        wrong = []
+        wrong, times = [], []
         for words, most in ((FIRST, 2), (["./test.sh"], 600)):
             status, text, seconds = run(command_in(root, words) if root else words, **({} if root else {"cwd": top, "env": environment}))
             print(text, end="")
+            times.append(seconds)
             print(f"{' '.join(words)}: {seconds:.1f} s, status {status}", flush=True)
             wrong += [f"{words[0]}: status {status}"] * (status != 0) + [f"{words[0]}: {seconds:.1f} s, not {most}"] * (seconds > most)
         if samples(top / "frame.y4m") != FRAME:
             wrong.append(f"frame.y4m: {samples(top / 'frame.y4m')}, not {FRAME}")
-    print(f"on {'a Debian with python3 only' if root else 'a PATH with python3 only'}:", *(wrong or ["all passed"]), sep="\n")
+    print(*wrong, sep="\n", end="\n" if wrong else "")
+    where = "a Debian with python3 only" if root else "a PATH with python3 only"
+    results.total(f"on {where}: the frame after {times[0]:.1f} s; {text.strip().rpartition(chr(10))[2]}, {times[1]:.0f} s on {len(os.sched_getaffinity(0))} processors", wrong, version=results.sources())
     return 1 if wrong else 0
 
 

@@ -1,7 +1,7 @@
 #!/usr/bin/env python3
 """Refuses each request for memory of gate_memory in turn, and counts the requests of its frames. The gate runs it.
 
-    compare/growths.py [PROGRAM]
+    compare/growths.py [--quiet] [PROGRAM]
 
 It shows what no contract can say. Each call that was refused memory is made again, and then the program must print its usual
 text. Over a key packet and three others, P, P, P:
@@ -14,7 +14,7 @@ text. Over a key packet and three others, P, P, P:
 Of vp8list it counts the requests for the macroblocks of key frames of 1, 2, 4 and 8 token partitions that are alike else: as many more for each
 further one, so room for all of them is reserved at once.
 
-It prints nothing and ends with status 0 if all this holds. It takes the program that `rt ci` built; it needs Linux on x86-64.
+It ends with status 0 if all this holds; with --quiet it prints what is wrong only. It takes the program that `rt ci` built; it needs Linux on x86-64.
 """
 
 import os
@@ -24,6 +24,7 @@ import tempfile
 from dataclasses import dataclass
 
 sys.dont_write_bytecode = True
+import results  # noqa: E402
 from library.conformance import generator  # noqa: E402
 from library.ivf import ivf  # noqa: E402
 from library.traced import Program, traced  # noqa: E402
@@ -71,10 +72,12 @@ def requests_of_lines(program):
     return ran, made
 
 
+COUNTED = ("frame 3", "frame 3 again", "frame 3 after that", "the key packet", "three steps from its state")
+
+
 def count_faults(made):
     """What is wrong with the numbers of requests."""
-    first, again, after = made["frame 3"], made["frame 3 again"], made["frame 3 after that"]
-    key, steps = made["the key packet"], made["three steps from its state"]
+    first, again, after, key, steps = map(made.__getitem__, COUNTED)
     if first > key + steps + 4:
         yield f"frame 3 makes {first} requests for memory, its four steps {key} and {steps}, its four cached states one each"
     if again != 0:
@@ -121,12 +124,14 @@ def all_faults(program):
 
 
 def main():
-    program = Program(sys.argv[1] if len(sys.argv) > 1 else str(GROWTHS / "out/gate_memory"))
-    found, _, _ = all_faults(program)
+    named = [word for word in sys.argv[1:] if word != "--quiet"]
+    program = Program(named[0] if named else str(GROWTHS / "out/gate_memory"))
+    found, made, requests = all_faults(program)
     listed = os.environ.get("VP8LIST") or str(TOP / "crates/vp8list/out/vp8list")
     found = [f"gate_memory: {fault}" for fault in found] + [f"vp8list: {fault}" for fault in list_faults(Program(listed))]
     for fault in found:
         print(fault)
+    results.total(f"{requests} requests for memory, each refused: {len(found)} differences", found, {f"for {name}": made.get(name, 0) for name in COUNTED})
     return 1 if found else 0
 
 

@@ -13,6 +13,7 @@ import subprocess
 import sys
 import tempfile
 
+import results
 from library.programs import CLIPS, EXAMPLE, VP8LIST
 # The time stamps of the file, each frame once at its own size, and no line with ffmpeg's version.
 FLAGS = ["-fps_mode", "passthrough", "-autoscale", "0", "-bitexact", "-f", "framemd5", "-"]
@@ -96,7 +97,9 @@ def main():
                 print("\n".join(list(lines)[:8]))
     for kind, (streams, frames, different) in totals.items():
         print(f"{kind}: {streams} streams, {frames} frames, {different} different")
-    return any(different for _, _, different in totals.values())
+    streams, frames, different = map(sum, zip(*totals.values()))
+    results.total(f"{streams} streams, {frames} frames: {different} differ", different)
+    return different > 0
 
 
 if __name__ == "__main__":

@@ -11,6 +11,7 @@ import random
 import sys
 import tempfile
 
+import results
 from library.frames import frames_of
 from library.ivf import has_key_tag, is_shown, packets_of, size_of
 from library.programs import VP8SERVE, real_streams, run
@@ -66,7 +67,7 @@ def main():
             if fault:
                 wrong += 1
                 print(fault, flush=True)
-    print(f"{changes} packets of {compared} streams hidden or shown; {wrong} streams differ")
+    results.total(f"{changes} packets of {compared} streams hidden or shown; {wrong} streams differ", wrong)
     return 1 if wrong else 0
 
 

@@ -13,6 +13,7 @@ import subprocess
 import sys
 import tempfile
 
+import results
 from library.clips import settings
 from library.ivf import ivf, packets_of
 from library.programs import VP8SERVE, run
@@ -99,9 +100,9 @@ def main():
         room = pathlib.Path(name)
         pools = [clip_packets(room, choose) for _ in range(CLIPS)]
         frames = sum(compare(room, choose, pools, told) for _ in range(count))
-    print(f"{count} lists of edits and {frames} requests for a frame, caches of 1 to 8 states: all are those of a session that caches nothing")
     for kind, number in sorted(told.items()):
         print(f"{number:9} {kind}")
+    results.total(f"{count} lists of edits and {frames} requests for a frame, caches of 1 to 8 states: all are those of a session that caches nothing", told=told)
 
 
 main()

@@ -13,6 +13,7 @@ import subprocess
 import sys
 import tempfile
 
+import results
 from library.damage import damage
 from library.headers import facts
 from library.ivf import ivf, records, size_of
@@ -82,7 +83,7 @@ def main():
         wrong, count = damaged_streams(int(words[1]), int(words[2]) if words[2:] else 1), int(words[1])
     else:
         wrong, count = sum(differs(pathlib.Path(word)) for word in words), len(words)
-    print(f"{count} lists, {wrong} differ")
+    results.total(f"{count} lists, {wrong} differ", wrong)
     sys.exit(wrong > 0)
 
 

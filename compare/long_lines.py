@@ -12,6 +12,7 @@ import subprocess
 import sys
 import tempfile
 
+import results
 from library.ivf import ivf
 from library.programs import VP8SERVE
 
@@ -87,5 +88,5 @@ saved = saved_after_a_lost_line()
 if saved != EDITED:
     differences += 1
     print(f"saved after a lost line: {saved}")
-print(f"{len(CASES) + 1} runs, {differences} differences")
+results.total(f"{len(CASES) + 1} runs, {differences} differences", differences)
 sys.exit(differences != 0)

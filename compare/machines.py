@@ -21,6 +21,7 @@ import time
 TOP = pathlib.Path(__file__).resolve().parent.parent
 sys.path.insert(0, str(TOP / "clients/python"))
 
+import results  # noqa: E402
 from wokureti import Session  # noqa: E402
 from wokureti.tools import ivf, programs  # noqa: E402
 
@@ -168,7 +169,7 @@ def run(room, plain):
     machines = [Machine(plain, name) for name in NAMES]
     ssh = configure(plain, machines)
     wanted = expected(clip, room)
-    faults = 0
+    faults = runs = 0
     for machine in machines:
         machine.start()
     try:
@@ -179,6 +180,7 @@ def run(room, plain):
             ("two machines, one killed in the middle", [], "2/one,2/two", True),
             ("two machines, of which one is gone", [], "one,two", False),
         ):
+            runs += 1
             faults += one_run(name, [*words, "--sshlogin", logins], kill, machines, clip, room, ssh, wanted)
     finally:
         for machine in machines:
@@ -188,7 +190,7 @@ def run(room, plain):
     if left:
         faults += 1
         print(f"left in the folder for files: {left}")
-    print(f"{faults} differences")
+    results.total(f"{runs} runs, {faults} differences", faults)
     return 1 if faults else 0
 
 

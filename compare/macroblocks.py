@@ -18,6 +18,7 @@ import subprocess
 import sys
 import tempfile
 
+import results
 from library.conformance import bits, objects, parser
 from library.damage import damage
 from library.ivf import ivf, packets_of, records
@@ -134,14 +135,14 @@ def main():
     if sys.argv[1:2] in (["--random"], ["--damage"]):
         kind, count, seed = sys.argv[1], int(sys.argv[2]), int(sys.argv[3]) if sys.argv[3:] else 1
         totals = made(kind, count, seed)
-        print(f"{count} streams, {totals[1]} headers, {totals[0]} macroblocks ({totals[2]} with their bits), no difference")
+        results.total(f"{count} streams, {totals[1]} headers, {totals[0]} macroblocks ({totals[2]} with their bits), no difference")
         return
     folders = [TOP / "examples", TOP / "crates/gate_clips/data", TOP / "crates/gate_checks/data"]
     paths = [pathlib.Path(word) for word in sys.argv[1:]] or [path for folder in folders for path in sorted(folder.glob("*.ivf"))]
     totals = [0, 0, 0]
     for path in paths:
         totals = [a + b for a, b in zip(totals, check(path))]
-    print(f"{len(paths)} streams, {totals[1]} headers, {totals[0]} macroblocks ({totals[2]} with their bits), no difference")
+    results.total(f"{len(paths)} streams, {totals[1]} headers, {totals[0]} macroblocks ({totals[2]} with their bits), no difference")
 
 
 if __name__ == "__main__":

@@ -10,6 +10,7 @@ import random
 import sys
 import tempfile
 
+import results
 from library.bits import B_PRED, key_packet, tables_of
 from library.frames import frames_of
 from library.ivf import ivf
@@ -50,7 +51,7 @@ def main():
             if not whole or not all(same):
                 differing += 1
                 print(f"frame {frame}, {width}x{height}: served {whole}, vpxdec same {same[0]}, ffmpeg same {same[1]}")
-    print(f"{frames} frames, {differing} differ")
+    results.total(f"{frames} frames, {differing} differ", differing)
     return 1 if differing else 0
 
 

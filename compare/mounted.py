@@ -25,6 +25,7 @@ import time
 TOP = pathlib.Path(__file__).resolve().parent.parent
 sys.path.insert(0, str(TOP / "clients/python"))
 
+import results  # noqa: E402
 from library import screens  # noqa: E402
 from wokureti import Session  # noqa: E402
 from wokureti.server import mount  # noqa: E402
@@ -290,7 +291,7 @@ def main():
         wrong += list(folder.iterdir()) != []
     skipped = [name for name in READERS if name not in names]
     print(*(f"skipped: {name}" for name in skipped), sep="\n", end="\n" if skipped else "")
-    print(f"{', '.join(sorted(names))}: {frames} frames, {given.reads} reads, 10 edits meanwhile, vp8serve and the mount killed: {wrong} wrong")
+    results.total(f"{', '.join(sorted(names))}: {frames} frames, {given.reads} reads, 10 edits meanwhile, vp8serve and the mount killed: {wrong} wrong", wrong)
     return 1 if wrong else 0
 
 

@@ -8,6 +8,7 @@ import json
 import subprocess
 import sys
 
+import results
 from library.programs import CLIPS, TOP, VP8LIST
 
 
@@ -26,7 +27,7 @@ def main():
         if objects != wanted:
             wrong += 1
             print(f"{path}: differs")
-    print(f"{len(paths)} streams, {count} packets, {wrong} streams different")
+    results.total(f"{len(paths)} streams, {count} packets, {wrong} streams different", wrong)
     return wrong
 
 

@@ -1,7 +1,7 @@
 #!/usr/bin/env python3
-"""Runs vp8list with each of its options, and compares texts and exit statuses: options.py
+"""Runs vp8list with each of its options, and compares texts and exit statuses: options.py [--quiet]
 
-The gate runs it after `rt ci`; it prints nothing if all is as it should be. The streams are those of gate_checks, the damaged one of
+The gate runs it after `rt ci`; with --quiet it prints what is wrong only. The streams are those of gate_checks, the damaged one of
 vp8list and one of 640x360 with a packet of 7,303 bytes, so each call is made with ample memory for a stream of that size. Lists and findings are compared with those that listed.py and checked.py find from headers, objects with the lines, and hashes
 with the samples that vp8serve serves, and macroblocks and headers with those of the parser of the conformance streams. VP8LIST and VP8SERVE name other programs than those that `rt ci` built.
 """
@@ -16,6 +16,7 @@ import tempfile
 
 from checked import PARTITION, lines as findings
 from listed import lines as listed
+import results
 from library.conformance import objects
 from library.ivf import packets_of
 from macroblocks import cell, rows_of
@@ -241,6 +242,7 @@ def main():
     check_full()
     check_lines_of_messages()
     print(*wrong, sep="\n", end="\n" if wrong else "")
+    results.total(f"{len(STREAMS)} streams, {len(wrong)} differences", wrong)
     return 1 if wrong else 0
 
 

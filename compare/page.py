@@ -23,6 +23,7 @@ import tempfile
 import time
 import urllib.request
 
+import results
 from browser import Browser
 
 TOP = pathlib.Path(__file__).resolve().parent.parent
@@ -1651,7 +1652,7 @@ def main():
         make_clip(room / "large.ivf", "1920x1080", 250, "testsrc2")
         play(browser, clip, "640x360")
         play(browser, room / "large.ivf", "1920x1080")
-    say(f"{len(faults)} faults")
+    results.total(f"{len(faults)} faults", faults)
     return 1 if faults else 0
 
 

@@ -14,6 +14,7 @@ import sys
 import tempfile
 
 from damaged import decoded
+import results
 from library.damage import padded, partition_count
 from library.ivf import has_key_tag, ivf, packets_of
 from library.programs import CLIPS, VP8SERVE
@@ -105,7 +106,7 @@ def main():
             faults += compare(pathlib.Path(name), clip, told)
     for kind, number in sorted(told.items()):
         print(f"{number:7} {kind}")
-    print(f"{faults} differences")
+    results.total(f"{faults} differences", faults, told)
     return 1 if faults else 0
 
 

@@ -13,6 +13,7 @@ import sys
 import tempfile
 import threading
 
+import results
 from library.ivf import ivf
 from library.programs import VP8LIST
 
@@ -74,7 +75,7 @@ def main():
             if why:
                 faults += 1
                 print(f"{path.name} {option or 'without a terminal'}: {why}")
-    print(f"4 runs: {faults} differences")
+    results.total(f"4 runs: {faults} differences", faults)
     return 1 if faults else 0
 
 

@@ -13,6 +13,7 @@ import random
 import sys
 import tempfile
 
+import results
 from library.ivf import ivf
 from library.programs import VP8LIST
 from library.traced import Program, traced
@@ -99,7 +100,7 @@ def main():
             print(f"{kind}: {told['runs'] - before} runs", flush=True)
     for kind, number in sorted(told.items()):
         print(f"{number:9} {kind}")
-    print(f"{len(lines)} command lines: {faults} differences")
+    results.total(f"{len(lines)} command lines: {faults} differences", faults, told)
     return 1 if faults else 0
 
 

@@ -18,6 +18,7 @@ from dataclasses import dataclass, field
 
 from edits import PACKETS, long_line
 from growths import GROWTHS, all_faults
+import results
 from library.clips import settings
 from library.ivf import ivf, packets_of
 from library.programs import VP8SERVE, run
@@ -300,7 +301,7 @@ def try_long_lists(count):
             print(f"{requests.name}: {told['runs'] - before} runs", flush=True)
     for kind, number in sorted(told.items()):
         print(f"{number:9} {kind}")
-    print(f"{count} long lists: {faults} differences")
+    results.total(f"{count} long lists: {faults} differences", faults, told)
     return 1 if faults else 0
 
 
@@ -323,7 +324,7 @@ def main():
         faults += try_help(bench, told) + try_growths(told)
     for kind, number in sorted(told.items()):
         print(f"{number:9} {kind}")
-    print(f"{len(lists)} lists, --help and gate_memory: {faults} differences")
+    results.total(f"{len(lists)} lists, --help and gate_memory: {faults} differences", faults, told)
     return 1 if faults else 0
 
 

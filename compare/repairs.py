@@ -17,6 +17,7 @@ import tempfile
 TOP = pathlib.Path(__file__).resolve().parent.parent
 sys.path.insert(0, str(TOP / "clients/python"))
 
+import results  # noqa: E402
 from wokureti.tools import ivf, programs, repair  # noqa: E402
 
 FRAMES = 200
@@ -196,6 +197,7 @@ def main():
         total = sum(sums.values(), collections.Counter()) if kind == "all" else sums[kind]
         cells = [f"{100 * total[f'{name} packets'] / total['packets']:.1f}, {100 * total[f'{name} frames'] / total['frames']:.1f}" for name in names]
         print(f"| {kind} | {' | '.join(cells)} |")
+    results.total(f"{count} streams; packets and frames in percent: {', '.join(f'{name} {cell}' for name, cell in zip(names, cells))}")
     return 0
 
 

@@ -15,6 +15,7 @@ import subprocess
 import sys
 import tempfile
 
+import results
 from library.ivf import HEAD, RECORD, is_shown, records
 from library.programs import TOP, VP8SERVE
 
@@ -155,7 +156,7 @@ def main():
                 if found != model:
                     wrong += 1
                     print(f"list {number}: {lines}: {who} saved {found}, and the model has {model}")
-    print(f"{args.lists} lists, {packets} packets: {wrong} wrong")
+    results.total(f"{args.lists} lists, {packets} packets: {wrong} wrong", wrong)
     return 1 if wrong else 0
 
 

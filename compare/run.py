@@ -11,6 +11,7 @@ import struct
 import sys
 import tempfile
 
+import results
 from library.frames import frames_of
 from library.ivf import ivf
 from library.programs import VP8SERVE, run
@@ -48,6 +49,7 @@ def main():
                 all_same = all_same and whole and all(same.values())
                 told = ", ".join(f"{other} {'same' if yes else 'DIFFERS'}" for other, yes in same.items())
                 print(f"{width}x{height} version {version}: {told}")
+    results.total(f"{8 * len(SIZES)} frames: {'all the same' if all_same else 'some DIFFER'}", not all_same)
     return 0 if all_same else 1
 
 

@@ -18,6 +18,7 @@ import subprocess
 import sys
 import tempfile
 
+import results
 from library.ivf import ivf
 from library.programs import VP8SERVE
 from library.traced import Program, traced
@@ -231,7 +232,7 @@ def main():
             for path in pathlib.Path().iterdir():
                 shutil.rmtree(path) if path.is_dir() and not path.is_symlink() else path.unlink()
         os.chdir("/")
-    print(f"{TOLD['runs']} comparisons, {TOLD['requests for memory']} requests for memory refused, {TOLD['differences']} differences")
+    results.total(f"{TOLD['runs']} comparisons, {TOLD['requests for memory']} requests for memory refused, {TOLD['differences']} differences", TOLD["differences"])
     return 1 if TOLD["differences"] else 0
 
 

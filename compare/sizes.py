@@ -12,6 +12,7 @@ import subprocess
 import sys
 import tempfile
 
+import results
 from library.clips import drawn
 from library.ivf import ivf, packets_of
 from library.programs import VP8SERVE, run
@@ -96,7 +97,7 @@ def main():
             if fault:
                 differing += 1
                 print(fault, flush=True)
-    print(f"{frames} frames of {streams} streams; {differing} streams differ")
+    results.total(f"{frames} frames of {streams} streams; {differing} streams differ", differing)
     return 1 if differing else 0
 
 

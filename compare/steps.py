@@ -15,6 +15,7 @@ import subprocess
 import sys
 import tempfile
 
+import results
 from library.clips import SOURCES, drawn
 from library.ivf import records
 from library.programs import VP8LIST, run
@@ -94,6 +95,7 @@ def findings(path):
 
 def main():
     count, choose = int((sys.argv[1:2] or [20])[0]), random.Random(int((sys.argv[2:3] or [1])[0]))
+    damaged = 0
     with tempfile.TemporaryDirectory() as folder:
         room = pathlib.Path(folder)
         for kind in KINDS:
@@ -105,6 +107,8 @@ def main():
                 totals["with notes"] += any(finding["severity"] == "note" and finding["packet"] is not None for finding in found)
                 totals.update(finding["kind"] for finding in found)
             print(f"{kind.__name__}: {count} clips, " + ", ".join(f"{name} {number}" for name, number in sorted(totals.items())), flush=True)
+            damaged += totals["with damage"]
+    results.total(f"{count * len(KINDS)} clips, damage is reported of {damaged}")
 
 
 if __name__ == "__main__":

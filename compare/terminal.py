@@ -13,6 +13,7 @@ import subprocess
 import sys
 import tempfile
 
+import results
 from library.programs import VP8SERVE
 
 NAMED = "with --explain the next line says why, and what to do\n"
@@ -88,7 +89,7 @@ def main():
             if got != want:
                 differences += 1
                 print(f"{arguments}: {got!r}, not {want!r}")
-    print(f"{2 * len(CASES) + 4} runs, {differences} differences")
+    results.total(f"{2 * len(CASES) + 4} runs, {differences} differences", differences)
     return 1 if differences else 0
 
 

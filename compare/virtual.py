@@ -21,6 +21,7 @@ import zlib
 TOP = pathlib.Path(__file__).resolve().parent.parent
 sys.path.insert(0, str(TOP / "clients/python"))
 
+import results  # noqa: E402
 from wokureti import Session  # noqa: E402
 from wokureti.tools import programs  # noqa: E402
 from wokureti.session.frames import sides  # noqa: E402
@@ -129,7 +130,7 @@ def run(url, edits, clip, choose):
                         print(f"{name}: frame {number} after {line}: another picture ({found if isinstance(found, str) else len(found)})")
     for name in PLAYERS:
         print(f"{name}: {version_of(name) if shutil.which(name) else 'not here'}")
-    print(f"{compared} frames compared, {faults} differences")
+    results.total(f"{compared} frames compared, {faults} differences", faults)
     return 1 if faults else 0
 
 

@@ -197,7 +197,7 @@ def growths():
     program = CRATES / "gate_memory/out/gate_memory"
     if not program.is_file():
         raise Skipped(f"{program.relative_to(TOP)} is built by `rt ci`")
-    return script("compare/growths.py")()
+    return script("compare/growths.py", "--quiet")()
 
 
 def by_the_library(name):
@@ -219,9 +219,8 @@ def all_tests():
     found |= {f"clients/python/tests/{name}.py, by the library": by_the_library(name) for name in names}
     found |= {f"tests/{path.name}": script(f"tests/{path.name}") for path in sorted(HERE.glob("test_*.py"))}
     found |= {path: later(text, path) for path, text in LATER.items()}
-    found |= {name: script(name) for name in ("conformance/records.py", "compare/options.py", "conformance/check")}
-    found["compare/definitions.py"] = script("compare/definitions.py", "--quiet")
-    found["compare/first_command.py"] = script("compare/first_command.py", "--quiet")
+    found |= {name: script(name) for name in ("conformance/records.py", "conformance/check")}
+    found |= {name: script(name, "--quiet") for name in ("compare/definitions.py", "compare/first_command.py", "compare/options.py")}
     found |= {"compare/growths.py": growths, "findings": checks, "links": links, "versions": versions}
     found |= {f"stored run of {name}": stored_run(name, program) for name, program in (("vp8serve", SERVE), ("vp8list", LIST))}
     found |= {f"clip {' '.join(line.split()[:-2])}": clip(line) for line in (CRATES / "gate_clips/stdout").read_text().splitlines()}
