@@ -65,7 +65,7 @@ CONFORMANCE = TOP / "conformance"
 
 @functools.lru_cache(maxsize=None)
 def words_of_sources():
-    found = {path.name for path in (TOP / "crates").iterdir()} | {path.stem for path in (TOP / "tests").glob("*.py")} | set(FOLDERS)
+    found = {path.name for path in (TOP / "crates").iterdir()} | {path.stem for folder in ("tests", "docs") for path in (TOP / folder).glob("*.py")} | set(FOLDERS)
     for pattern in (*SOURCES, *SCRIPTS):
         for path in TOP.glob(pattern):
             if path.is_file() and "out" not in path.parts:
