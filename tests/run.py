@@ -239,7 +239,15 @@ def timed(name, test):
     return Result(name, word, wrong, skipped, time.monotonic() - start)
 
 
+def pass_no_ignored_signals():
+    """Under nohup, or in the background of a script, these are ignored, and so they would be by what a test starts and ends by them. A handler is not passed on."""
+    for number in (signal.SIGINT, signal.SIGHUP):
+        if signal.getsignal(number) == signal.SIG_IGN:
+            signal.signal(number, lambda *_: None)
+
+
 def main(names):
+    pass_no_ignored_signals()
     for path in (SERVE, LIST):
         if not os.access(path, os.X_OK):
             sys.exit(f"tests/run.py: the programs of VP8SERVE and VP8LIST are not there: {path or 'not set'}; ./test.sh names them")
