@@ -33,7 +33,7 @@ pub enum Detail {
 
 /// The packet of the current source that does not exist.
 fn no_packet_of(session: &Session, at: u64) -> Detail
-    ensures { result ≡ no_packet_of session.now.now at }
+    ensures { result ≡ no_packet_of session.now.state at }
 {
     Detail::NoPacket {
         at,
@@ -44,7 +44,7 @@ fn no_packet_of(session: &Session, at: u64) -> Detail
 
 /// The index of the current source at which nothing can be inserted.
 fn past_end_of(session: &Session, at: u64) -> Detail
-    ensures { result ≡ past_end_of session.now.now at }
+    ensures { result ≡ past_end_of session.now.state at }
 {
     Detail::PastEnd {
         at,
@@ -55,7 +55,7 @@ fn past_end_of(session: &Session, at: u64) -> Detail
 
 /// The packet that a copy does not find, or the index that it does not.
 fn copy_detail(session: &Session, source: u64, from: u64, at: u64) -> Detail
-    ensures { result ≡ copy_detail session.now.now source from at }
+    ensures { result ≡ copy_detail session.now.state source from at }
 {
     let count = session.packets_in(source);
     if from < count {
@@ -71,7 +71,7 @@ fn copy_detail(session: &Session, source: u64, from: u64, at: u64) -> Detail
 
 /// Which index of an edit has no packet.
 fn edit_detail(session: &Session, edit: &Edit<Hex<'_>>) -> Detail
-    ensures { result ≡ edit_detail session.now.now edit.now }
+    ensures { result ≡ edit_detail session.now.state edit.now }
 {
     match edit {
         Edit::Insert { at, .. } | Edit::Blank { at, .. } | Edit::Hold { at } => {
@@ -94,7 +94,7 @@ fn edit_detail(session: &Session, edit: &Edit<Hex<'_>>) -> Detail
 
 /// Which packet of a question does not exist.
 fn question_detail(session: &Session, question: Question) -> Detail
-    ensures { result ≡ question_detail session.now.now question }
+    ensures { result ≡ question_detail session.now.state question }
 {
     match question {
         Question::Packet { at } | Question::Macroblocks { at } | Question::Header { at } => {
@@ -107,7 +107,7 @@ fn question_detail(session: &Session, question: Question) -> Detail
 
 /// Which index of a request has no packet.
 fn place_detail(session: &Session, line: &Line<'_>) -> Detail
-    ensures { result ≡ place_detail session.now.now line.now }
+    ensures { result ≡ place_detail session.now.state line.now }
 {
     match line {
         Line::Edit(edit) => edit_detail(session, edit),
@@ -118,7 +118,7 @@ fn place_detail(session: &Session, line: &Line<'_>) -> Detail
 
 /// The frame of a request that does not exist, and how many there are.
 fn frame_detail(session: &Session, line: &Line<'_>) -> Detail
-    ensures { result ≡ frame_detail session.now.now line.now }
+    ensures { result ≡ frame_detail session.now.state line.now }
 {
     match line {
         Line::Frame(n) => Detail::NoFrame {
@@ -144,7 +144,7 @@ fn sizes_of(asked: Option<(u16, u16)>, first: Option<Size>) -> Detail
 }
 
 fn sizes_detail(session: &Session, line: &Line<'_>) -> Detail
-    ensures { result ≡ sizes_detail session.now.now line.now }
+    ensures { result ≡ sizes_detail session.now.state line.now }
 {
     match line {
         Line::Frame(n) => sizes_of(session.stated_size(*n), session.first_size()),
@@ -172,7 +172,7 @@ fn side_detail(width: u64, height: u64) -> Detail
 
 /// Why there is no size before an index.
 fn unsized_detail(session: &Session, at: u64) -> Detail
-    ensures { at ≤ packet_count session.now.now → IsUnsized session.now.now at result }
+    ensures { at ≤ packet_count session.now.state → IsUnsized session.now.state at result }
 {
     match session.key_before(at) {
         None => Detail::NoKey(at),
@@ -182,7 +182,7 @@ fn unsized_detail(session: &Session, at: u64) -> Detail
 
 /// Why a request has no size.
 fn size_detail(session: &Session, line: &Line<'_>) -> Detail
-    ensures { IsSizeDetail session.now.now line.now result }
+    ensures { IsSizeDetail session.now.state line.now result }
 {
     match line {
         Line::Edit(Edit::Blank { width, height, .. }) => side_detail(*width, *height),
@@ -193,7 +193,7 @@ fn size_detail(session: &Session, line: &Line<'_>) -> Detail
 
 /// The number of bytes of a packet that has no show bit.
 fn bit_detail(session: &Session, line: &Line<'_>) -> Detail
-    ensures { result ≡ bit_detail session.now.now line.now }
+    ensures { result ≡ bit_detail session.now.state line.now }
 {
     match line {
         Line::Edit(Edit::ShowBit { at, .. }) => {
@@ -215,7 +215,7 @@ fn bytes_detail(count: Option<usize>) -> Detail
 
 /// The numbers that explain the refusal of a line by this session. Nothing is decoded.
 pub fn detail_of(session: &Session, line: &[u8], refusal: Refusal) -> Detail
-    ensures { IsDetail session.now.now (asked_by line.now) refusal result }
+    ensures { IsDetail session.now.state (asked_by line.now) refusal result }
 {
     let request = read_line(line).unwrap_or(Line::Unknown);
     match refusal {

@@ -52,7 +52,7 @@ costs_alike (Some packet) old new a b same costs =
     record { reached = costs.reached; costs = costs.costs; walks = costs.walks; others = costs.others; is_needed = λ needed. costs.is_needed (sym same ∙ needed) }
 
 -- the answer of a line that was answered at its cost
-abbrev pub serves_of : {E : Type 0} (old : SessionValue) (line : Line) (f f' r r' : Option (List ℕ)) (told : Option Refusal) (new : SessionValue) → AnswersAtCost {E = E} old line f f' r r' (Ok told) new → WritesAnswer old.now line f f' r r' new.now
+abbrev pub serves_of : {E : Type 0} (old : SessionValue) (line : Line) (f f' r r' : Option (List ℕ)) (told : Option Refusal) (new : SessionValue) → AnswersAtCost {E = E} old line f f' r r' (Ok told) new → WritesAnswer old.state line f f' r r' new.state
 serves_of old line f f' r r' told new at_cost = record { answer = at_cost.answer; means = at_cost.means; shown = at_cost.shown; said = at_cost.said }
 
 -- a line that was answered, whether or not its reply was flushed
@@ -72,44 +72,44 @@ kept_at_cost {E} w old line f f' r r' r'' told new at_cost kept same = record {
 
 module _ {E : Type 0} (w : Result (Option Refusal) E) (old : SessionValue) (f f' r r' : Option (List ℕ)) where
   -- a line that only has a reply
-  pub replied : (line : Line) (reply : List ℕ) (new : SessionValue) → Answers old.now line (reply_only reply) new.now → LineCosts old line (reply_only reply) new → OnOk w (Appends r r' reply) → is_frame line ≡ false → AnswersAtCost old line f f r r' w new
+  pub replied : (line : Line) (reply : List ℕ) (new : SessionValue) → Answers old.state line (reply_only reply) new.state → LineCosts old line (reply_only reply) new → OnOk w (Appends r r' reply) → is_frame line ≡ false → AnswersAtCost old line f f r r' w new
   replied line reply new means costs said none = record { answer = reply_only reply; means = means; costs = costs; shown = on_ok_anyway w (Appends-nil f); said = said; told = no_frame w line (reply_only reply) none }
 
-  pub chosen_at_cost : (source : ℕ) (chosen : Result ℕ Refusal) (new : SessionValue) → chosen ≡ choice_answer old.now source → new ≡ record old { now = now_after_choice source old.now } → OnOk w (Appends r r' (edit_line chosen)) → AnswersAtCost old (requests.Use source) f f r r' w new
+  pub chosen_at_cost : (source : ℕ) (chosen : Result ℕ Refusal) (new : SessionValue) → chosen ≡ choice_answer old.state source → new ≡ record old { state = now_after_choice source old.state } → OnOk w (Appends r r' (edit_line chosen)) → AnswersAtCost old (requests.Use source) f f r r' w new
   chosen_at_cost source chosen new is after said =
-      replied (requests.Use source) (edit_line chosen) new (ap (λ (c : Result ℕ Refusal). reply_only (edit_line c)) is, ap (λ (v : SessionValue). v.now) after) (record { stores = ap (λ (v : SessionValue). v.stores) after; cache = ap (λ (v : SessionValue). v.cache) after }) said refl
+      replied (requests.Use source) (edit_line chosen) new (ap (λ (c : Result ℕ Refusal). reply_only (edit_line c)) is, ap (λ (v : SessionValue). v.state) after) (record { stores = ap (λ (v : SessionValue). v.stores) after; cache = ap (λ (v : SessionValue). v.cache) after }) said refl
 
-  pub script_at_cost : (text : List ℕ) (set : Result ℕ Refusal) (new : SessionValue) → IsOrNoMemory (script_answer old.now text) set → new ≡ record old { now = now_after_script text old.now set } → OnOk w (Appends r r' (edit_line set)) → AnswersAtCost old (requests.Script text) f f r r' w new
+  pub script_at_cost : (text : List ℕ) (set : Result ℕ Refusal) (new : SessionValue) → IsOrNoMemory (script_answer old.state text) set → new ≡ record old { state = now_after_script text old.state set } → OnOk w (Appends r r' (edit_line set)) → AnswersAtCost old (requests.Script text) f f r r' w new
   script_at_cost text set new returned after said =
-      replied (requests.Script text) (edit_line set) new (set, returned, (refl, ap (λ (v : SessionValue). v.now) after)) (record { stores = ap (λ (v : SessionValue). v.stores) after; cache = ap (λ (v : SessionValue). v.cache) after }) said refl
+      replied (requests.Script text) (edit_line set) new (set, returned, (refl, ap (λ (v : SessionValue). v.state) after)) (record { stores = ap (λ (v : SessionValue). v.stores) after; cache = ap (λ (v : SessionValue). v.cache) after }) said refl
 
-  pub edited_at_cost : (edit : Edit (List ℕ)) (edited : Result ℕ Refusal) (new : SessionValue) → WrittenAnswers old.now.tables old.now.lists (current_list old.now) edit edited → new.now ≡ now_after_edit edit old.now edited → EditCosts edit edited old new → OnOk w (Appends r r' (edit_line edited)) → AnswersAtCost old (requests.Edit edit) f f r r' w new
+  pub edited_at_cost : (edit : Edit (List ℕ)) (edited : Result ℕ Refusal) (new : SessionValue) → WrittenAnswers old.state.tables old.state.lists (current_list old.state) edit edited → new.state ≡ now_after_edit edit old.state edited → EditCosts edit edited old new → OnOk w (Appends r r' (edit_line edited)) → AnswersAtCost old (requests.Edit edit) f f r r' w new
   edited_at_cost edit edited new returned after costs said = replied (requests.Edit edit) (edit_line edited) new (edited, returned, (refl, after)) (edited, refl, costs) said refl
 
-  pub refused_at_cost : (n : ℕ) (refusal : Refusal) (new : SessionValue) → IsOrNoMemory (frame_of old.now n) (Err refusal) → IsAfterFrame old.now (size_given (Err refusal)) new.now → FrameCosts {A = PictureSamples} (packet_of_frame old.now n) old (Err refusal) new → OnOk w (Appends r r' (refused_line refusal)) → IfOk w (λ told. told ≡ Some refusal) → AnswersAtCost old (requests.Frame n) f f r r' w new
+  pub refused_at_cost : (n : ℕ) (refusal : Refusal) (new : SessionValue) → IsOrNoMemory (frame_of old.state n) (Err refusal) → IsAfterFrame old.state (size_given (Err refusal)) new.state → FrameCosts {A = PictureSamples} (packet_of_frame old.state n) old (Err refusal) new → OnOk w (Appends r r' (refused_line refusal)) → IfOk w (λ told. told ≡ Some refusal) → AnswersAtCost old (requests.Frame n) f f r r' w new
   refused_at_cost n refusal new returned after costs said told = record {
     answer = reply_only (refused_line refusal);
     means = (Err refusal, returned, refl, after);
-    costs = (Err refusal, refl, costs_alike {A = PictureSamples} {B = Shown} (packet_of_frame old.now n) old new (Err refusal) (Err refusal) refl costs);
+    costs = (Err refusal, refl, costs_alike {A = PictureSamples} {B = Shown} (packet_of_frame old.state n) old new (Err refusal) (Err refusal) refl costs);
     shown = on_ok_anyway w (Appends-nil f);
     said = said;
     told = frame_told w n (reply_only (refused_line refusal)) (Some refusal) told refl;
   }
 
   -- a frame, written with the head that is due
-  pub frame_at_cost : (n : ℕ) (picture : PictureSamples) (new : SessionValue) (head : Option Head) → head ≡ head_due old.now → IsFrameOrNoMemory (frame_of old.now n) (Ok picture) → IsAfterFrame old.now (size_given (Ok picture)) new.now → FrameCosts (packet_of_frame old.now n) old (Ok picture) new
+  pub frame_at_cost : (n : ℕ) (picture : PictureSamples) (new : SessionValue) (head : Option Head) → head ≡ head_due old.state → IsFrameOrNoMemory (frame_of old.state n) (Ok picture) → IsAfterFrame old.state (size_given (Ok picture)) new.state → FrameCosts (packet_of_frame old.state n) old (Ok picture) new
       → OnOk w (Appends f f' (opening head picture.width picture.height ++ frame_text picture)) → OnOk w (Appends r r' (served_line n)) → IfOk w (λ told. told ≡ None) → AnswersAtCost old (requests.Frame n) f f' r r' w new
   frame_at_cost n picture new head is returned after costs shown said told = record {
-    answer = answer_to_frame old.now n (Ok returned.0);
-    means = (Ok returned.0, returned.1, refl, subst (λ size. IsAfterFrame old.now size new.now) (size_same picture returned.0 returned.2) after);
-    costs = (Ok returned.0, refl, costs_alike {A = PictureSamples} {B = Shown} (packet_of_frame old.now n) old new (Ok picture) (Ok returned.0) refl costs);
-    shown = subst (λ (text : List ℕ). OnOk w (Appends f f' text)) (ap (λ (h : Option Head). opening h picture.width picture.height ++ frame_text picture) is ∙ frame_same old.now n picture returned.0 returned.3 returned.2) shown;
+    answer = answer_to_frame old.state n (Ok returned.0);
+    means = (Ok returned.0, returned.1, refl, subst (λ size. IsAfterFrame old.state size new.state) (size_same picture returned.0 returned.2) after);
+    costs = (Ok returned.0, refl, costs_alike {A = PictureSamples} {B = Shown} (packet_of_frame old.state n) old new (Ok picture) (Ok returned.0) refl costs);
+    shown = subst (λ (text : List ℕ). OnOk w (Appends f f' text)) (ap (λ (h : Option Head). opening h picture.width picture.height ++ frame_text picture) is ∙ frame_same old.state n picture returned.0 returned.3 returned.2) shown;
     said = said;
-    told = frame_told w n (answer_to_frame old.now n (Ok returned.0)) None told refl;
+    told = frame_told w n (answer_to_frame old.state n (Ok returned.0)) None told refl;
   }
 
 -- a question
-pub asked_at_cost : {E : Type 0} (w : Result (Option Refusal) E) (old : SessionValue) (f r r' : Option (List ℕ)) (question : Question) → OnOk w (GainsAnswer old.now question r r') → AnswersAtCost old (requests.Ask question) f f r r' w old
+pub asked_at_cost : {E : Type 0} (w : Result (Option Refusal) E) (old : SessionValue) (f r r' : Option (List ℕ)) (question : Question) → OnOk w (GainsAnswer old.state question r r') → AnswersAtCost old (requests.Ask question) f f r r' w old
 asked_at_cost (Ok told) old f r r' question gains = record {
   answer = reply_only gains.reply;
   means = (gains.reply, gains.means, refl, refl);
@@ -119,8 +119,8 @@ asked_at_cost (Ok told) old f r r' question gains = record {
   told = refl;
 }
 asked_at_cost (Err fault) old f r r' question failed = record {
-  answer = reply_only (answer_to old.now question);
-  means = (answer_to old.now question, inl refl, refl, refl);
+  answer = reply_only (answer_to old.state question);
+  means = (answer_to old.state question, inl refl, refl, refl);
   costs = record { stores = refl; cache = refl };
   shown = tt;
   said = tt;
@@ -128,9 +128,9 @@ asked_at_cost (Err fault) old f r r' question failed = record {
 }
 
 -- one more line
-pub costs_more : (old mid new : SessionValue) (lines : List Line) (answers : List Answer) (line : Line) (answer : Answer) → RunCosts old lines answers mid → Answers mid.now line answer new.now → LineCosts mid line answer new → RunCosts old (lines ++ line ∷ []) (answers ++ answer ∷ []) new
+pub costs_more : (old mid new : SessionValue) (lines : List Line) (answers : List Answer) (line : Line) (answer : Answer) → RunCosts old lines answers mid → Answers mid.state line answer new.state → LineCosts mid line answer new → RunCosts old (lines ++ line ∷ []) (answers ++ answer ∷ []) new
 costs_more old mid new [] [] line answer same means costs =
-    let P : SessionValue → Type 0 = λ v. Answers v.now line answer new.now × LineCosts v line answer new in
+    let P : SessionValue → Type 0 = λ v. Answers v.state line answer new.state × LineCosts v line answer new in
     let so : P old = subst P same (means, costs) in
     (new, so.0, so.1, refl)
 costs_more old mid new [] (x ∷ answers) line answer ran means costs = absurd ran
@@ -145,7 +145,7 @@ costs_append old mid new (l ∷ ls) ls' [] ys ran ran' = absurd ran
 costs_append old mid new (l ∷ ls) ls' (x ∷ xs) ys ran ran' = (ran.0, ran.1, ran.2, costs_append ran.0 mid new ls ls' xs ys ran.3 ran')
 
 -- if no line is left, all are done
-pub all_at_cost : (old new : SessionValue) (done : List Line) (left : List (List ℕ)) (all : List Line) (f f' r r' : Option (List ℕ)) → left ≡ [] → done ++ map asked_by left ≡ all → (ran : WritesAnswers old.now done f f' r r' new.now) → RunCosts old done ran.answers new → RunsAtCost old all f f' r r' new
+pub all_at_cost : (old new : SessionValue) (done : List Line) (left : List (List ℕ)) (all : List Line) (f f' r r' : Option (List ℕ)) → left ≡ [] → done ++ map asked_by left ≡ all → (ran : WritesAnswers old.state done f f' r r' new.state) → RunCosts old done ran.answers new → RunsAtCost old all f f' r r' new
 all_at_cost old new done left all f f' r r' none whole ran costs =
     let same : done ≡ all = sym (append-nil done) ∙ ap (λ (ls : List (List ℕ)). done ++ map asked_by ls) (sym none) ∙ whole in
     subst (λ (ls : List Line). RunsAtCost old ls f f' r r' new) same (record { runs = ran; costs = costs })

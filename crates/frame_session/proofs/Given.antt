@@ -63,10 +63,10 @@ frame_given old n counts source frame place steps picture made same from at deco
     (given.0, is ∙ given.1, given.2, whole)
 
 -- and it costs what reaching its packet costs
-pub frame_costs : (old new : SessionValue) (n : ℕ) (counts : List ℕ) (source frame place : ℕ) (steps : List Step) (made : PictureSamples) → counts ≡ shown_counts old.now → traced counts old.now.script n ≡ Some (origin_of source frame steps) → Some place ≡ slice_get (shown_indexes (stream_of (list_at old.now.lists source))) frame
-    → Costs old.now.tables source (store_at old.stores source) old.cache place true (store_at new.stores source) new.cache → IsWalk old.now.tables source (store_at old.stores source) old.cache place true (store_at new.stores source) new.cache → LeavesOthers source old new → FrameCosts (packet_of_frame old.now n) old (Ok made) new
+pub frame_costs : (old new : SessionValue) (n : ℕ) (counts : List ℕ) (source frame place : ℕ) (steps : List Step) (made : PictureSamples) → counts ≡ shown_counts old.state → traced counts old.state.script n ≡ Some (origin_of source frame steps) → Some place ≡ slice_get (shown_indexes (stream_of (list_at old.state.lists source))) frame
+    → Costs old.state.tables source (store_at old.stores source) old.cache place true (store_at new.stores source) new.cache → IsWalk old.state.tables source (store_at old.stores source) old.cache place true (store_at new.stores source) new.cache → LeavesOthers source old new → FrameCosts (packet_of_frame old.state n) old (Ok made) new
 frame_costs old new n counts source frame place steps made same from at costs walks leaves =
-    let place_in : Origin → Option (ℕ × ℕ) = λ origin. option_map (λ (p : ℕ). (origin.source, p)) (slice_get (shown_indexes (stream_of (list_at old.now.lists origin.source))) origin.frame) in
-    let is : packet_of_frame old.now n ≡ Some (source, place) =
-    ap (λ (k : List ℕ). option_and_then place_in (traced k old.now.script n)) (sym same) ∙ ap (λ (o : Option Origin). option_and_then place_in o) from ∙ ap (λ (o : Option ℕ). option_map (λ (p : ℕ). (source, p)) o) (sym at) in
+    let place_in : Origin → Option (ℕ × ℕ) = λ origin. option_map (λ (p : ℕ). (origin.source, p)) (slice_get (shown_indexes (stream_of (list_at old.state.lists origin.source))) origin.frame) in
+    let is : packet_of_frame old.state n ≡ Some (source, place) =
+    ap (λ (k : List ℕ). option_and_then place_in (traced k old.state.script n)) (sym same) ∙ ap (λ (o : Option Origin). option_and_then place_in o) from ∙ ap (λ (o : Option ℕ). option_map (λ (p : ℕ). (source, p)) o) (sym at) in
     subst (λ (o : Option (ℕ × ℕ)). FrameCosts o old (Ok made) new) (sym is) (record { reached = true; costs = costs; walks = walks; others = leaves; is_needed = λ h. refl })

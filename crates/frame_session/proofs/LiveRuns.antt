@@ -96,7 +96,7 @@ module _ (old new : SessionState) (text line : List ℕ) (is : IsOnly text line)
 
 -- the next line was read
 module _ (old new : SessionValue) (a b f f' r r' : Option (List ℕ)) (line : List ℕ) (short : IsShort line) (request : Line) (seen seen' : Bool) where
-  pub line_answered : Consumes a b (line ++ 10 ∷ []) → IsAsked (strip_carriage_return line) request → (served : WritesAnswer old.now request f f' r r' new.now) → LineCosts old request served.answer new → seen' ≡ (seen || refuses_some (request ∷ []) (served.answer ∷ [])) → RunsText 1 old new a b f f' r r' true seen seen'
+  pub line_answered : Consumes a b (line ++ 10 ∷ []) → IsAsked (strip_carriage_return line) request → (served : WritesAnswer old.state request f f' r r' new.state) → LineCosts old request served.answer new → seen' ≡ (seen || refuses_some (request ∷ []) (served.answer ∷ [])) → RunsText 1 old new a b f f' r r' true seen seen'
   line_answered taken asked served costs noted =
       let only = only_before_newline line short in
       record {
@@ -104,31 +104,31 @@ module _ (old new : SessionValue) (a b f f' r r' : Option (List ℕ)) (line : Li
         taken = taken;
         follows = newline_ends line;
         many = omega (arith, ap length only.one);
-        answers = only_answered old.now new.now (line ++ 10 ∷ []) (strip_carriage_return line) only request asked f f' r r' served;
+        answers = only_answered old.state new.state (line ++ 10 ∷ []) (strip_carriage_return line) only request asked f f' r r' served;
         costs = (new, served.means, costs, refl);
         noted = noted;
       }
 
-  pub last_answered : Consumes a b line → OnSome a (IsAtEnd b) → 0 < length line → IsAsked line request → (served : WritesAnswer old.now request f f' r r' new.now) → LineCosts old request served.answer new → seen' ≡ (seen || refuses_some (request ∷ []) (served.answer ∷ [])) → RunsText 0 old new a b f f' r r' false seen seen'
+  pub last_answered : Consumes a b line → OnSome a (IsAtEnd b) → 0 < length line → IsAsked line request → (served : WritesAnswer old.state request f f' r r' new.state) → LineCosts old request served.answer new → seen' ≡ (seen || refuses_some (request ∷ []) (served.answer ∷ [])) → RunsText 0 old new a b f f' r r' false seen seen'
   last_answered taken end some asked served costs noted = record {
     text = line;
     taken = taken;
     follows = end;
     many = omega arith;
-    answers = only_answered old.now new.now line line (only_last line short some) request asked f f' r r' served;
+    answers = only_answered old.state new.state line line (only_last line short some) request asked f f' r r' served;
     costs = (new, served.means, costs, refl);
     noted = noted;
   }
 
-  pub line_refused : Consumes a b (line ++ 10 ∷ []) → IsAsked (strip_carriage_return line) request → WritesFrameFirst old.now request f f' r r' new.now → LiveEnds old.now a b f f' r r' faults.Write
-  line_refused taken asked first = only_refused old.now new.now (line ++ 10 ∷ []) (strip_carriage_return line) (only_before_newline line short) request asked f f' r r' a b taken first
+  pub line_refused : Consumes a b (line ++ 10 ∷ []) → IsAsked (strip_carriage_return line) request → WritesFrameFirst old.state request f f' r r' new.state → LiveEnds old.state a b f f' r r' faults.Write
+  line_refused taken asked first = only_refused old.state new.state (line ++ 10 ∷ []) (strip_carriage_return line) (only_before_newline line short) request asked f f' r r' a b taken first
 
-  pub last_refused : Consumes a b line → 0 < length line → IsAsked line request → WritesFrameFirst old.now request f f' r r' new.now → LiveEnds old.now a b f f' r r' faults.Write
-  last_refused taken some asked first = only_refused old.now new.now line line (only_last line short some) request asked f f' r r' a b taken first
+  pub last_refused : Consumes a b line → 0 < length line → IsAsked line request → WritesFrameFirst old.state request f f' r r' new.state → LiveEnds old.state a b f f' r r' faults.Write
+  last_refused taken some asked first = only_refused old.state new.state line line (only_last line short some) request asked f f' r r' a b taken first
 
 -- no line is left
 pub none_left : (old : SessionValue) (a b f r : Option (List ℕ)) (seen : Bool) (line : List ℕ) → line ≡ [] → Consumes a b line → OnSome a (IsAtEnd b) → RunsText 0 old old a b f f r r false seen seen
-none_left old a b f r seen line none taken end = record { text = []; taken = subst (Consumes a b) none taken; follows = end; many = omega arith; answers = no_text old.now f r; costs = refl; noted = sym (or_false seen) }
+none_left old a b f r seen line none taken end = record { text = []; taken = subst (Consumes a b) none taken; follows = end; many = omega arith; answers = no_text old.state f r; costs = refl; noted = sym (or_false seen) }
 
 -- the next line was read, if its newline follows it (t) or it is not empty
 module _ (old new : SessionValue) (a b f f' r r' : Option (List ℕ)) (read : LineRead) (request : Line) where
@@ -143,12 +143,12 @@ module _ (old new : SessionValue) (a b f f' r r' : Option (List ℕ)) (read : Li
       by_length [] e = absurd (some (is.length ∙ ap length e))
       by_length (x ∷ xs) e = omega (arith, ap length e)
 
-  pub read_answered : (seen seen' : Bool) (t : Bool) → ReadsLine a b read (Ok t) → (t ≡ false → read.length ≡ 0 → ⊥) → IsRequest t → (served : WritesAnswer old.now request f f' r r' new.now) → LineCosts old request served.answer new → seen' ≡ (seen || refuses_some (request ∷ []) (served.answer ∷ [])) → RunsText (cond t 1 0) old new a b f f' r r' t seen seen'
+  pub read_answered : (seen seen' : Bool) (t : Bool) → ReadsLine a b read (Ok t) → (t ≡ false → read.length ≡ 0 → ⊥) → IsRequest t → (served : WritesAnswer old.state request f f' r r' new.state) → LineCosts old request served.answer new → seen' ≡ (seen || refuses_some (request ∷ []) (served.answer ∷ [])) → RunsText (cond t 1 0) old new a b f f' r r' t seen seen'
   read_answered seen seen' true x some asked served costs noted = line_answered old new a b f f' r r' x.0 x.2 request seen seen' x.3 (asked x.0 x.1) served costs noted
   read_answered seen seen' false x some asked served costs noted =
       last_answered old new a b f f' r r' x.0 x.2 request seen seen' x.3 x.4 (some_bytes x.0 x.1 (some refl)) (asked x.0 x.1) served costs noted
 
-  pub read_refused : (t : Bool) → ReadsLine a b read (Ok t) → (t ≡ false → read.length ≡ 0 → ⊥) → IsRequest t → WritesFrameFirst old.now request f f' r r' new.now → LiveEnds old.now a b f f' r r' faults.Write
+  pub read_refused : (t : Bool) → ReadsLine a b read (Ok t) → (t ≡ false → read.length ≡ 0 → ⊥) → IsRequest t → WritesFrameFirst old.state request f f' r r' new.state → LiveEnds old.state a b f f' r r' faults.Write
   read_refused true x some asked first = line_refused old new a b f f' r r' x.0 x.2 request false false x.3 (asked x.0 x.1) first
   read_refused false x some asked first = last_refused old new a b f f' r r' x.0 x.2 request false false x.3 (some_bytes x.0 x.1 (some refl)) (asked x.0 x.1) first
 
@@ -168,7 +168,7 @@ text_none old a f r seen = record {
   taken = Consumes-nil a;
   follows = λ some. absurd (omega (arith, some));
   many = omega arith;
-  answers = no_text old.now f r;
+  answers = no_text old.state f r;
   costs = refl;
   noted = sym (or_false seen);
 }
@@ -194,13 +194,13 @@ module _ (least : ℕ) (old mid new : SessionValue) (a b c f f' f'' r r' r'' : O
     taken = Consumes-trans a b c x.text y.text x.taken y.taken;
     follows = follows_more more y.text y.follows;
     many = omega (arith, x.many, y.many, count-append x.text y.text x.follows);
-    answers = text_append old.now mid.now new.now x.text y.text f f' f'' r r' r'' x.follows x.answers y.answers;
+    answers = text_append old.state mid.state new.state x.text y.text f f' f'' r r' r'' x.follows x.answers y.answers;
     costs = costs_append old mid new x.answers.requests y.answers.requests x.answers.runs.answers y.answers.runs.answers x.costs y.costs;
-    noted = noted_append old.now mid.now x.answers.requests y.answers.requests x.answers.runs.answers y.answers.runs.answers seen seen' seen'' x.answers.runs.means x.noted y.noted;
+    noted = noted_append old.state mid.state x.answers.requests y.answers.requests x.answers.runs.answers y.answers.runs.answers seen seen' seen'' x.answers.runs.means x.noted y.noted;
   }
 
   -- the next line is cut off
-  cut_more : (fault : LiveFault) → CutsOff mid.now b c f' f'' r' r'' fault → CutsOff old.now a c f f'' r r'' fault
+  cut_more : (fault : LiveFault) → CutsOff mid.state b c f' f'' r' r'' fault → CutsOff old.state a c f f'' r r'' fault
   cut_more fault y = record {
     text = x.text ++ y.text;
     part = y.part;
@@ -208,21 +208,21 @@ module _ (least : ℕ) (old mid new : SessionValue) (a b c f f' f'' r r' r'' : O
     whole = ends-append x.text y.text x.follows y.whole;
     cut_off = cut_off_later x.text y.text y.part fault x.follows y.cut_off;
     new = y.new;
-    answers = text_append old.now mid.now y.new x.text y.text f f' f'' r r' r'' x.follows x.answers y.answers;
+    answers = text_append old.state mid.state y.new x.text y.text f f' f'' r r' r'' x.follows x.answers y.answers;
   }
 
   -- the next answer is refused
-  refused_more : LiveRefuses mid.now b c f' f'' r' r'' → LiveRefuses old.now a c f f'' r r''
+  refused_more : LiveRefuses mid.state b c f' f'' r' r'' → LiveRefuses old.state a c f f'' r r''
   refused_more y = record {
     text = x.text ++ y.text;
     taken = Consumes-trans a b c x.text y.text x.taken y.taken;
     requests = x.answers.requests ++ y.requests;
     asked = asked-append x.text y.text x.answers.requests y.requests x.follows x.answers.asked y.asked;
-    stops = stops_append old.now mid.now x.answers.requests y.requests f f' f'' r r' r'' x.answers.runs y.stops;
+    stops = stops_append old.state mid.state x.answers.requests y.requests f f' f'' r r' r'' x.answers.runs y.stops;
     last = y.last;
   }
 
-  pub ends_more : (fault : LiveFault) → LiveEnds mid.now b c f' f'' r' r'' fault → LiveEnds old.now a c f f'' r r'' fault
+  pub ends_more : (fault : LiveFault) → LiveEnds mid.state b c f' f'' r' r'' fault → LiveEnds old.state a c f f'' r r'' fault
   ends_more (faults.Ivf source why) y = cut_more (faults.Ivf source why) y
   ends_more faults.Read y = cut_more faults.Read y
   ends_more faults.TooLong y = cut_more faults.TooLong y
@@ -235,14 +235,14 @@ pub any_number : (n : ℕ) (more : Bool) (seen seen' : Bool) (old new : SessionV
 any_number n more seen seen' old new a b f f' r r' x = record { text = x.text; taken = x.taken; follows = x.follows; many = omega arith; answers = x.answers; costs = x.costs; noted = x.noted }
 
 -- no more lines are read
-pub ends_endless : (n : ℕ) (seen seen' : Bool) (old mid : SessionValue) (a b f f' r r' : Option (List ℕ)) → 2 ^ 64 - 1 ≤ n → RunsText n old mid a b f f' r r' true seen seen' → LiveEnds old.now a b f f' r r' faults.Endless
+pub ends_endless : (n : ℕ) (seen seen' : Bool) (old mid : SessionValue) (a b f f' r r' : Option (List ℕ)) → 2 ^ 64 - 1 ≤ n → RunsText n old mid a b f f' r r' true seen seen' → LiveEnds old.state a b f f' r r' faults.Endless
 ends_endless n seen seen' old mid a b f f' r r' most x = record {
   text = x.text;
   part = [];
   taken = subst (Consumes a b) (sym (append-nil x.text)) x.taken;
   whole = x.follows;
   cut_off = (refl, omega (arith, most, x.many));
-  new = mid.now;
+  new = mid.state;
   answers = x.answers;
 }
 
@@ -278,11 +278,11 @@ module _ (tables : Tables) (capacity : Capacity) (sources : List (List ℕ)) (a 
   so : RunsText 0 (begun tables capacity files) end a b f f' r r' false seen seen'
   so = subst (λ (v : SessionValue). RunsText 0 v end a b f f' r r' false seen seen') is ran
 
-  abbrev means : LiveMeans tables sources a b f f' r r' end.now
+  abbrev means : LiveMeans tables sources a b f f' r r' end.state
   means = record { text = so.text; taken = so.taken; all = read_all a b so.text so.taken so.follows; files = files; are = are; answers = so.answers }
 
   pub live_means_at_cost : LiveMeansAtCost tables capacity sources a b f f' r r' end
   live_means_at_cost = record { means = means; costs = so.costs }
 
-  pub live_means_noted : LiveMeansNoted tables sources a b f f' r r' end.now seen seen'
+  pub live_means_noted : LiveMeansNoted tables sources a b f f' r r' end.state seen seen'
   live_means_noted = record { means = means; noted = so.noted }

@@ -32,7 +32,7 @@ lists_of stores = map (λ store. store.list) stores
 -- a session: the state that its answers depend on, the packets of each source with their marks, and its cache. The lists of the
 -- stores are those of the state
 pub record SessionValue : Type 0 where
-  pub now : SessionState
+  pub state : SessionState
   pub stores : List StoreValue
   pub cache : CacheValue
 
@@ -43,7 +43,7 @@ store_of_file file = record { list = list_of_file file; marks = marks_pushed fil
 -- a new session: no packet is marked, and no outcome is cached
 abbrev pub begun : Tables → Capacity → List Ivf → SessionValue
 begun tables capacity files = record {
-  now = start tables files;
+  state = start tables files;
   stores = map store_of_file files;
   cache = record { entries = []; capacity = capacity; decoded = 0 };
 }
@@ -87,8 +87,8 @@ pub record LeavesOthers (source : ℕ) (old new : SessionValue) : Type 0 where
 -- reaching costs, and marks change only as on the walk there
 pub record WalksToPacket {A : Type 0} (source place : ℕ) (old : SessionValue) (answer : Result A Refusal) (new : SessionValue) : Type 0 where
   pub reached : Bool
-  pub costs : Costs old.now.tables source (store_at old.stores source) old.cache place reached (store_at new.stores source) new.cache
-  pub walks : IsWalk old.now.tables source (store_at old.stores source) old.cache place reached (store_at new.stores source) new.cache
+  pub costs : Costs old.state.tables source (store_at old.stores source) old.cache place reached (store_at new.stores source) new.cache
+  pub walks : IsWalk old.state.tables source (store_at old.stores source) old.cache place reached (store_at new.stores source) new.cache
   pub others : LeavesOthers source old new
   pub is_needed : needs_picture answer ≡ true → reached ≡ true
 

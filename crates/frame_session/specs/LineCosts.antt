@@ -22,13 +22,13 @@ pub record LeavesCache (old new : SessionValue) : Type 0 where
 
 -- an edit with this result makes no step, and drops only what is cached of a packet that it removes
 pub record EditCosts (edit : Edit (List ℕ)) (edited : Result ℕ Refusal) (old new : SessionValue) : Type 0 where
-  pub stores : new.stores ≡ stores_after old.now.tables old.now.current edit old.stores edited
-  pub cache : CacheWithout old.now.current (id_removed edit (current_list old.now) edited) old.cache new.cache
+  pub stores : new.stores ≡ stores_after old.state.tables old.state.current edit old.stores edited
+  pub cache : CacheWithout old.state.current (id_removed edit (current_list old.state) edited) old.cache new.cache
 
 -- what a line with this answer costs: a frame what reaching its packet costs, an edit what it drops, and any other line nothing
 abbrev pub LineCosts : SessionValue → Line → Answer → SessionValue → Type 0
 LineCosts old (requests.Frame n) answer new =
-    (frame : Result Shown Refusal) × (answer ≡ answer_to_frame old.now n frame) × FrameCosts (packet_of_frame old.now n) old frame new
+    (frame : Result Shown Refusal) × (answer ≡ answer_to_frame old.state n frame) × FrameCosts (packet_of_frame old.state n) old frame new
 LineCosts old (requests.Edit edit) answer new = (edited : Result ℕ Refusal) × (answer ≡ reply_only (edit_line edited)) × EditCosts edit edited old new
 LineCosts old line answer new = LeavesCache old new
 
@@ -36,7 +36,7 @@ LineCosts old line answer new = LeavesCache old new
 -- the reply is one
 pub record AnswersAtCost {E : Type 0} (old : SessionValue) (line : Line) (frames frames' replies replies' : Option (List ℕ)) (result : Result (Option Refusal) E) (new : SessionValue) : Type 0 where
   pub answer : Answer
-  pub means : Answers old.now line answer new.now
+  pub means : Answers old.state line answer new.state
   pub costs : LineCosts old line answer new
   pub shown : OnOk result (Appends frames frames' answer.frames)
   pub said : OnOk result (Appends replies replies' answer.reply)
@@ -46,21 +46,21 @@ pub record AnswersAtCost {E : Type 0} (old : SessionValue) (line : Line) (frames
 abbrev pub RunCosts : SessionValue → List Line → List Answer → SessionValue → Type 0
 RunCosts old [] [] new = new ≡ old
 RunCosts old (line ∷ lines) (answer ∷ answers) new =
-    (mid : SessionValue) × Answers old.now line answer mid.now × LineCosts old line answer mid × RunCosts mid lines answers new
+    (mid : SessionValue) × Answers old.state line answer mid.state × LineCosts old line answer mid × RunCosts mid lines answers new
 RunCosts old [] (answer ∷ answers) new = ⊥
 RunCosts old (line ∷ lines) [] new = ⊥
 
 -- lines were answered, each at its cost, and the writers gained the answers
 pub record RunsAtCost (old : SessionValue) (lines : List Line) (frames frames' replies replies' : Option (List ℕ)) (new : SessionValue) : Type 0 where
-  pub runs : WritesAnswers old.now lines frames frames' replies replies' new.now
+  pub runs : WritesAnswers old.state lines frames frames' replies replies' new.state
   pub costs : RunCosts old lines runs.answers new
 
 -- the requests of this text were answered over the files of these bytes, each at its cost
 pub record MeansAtCost (tables : Tables) (capacity : Capacity) (sources : List (List ℕ)) (requests : List ℕ) (frames frames' replies replies' : Option (List ℕ)) (end : SessionValue) : Type 0 where
-  pub means : Means tables sources requests frames frames' replies replies' end.now
+  pub means : Means tables sources requests frames frames' replies replies' end.state
   pub costs : RunCosts (begun tables capacity means.files) (requests_of requests) means.runs.answers end
 
 -- the lines that the reader gave were answered, each at its cost
 pub record LiveMeansAtCost (tables : Tables) (capacity : Capacity) (sources : List (List ℕ)) (left left' frames frames' replies replies' : Option (List ℕ)) (end : SessionValue) : Type 0 where
-  pub means : LiveMeans tables sources left left' frames frames' replies replies' end.now
+  pub means : LiveMeans tables sources left left' frames frames' replies replies' end.state
   pub costs : RunCosts (begun tables capacity means.files) means.answers.requests means.answers.runs.answers end

@@ -49,6 +49,6 @@ pub record RunsText (least : ℕ) (old new : SessionValue) (left left' frames fr
   pub taken : Consumes left left' text
   pub follows : MayFollow more left left' text
   pub many : least ≤ length (lines text)
-  pub answers : AnswersText old.now text frames frames' replies replies' new.now
+  pub answers : AnswersText old.state text frames frames' replies replies' new.state
   pub costs : RunCosts old answers.requests answers.runs.answers new
   pub noted : seen' ≡ (seen || refuses_some answers.requests answers.runs.answers)

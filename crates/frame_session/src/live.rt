@@ -211,7 +211,7 @@ fn answer_next<I: BufRead, F: Write, P: Write, V: Observer>(
     observer: &mut V,
 ) -> Result<bool, LiveFault>
     ensures ok { IfOk result (λ more. RunsText (if more then 1 else 0) session.old session.new (I.remaining input.old) (I.remaining input.new) (F.contents frames.old) (F.contents frames.new) (P.contents replies.old) (P.contents replies.new) more (V.has_refused observer.old) (V.has_refused observer.new)) }
-    ensures err { IfErr result (LiveEnds session.old.now (I.remaining input.old) (I.remaining input.new) (F.contents frames.old) (F.contents frames.new) (P.contents replies.old) (P.contents replies.new)) }
+    ensures err { IfErr result (LiveEnds session.old.state (I.remaining input.old) (I.remaining input.new) (F.contents frames.old) (F.contents frames.new) (P.contents replies.old) (P.contents replies.new)) }
     ensures capacity { session.new.cache.capacity ≡ session.old.cache.capacity }
 {
     let mut line = LineRead::new(alloc);
@@ -240,7 +240,7 @@ fn serve_live<I: BufRead, F: Write, P: Write, V: Observer>(
     observer: &mut V,
 ) -> Result<(), LiveFault>
     ensures ok { OnOk result (RunsText 0 session.old session.new (I.remaining input.old) (I.remaining input.new) (F.contents frames.old) (F.contents frames.new) (P.contents replies.old) (P.contents replies.new) false (V.has_refused observer.old) (V.has_refused observer.new)) }
-    ensures err { IfErr result (LiveEnds session.old.now (I.remaining input.old) (I.remaining input.new) (F.contents frames.old) (F.contents frames.new) (P.contents replies.old) (P.contents replies.new)) }
+    ensures err { IfErr result (LiveEnds session.old.state (I.remaining input.old) (I.remaining input.new) (F.contents frames.old) (F.contents frames.new) (P.contents replies.old) (P.contents replies.new)) }
     ensures capacity { session.new.cache.capacity ≡ session.old.cache.capacity }
 {
     'lines: for _answered in 0..u64::MAX {
@@ -274,9 +274,9 @@ pub fn run_live_over<B: FileBytes, I: BufRead, F: Write, P: Write, V: Observer>(
 ) -> Result<Session, LiveFault>
     requires capacity { (1 ≤ settings.capacity.states) × (settings.capacity.states ≤ 4096) }
     requires sources { (1 ≤ length ivfs.now) × (length ivfs.now ≤ 8) }
-    ensures means { IfOk result (λ session. LiveMeans settings.tables (map B.bytes ivfs.now) (I.remaining input.old) (I.remaining input.new) (F.contents frames.old) (F.contents frames.new) (P.contents replies.old) (P.contents replies.new) session.now) }
+    ensures means { IfOk result (λ session. LiveMeans settings.tables (map B.bytes ivfs.now) (I.remaining input.old) (I.remaining input.new) (F.contents frames.old) (F.contents frames.new) (P.contents replies.old) (P.contents replies.new) session.state) }
     ensures costs { IfOk result (LiveMeansAtCost settings.tables settings.capacity (map B.bytes ivfs.now) (I.remaining input.old) (I.remaining input.new) (F.contents frames.old) (F.contents frames.new) (P.contents replies.old) (P.contents replies.new)) }
-    ensures noted { IfOk result (λ session. LiveMeansNoted settings.tables (map B.bytes ivfs.now) (I.remaining input.old) (I.remaining input.new) (F.contents frames.old) (F.contents frames.new) (P.contents replies.old) (P.contents replies.new) session.now (V.has_refused observer.old) (V.has_refused observer.new)) }
+    ensures noted { IfOk result (λ session. LiveMeansNoted settings.tables (map B.bytes ivfs.now) (I.remaining input.old) (I.remaining input.new) (F.contents frames.old) (F.contents frames.new) (P.contents replies.old) (P.contents replies.new) session.state (V.has_refused observer.old) (V.has_refused observer.new)) }
     ensures capacity { IfOk result (λ session. session.cache.capacity ≡ settings.capacity) }
     ensures stops { IfErr result (LiveStops settings.tables (map B.bytes ivfs.now) (I.remaining input.old) (I.remaining input.new) (F.contents frames.old) (F.contents frames.new) (P.contents replies.old) (P.contents replies.new)) }
 {

@@ -141,8 +141,8 @@ fn serve_frame<F: Write, P: Write>(
     replies: &mut P,
     flushing: Flushing,
 ) -> Result<Option<Refusal>, WriteFault>
-    ensures serves { OnOk result (WritesAnswer session.old.now (Line.Frame n) (F.contents frames.old) (F.contents frames.new) (P.contents replies.old) (P.contents replies.new) session.new.now) }
-    ensures frame_first { WritesFrameFirst session.old.now (Line.Frame n) (F.contents frames.old) (F.contents frames.new) (P.contents replies.old) (P.contents replies.new) session.new.now }
+    ensures serves { OnOk result (WritesAnswer session.old.state (Line.Frame n) (F.contents frames.old) (F.contents frames.new) (P.contents replies.old) (P.contents replies.new) session.new.state) }
+    ensures frame_first { WritesFrameFirst session.old.state (Line.Frame n) (F.contents frames.old) (F.contents frames.new) (P.contents replies.old) (P.contents replies.new) session.new.state }
     ensures costs { AnswersAtCost session.old (Line.Frame n) (F.contents frames.old) (F.contents frames.new) (P.contents replies.old) (P.contents replies.new) result session.new }
     ensures capacity { session.new.cache.capacity ≡ session.old.cache.capacity }
     ensures told { IfOk result (Tells (P.contents replies.old) (P.contents replies.new)) }
@@ -156,7 +156,7 @@ fn serve_frame<F: Write, P: Write>(
 
 /// Reports the number of packets and the number of frames served.
 fn report_count<P: Write>(session: &Session, replies: &mut P) -> Result<Option<Refusal>, WriteFault>
-    ensures wrote { OnOk result (Appends (P.contents replies.old) (P.contents replies.new) (count_line (packet_count session.now.now) (frame_count session.now.now))) }
+    ensures wrote { OnOk result (Appends (P.contents replies.old) (P.contents replies.new) (count_line (packet_count session.now.state) (frame_count session.now.state))) }
     ensures told { IfOk result (Tells (P.contents replies.old) (P.contents replies.new)) }
 {
     let (packets, frames) = session.count();
@@ -172,8 +172,8 @@ fn serve<F: Write, P: Write>(
     replies: &mut P,
     flushing: Flushing,
 ) -> Result<Option<Refusal>, WriteFault>
-    ensures serves { OnOk result (WritesAnswer session.old.now line.entry (F.contents frames.old) (F.contents frames.new) (P.contents replies.old) (P.contents replies.new) session.new.now) }
-    ensures frame_first { WritesFrameFirst session.old.now line.entry (F.contents frames.old) (F.contents frames.new) (P.contents replies.old) (P.contents replies.new) session.new.now }
+    ensures serves { OnOk result (WritesAnswer session.old.state line.entry (F.contents frames.old) (F.contents frames.new) (P.contents replies.old) (P.contents replies.new) session.new.state) }
+    ensures frame_first { WritesFrameFirst session.old.state line.entry (F.contents frames.old) (F.contents frames.new) (P.contents replies.old) (P.contents replies.new) session.new.state }
     ensures costs { AnswersAtCost session.old line.entry (F.contents frames.old) (F.contents frames.new) (P.contents replies.old) (P.contents replies.new) result session.new }
     ensures capacity { session.new.cache.capacity ≡ session.old.cache.capacity }
     ensures question { is_question line.entry ≡ true → session.new ≡ session.old }
@@ -211,8 +211,8 @@ pub(crate) fn serve_line<F: Write, P: Write>(
     replies: &mut P,
     flushing: Flushing,
 ) -> Result<Option<Refusal>, WriteFault>
-    ensures serves { OnOk result (WritesAnswer session.old.now line.entry (F.contents frames.old) (F.contents frames.new) (P.contents replies.old) (P.contents replies.new) session.new.now) }
-    ensures frame_first { WritesFrameFirst session.old.now line.entry (F.contents frames.old) (F.contents frames.new) (P.contents replies.old) (P.contents replies.new) session.new.now }
+    ensures serves { OnOk result (WritesAnswer session.old.state line.entry (F.contents frames.old) (F.contents frames.new) (P.contents replies.old) (P.contents replies.new) session.new.state) }
+    ensures frame_first { WritesFrameFirst session.old.state line.entry (F.contents frames.old) (F.contents frames.new) (P.contents replies.old) (P.contents replies.new) session.new.state }
     ensures costs { AnswersAtCost session.old line.entry (F.contents frames.old) (F.contents frames.new) (P.contents replies.old) (P.contents replies.new) result session.new }
     ensures capacity { session.new.cache.capacity ≡ session.old.cache.capacity }
     ensures question { is_question line.entry ≡ true → session.new ≡ session.old }
@@ -233,8 +233,8 @@ pub fn answer_line<F: Write, P: Write>(
     frames: &mut F,
     replies: &mut P,
 ) -> Result<Option<Refusal>, WriteFault>
-    ensures serves { OnOk result (WritesAnswer session.old.now (asked_by line.now) (F.contents frames.old) (F.contents frames.new) (P.contents replies.old) (P.contents replies.new) session.new.now) }
-    ensures frame_first { WritesFrameFirst session.old.now (asked_by line.now) (F.contents frames.old) (F.contents frames.new) (P.contents replies.old) (P.contents replies.new) session.new.now }
+    ensures serves { OnOk result (WritesAnswer session.old.state (asked_by line.now) (F.contents frames.old) (F.contents frames.new) (P.contents replies.old) (P.contents replies.new) session.new.state) }
+    ensures frame_first { WritesFrameFirst session.old.state (asked_by line.now) (F.contents frames.old) (F.contents frames.new) (P.contents replies.old) (P.contents replies.new) session.new.state }
     ensures costs { AnswersAtCost session.old (asked_by line.now) (F.contents frames.old) (F.contents frames.new) (P.contents replies.old) (P.contents replies.new) result session.new }
     ensures capacity { session.new.cache.capacity ≡ session.old.cache.capacity }
     ensures told { IfOk result (Tells (P.contents replies.old) (P.contents replies.new)) }
@@ -259,10 +259,10 @@ pub(crate) fn serve_all<F: Write, P: Write, V: Observer>(
     flushing: Flushing,
     observer: &mut V,
 ) -> Result<(), WriteFault>
-    ensures runs { OnOk result (WritesAnswers session.old.now (requests_of requests.now) (F.contents frames.old) (F.contents frames.new) (P.contents replies.old) (P.contents replies.new) session.new.now) }
-    ensures stops { OnErr result (WritesUntilError session.old.now (requests_of requests.now) (F.contents frames.old) (F.contents frames.new) (P.contents replies.old) (P.contents replies.new)) }
+    ensures runs { OnOk result (WritesAnswers session.old.state (requests_of requests.now) (F.contents frames.old) (F.contents frames.new) (P.contents replies.old) (P.contents replies.new) session.new.state) }
+    ensures stops { OnErr result (WritesUntilError session.old.state (requests_of requests.now) (F.contents frames.old) (F.contents frames.new) (P.contents replies.old) (P.contents replies.new)) }
     ensures costs { OnOk result (RunsAtCost session.old (requests_of requests.now) (F.contents frames.old) (F.contents frames.new) (P.contents replies.old) (P.contents replies.new) session.new) }
-    ensures noted { OnOk result (RunsNoted session.old.now (requests_of requests.now) (F.contents frames.old) (F.contents frames.new) (P.contents replies.old) (P.contents replies.new) session.new.now (V.has_refused observer.old) (V.has_refused observer.new)) }
+    ensures noted { OnOk result (RunsNoted session.old.state (requests_of requests.now) (F.contents frames.old) (F.contents frames.new) (P.contents replies.old) (P.contents replies.new) session.new.state (V.has_refused observer.old) (V.has_refused observer.new)) }
     ensures capacity { session.new.cache.capacity ≡ session.old.cache.capacity }
 {
     let mut rest = requests;
@@ -316,9 +316,9 @@ pub fn run_over<B: FileBytes, F: Write, P: Write, V: Observer>(
 ) -> Result<Session, RunFault>
     requires capacity { (1 ≤ settings.capacity.states) × (settings.capacity.states ≤ 4096) }
     requires sources { (1 ≤ length ivfs.now) × (length ivfs.now ≤ 8) }
-    ensures means { IfOk result (λ session. Means settings.tables (map B.bytes ivfs.now) requests.now (F.contents frames.old) (F.contents frames.new) (P.contents replies.old) (P.contents replies.new) session.now) }
+    ensures means { IfOk result (λ session. Means settings.tables (map B.bytes ivfs.now) requests.now (F.contents frames.old) (F.contents frames.new) (P.contents replies.old) (P.contents replies.new) session.state) }
     ensures costs { IfOk result (MeansAtCost settings.tables settings.capacity (map B.bytes ivfs.now) requests.now (F.contents frames.old) (F.contents frames.new) (P.contents replies.old) (P.contents replies.new)) }
-    ensures noted { IfOk result (λ session. MeansNoted settings.tables (map B.bytes ivfs.now) requests.now (F.contents frames.old) (F.contents frames.new) (P.contents replies.old) (P.contents replies.new) session.now (V.has_refused observer.old) (V.has_refused observer.new)) }
+    ensures noted { IfOk result (λ session. MeansNoted settings.tables (map B.bytes ivfs.now) requests.now (F.contents frames.old) (F.contents frames.new) (P.contents replies.old) (P.contents replies.new) session.state (V.has_refused observer.old) (V.has_refused observer.new)) }
     ensures capacity { IfOk result (λ session. session.cache.capacity ≡ settings.capacity) }
     ensures stops { IfErr result (RunStops settings.tables (map B.bytes ivfs.now) requests.now (F.contents frames.old) (F.contents frames.new) (P.contents replies.old) (P.contents replies.new)) }
 {
@@ -362,7 +362,7 @@ pub fn run<F: Write, P: Write>(
 ) -> Result<Session, RunFault>
     requires capacity { (1 ≤ capacity) × (capacity ≤ 4096) }
     requires sources { (1 ≤ length ivfs.now) × (length ivfs.now ≤ 8) }
-    ensures means { IfOk result (λ session. Means tables (texts_of ivfs.now) requests.now (F.contents frames.old) (F.contents frames.new) (P.contents replies.old) (P.contents replies.new) session.now) }
+    ensures means { IfOk result (λ session. Means tables (texts_of ivfs.now) requests.now (F.contents frames.old) (F.contents frames.new) (P.contents replies.old) (P.contents replies.new) session.state) }
     ensures costs { IfOk result (MeansAtCost tables (of_states capacity) (texts_of ivfs.now) requests.now (F.contents frames.old) (F.contents frames.new) (P.contents replies.old) (P.contents replies.new)) }
     ensures capacity { IfOk result (λ session. session.cache.capacity ≡ of_states capacity) }
     ensures stops { IfErr result (RunStops tables (texts_of ivfs.now) requests.now (F.contents frames.old) (F.contents frames.new) (P.contents replies.old) (P.contents replies.new)) }

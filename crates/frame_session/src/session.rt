@@ -55,7 +55,7 @@ impl Model for Session {
 
     ghost Value = { SessionValue };
 
-    ghost view = { λ s. record { now = record { tables = s.tables; head = s.head; lists = lists_of s.stores.items; current = s.current; script = s.script; spare = s.spare; size = s.size; decoded = s.cache.decoded }; stores = s.stores.items; cache = s.cache } };
+    ghost view = { λ s. record { state = record { tables = s.tables; head = s.head; lists = lists_of s.stores.items; current = s.current; script = s.script; spare = s.spare; size = s.size; decoded = s.cache.decoded }; stores = s.stores.items; cache = s.cache } };
 
     ghost invariant = { λ s. IsSession s.tables s.stores.items s.current s.cache };
 }
@@ -122,15 +122,15 @@ impl Session {
     fn decoded_at(&mut self, source: usize, place: usize) -> Result<Picture, Refusal>
         requires source { source < length self.old.stores }
         requires place { place < length (store_at self.old.stores source).list.entries }
-        ensures returned { IsOrNoMemory (picture_from source (slice_get (outcomes self.old.now.tables (stream_of (list_at self.old.now.lists source))) place)) result }
-        ensures after { self.new.now ≡ record self.old.now { decoded = self.new.now.decoded } }
+        ensures returned { IsOrNoMemory (picture_from source (slice_get (outcomes self.old.state.tables (stream_of (list_at self.old.state.lists source))) place)) result }
+        ensures after { self.new.state ≡ record self.old.state { decoded = self.new.state.decoded } }
         ensures packets { self.new.stores ≡ slice_set self.old.stores source (store_at self.new.stores source) }
         ensures others { OthersDrop source self.old.cache self.new.cache }
-        ensures costs { Costs self.old.now.tables source (store_at self.old.stores source) self.old.cache place (is_ok result) (store_at self.new.stores source) self.new.cache }
-        ensures walks { IsWalk self.old.now.tables source (store_at self.old.stores source) self.old.cache place (is_ok result) (store_at self.new.stores source) self.new.cache }
+        ensures costs { Costs self.old.state.tables source (store_at self.old.stores source) self.old.cache place (is_ok result) (store_at self.new.stores source) self.new.cache }
+        ensures walks { IsWalk self.old.state.tables source (store_at self.old.stores source) self.old.cache place (is_ok result) (store_at self.new.stores source) self.new.cache }
         ensures reached { needs_picture result ≡ is_ok result }
         ensures capacity { self.new.cache.capacity ≡ self.old.cache.capacity }
-        ensures rises { self.old.now.decoded ≤ self.new.now.decoded }
+        ensures rises { self.old.state.decoded ≤ self.new.state.decoded }
     {
         picture_at(
             &self.tables,
@@ -143,7 +143,7 @@ impl Session {
 
     /// The number of shown packets of each source.
     fn shown_counts(&self) -> ArrayVec<u64, 8>
-        ensures value { result.items ≡ shown_counts self.now.now }
+        ensures value { result.items ≡ shown_counts self.now.state }
         ensures few { All (λ count. count ≤ 1048576) result.items }
         ensures sources { length result.items ≡ length self.now.stores }
     {
@@ -153,7 +153,7 @@ impl Session {
     /// The index of shown packet `frame` of a source, if there is one.
     fn shown_place(&self, source: usize, frame: u64) -> Option<usize>
         requires { source < length self.now.stores }
-        ensures place { result ≡ slice_get (shown_indexes (stream_of (list_at self.now.now.lists source))) frame }
+        ensures place { result ≡ slice_get (shown_indexes (stream_of (list_at self.now.state.lists source))) frame }
         ensures within { IfSome result (λ place. place < length (store_at self.now.stores source).list.entries) }
     {
         self.stores[source].shown(frame)
@@ -161,7 +161,7 @@ impl Session {
 
     /// Whether a picture has the size of the stream, if that is fixed.
     fn fits(&self, size: Size) -> bool
-        ensures { result ≡ fits self.now.now.size size }
+        ensures { result ≡ fits self.now.state.size size }
     {
         match self.size {
             None => true,
@@ -177,9 +177,9 @@ impl Session {
     /// `SizeDiffers` if the frame does not have the size of the first frame served, of whichever source; and
     /// `NoMemory`, instead of any of these but the first.
     pub fn frame(&mut self, n: u64) -> Result<Picture, Refusal>
-        ensures returned { IsFrameOrNoMemory (frame_of self.old.now n) result }
-        ensures after { IsAfterFrame self.old.now (size_given result) self.new.now }
-        ensures costs { FrameCosts (packet_of_frame self.old.now n) self.old result self.new }
+        ensures returned { IsFrameOrNoMemory (frame_of self.old.state n) result }
+        ensures after { IsAfterFrame self.old.state (size_given result) self.new.state }
+        ensures costs { FrameCosts (packet_of_frame self.old.state n) self.old result self.new }
         ensures capacity { self.new.cache.capacity ≡ self.old.cache.capacity }
     {
         let counts = self.shown_counts();
@@ -209,8 +209,8 @@ impl Session {
     ///
     /// Refused as `Source` if there is no such source: the current one remains then.
     pub fn choose(&mut self, source: u64) -> Result<u64, Refusal>
-        ensures returned { result ≡ choice_answer self.old.now source }
-        ensures after { self.new ≡ record self.old { now = now_after_choice source self.old.now } }
+        ensures returned { result ≡ choice_answer self.old.state source }
+        ensures after { self.new ≡ record self.old { state = now_after_choice source self.old.state } }
     {
         if source >= self.stores.len() as u64 {
             return Err(Refusal::Source);
@@ -224,8 +224,8 @@ impl Session {
     /// Refused as `Syntax`, `Nodes`, `Reference`, `Number` and then `NoMemory`, each over the whole
     /// text: the old script remains then.
     pub fn set_script(&mut self, text: &[u8]) -> Result<u64, Refusal>
-        ensures returned { IsOrNoMemory (script_answer self.old.now text.now) result }
-        ensures after { self.new ≡ record self.old { now = now_after_script text.now self.old.now result } }
+        ensures returned { IsOrNoMemory (script_answer self.old.state text.now) result }
+        ensures after { self.new ≡ record self.old { state = now_after_script text.now self.old.state result } }
     {
         match Script::parse(self.alloc, text, self.stores.len() as u64) {
             Ok(script) => {
@@ -248,10 +248,10 @@ impl Session {
     /// 3 bytes, and `NoMemory`. A deletion or a move: `Place` if there is no packet at one of its indices. A refused edit changes
     /// nothing.
     pub fn edit(&mut self, edit: Edit) -> Result<u64, Refusal>
-        ensures returned { EditAnswers self.old.now.tables self.old.now.lists (current_list self.old.now) edit result }
-        ensures after { self.new.now ≡ now_after_edit edit self.old.now result }
-        ensures stores { self.new.stores ≡ stores_after self.old.now.tables self.old.now.current edit self.old.stores result }
-        ensures cache { CacheWithout self.old.now.current (id_removed edit (current_list self.old.now) result) self.old.cache self.new.cache }
+        ensures returned { EditAnswers self.old.state.tables self.old.state.lists (current_list self.old.state) edit result }
+        ensures after { self.new.state ≡ now_after_edit edit self.old.state result }
+        ensures stores { self.new.stores ≡ stores_after self.old.state.tables self.old.state.current edit self.old.stores result }
+        ensures cache { CacheWithout self.old.state.current (id_removed edit (current_list self.old.state) result) self.old.cache self.new.cache }
         ensures refused { OnErr result (self.new ≡ self.old) }
     {
         edit_cached(
@@ -266,10 +266,10 @@ impl Session {
 
     /// Makes an edit whose bytes are decoded only once nothing else is refused.
     pub(crate) fn edit_written(&mut self, edit: Edit<Hex<'_>>) -> Result<u64, Refusal>
-        ensures returned { WrittenAnswers self.old.now.tables self.old.now.lists (current_list self.old.now) edit.entry result }
-        ensures after { self.new.now ≡ now_after_edit edit.entry self.old.now result }
-        ensures stores { self.new.stores ≡ stores_after self.old.now.tables self.old.now.current edit.entry self.old.stores result }
-        ensures cache { CacheWithout self.old.now.current (id_removed edit.entry (current_list self.old.now) result) self.old.cache self.new.cache }
+        ensures returned { WrittenAnswers self.old.state.tables self.old.state.lists (current_list self.old.state) edit.entry result }
+        ensures after { self.new.state ≡ now_after_edit edit.entry self.old.state result }
+        ensures stores { self.new.stores ≡ stores_after self.old.state.tables self.old.state.current edit.entry self.old.stores result }
+        ensures cache { CacheWithout self.old.state.current (id_removed edit.entry (current_list self.old.state) result) self.old.cache self.new.cache }
         ensures refused { OnErr result (self.new ≡ self.old) }
     {
         match edit {
@@ -302,8 +302,8 @@ impl Session {
 
     /// The number of packets of the current source, and the number of frames that the script serves.
     pub fn count(&self) -> (u64, u64)
-        ensures packets { result.0 ≡ packet_count self.now.now }
-        ensures frames { result.1 ≡ frame_count self.now.now }
+        ensures packets { result.0 ≡ packet_count self.now.state }
+        ensures frames { result.1 ≡ frame_count self.now.state }
     {
         let packets = self.stores[self.current].len() as u64;
         (packets, self.script.length(&self.shown_counts()))
@@ -311,7 +311,7 @@ impl Session {
 
     /// The number of bytes of the packet at index `place` of a source, if there is one.
     pub fn packet_len(&self, source: usize, place: usize) -> Option<usize>
-        ensures { result ≡ packet_len self.now.now source place }
+        ensures { result ≡ packet_len self.now.state source place }
     {
         if source < self.stores.len() {
             packet_len(&self.stores[source], place)
@@ -322,15 +322,15 @@ impl Session {
 
     /// The number of decoding steps made, whatever their result; at most 18,446,744,073,709,551,615.
     pub fn decoded(&self) -> u64
-        ensures value { result ≡ self.now.now.decoded }
-        ensures sound { IsSession self.now.now.tables self.now.stores self.now.now.current self.now.cache }
+        ensures value { result ≡ self.now.state.decoded }
+        ensures sound { IsSession self.now.state.tables self.now.stores self.now.state.current self.now.cache }
     {
         self.cache.decoded()
     }
 
     /// The head of source 0, as long as no frame was served and the line that opens the frames is not written.
     pub(crate) fn head_due(&self) -> Option<Head>
-        ensures { result ≡ head_due self.now.now }
+        ensures { result ≡ head_due self.now.state }
     {
         match self.size {
             None => Some(self.head),
@@ -343,7 +343,7 @@ impl Session {
     ///
     /// `Write` if the writer returns an error; part of the file may have been written.
     pub fn save<W: Write>(&self, w: &mut W) -> Result<(), WriteFault>
-        ensures { OnOk result (Appends (W.contents w.old) (W.contents w.new) (written_text self.now.now.head (packets_of (list_at self.now.now.lists 0)))) }
+        ensures { OnOk result (Appends (W.contents w.old) (W.contents w.new) (written_text self.now.state.head (packets_of (list_at self.now.state.lists 0)))) }
     {
         self.stores[0].save(w, self.head)
     }
@@ -354,7 +354,7 @@ impl Session {
     ///
     /// `Write` if the writer returns an error; part of the file may have been written.
     pub fn save_padded<W: Write>(&self, w: &mut W) -> Result<(), WriteFault>
-        ensures { OnOk result (Appends (W.contents w.old) (W.contents w.new) (written_text self.now.now.head (padded_packets_of (list_at self.now.now.lists 0)))) }
+        ensures { OnOk result (Appends (W.contents w.old) (W.contents w.new) (written_text self.now.state.head (padded_packets_of (list_at self.now.state.lists 0)))) }
     {
         self.stores[0].save_padded(w, self.head)
     }
@@ -367,14 +367,14 @@ impl Session {
     ///
     /// `Write` if the writer returns an error; part of the file may have been written.
     pub fn save_restamped<W: Write>(&self, w: &mut W, pads: bool) -> Result<(), WriteFault>
-        ensures { OnOk result (Appends (W.contents w.old) (W.contents w.new) (written_text self.now.now.head (restamped pads self.now.now.head (list_at self.now.now.lists 0).entries))) }
+        ensures { OnOk result (Appends (W.contents w.old) (W.contents w.new) (written_text self.now.state.head (restamped pads self.now.state.head (list_at self.now.state.lists 0).entries))) }
     {
         self.stores[0].save_restamped(w, self.head, pads)
     }
 
     /// The number of trailing bytes after the last whole record of each file, of all files together.
     pub fn spare(&self) -> u64
-        ensures { result ≡ self.now.now.spare }
+        ensures { result ≡ self.now.state.spare }
     {
         self.spare
     }

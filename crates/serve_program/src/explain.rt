@@ -479,7 +479,7 @@ fn write_export<E: Write>(
 
 /// Says what was exported, if that was asked for.
 pub fn explain_export<E: Write>(words: Words<'_>, done: &Answered, errors: &mut E) -> io::Result<()>
-    ensures { OnOk result (Appends (E.contents errors.old) (E.contents errors.new) (export_report words.entry.pads done.now.export (frame_count done.now.session.now) done.now.session.now.decoded)) }
+    ensures { OnOk result (Appends (E.contents errors.old) (E.contents errors.new) (export_report words.entry.pads done.now.export (frame_count done.now.session.state) done.now.session.state.decoded)) }
 {
     match &done.export {
         None => Ok(()),

@@ -66,9 +66,9 @@ fn export_fault(fault: ExportFault) -> Fault<'static>
 /// The export of the frames of a session, if its file is not too long, padded or not.
 #[tactic(auto, using(crate::proofs::Unexported::export_refused, crate::proofs::Unexported::too_long, crate::proofs::Unexported::after_asked))]
 fn export_of(session: &mut Session, pads: bool) -> Result<Export, Fault<'static>>
-    ensures file { IfOk result (IsExportFile session.old.now) }
-    ensures fault { IfErr result (IsExportFault session.old.now) }
-    ensures after { IsAfterExport true session.old.now session.new.now }
+    ensures file { IfOk result (IsExportFile session.old.state) }
+    ensures fault { IfErr result (IsExportFault session.old.state) }
+    ensures after { IsAfterExport true session.old.state session.new.state }
     ensures capacity { session.new.cache.capacity ≡ session.old.cache.capacity }
 {
     let export = match session.export() {
@@ -84,11 +84,11 @@ fn export_of(session: &mut Session, pads: bool) -> Result<Export, Fault<'static>
 /// Exports the frames of a session, if the arguments ask for it.
 #[tactic(auto, using(crate::proofs::Unexported::after_unasked, crate::proofs::Unexported::after_some))]
 pub fn with_export(session: Session, words: Words<'_>) -> Result<Answered, Fault<'static>>
-    ensures after { IfOk result (λ done. IsAfterExport (is_some words.entry.exported) session.now done.session.now) }
+    ensures after { IfOk result (λ done. IsAfterExport (is_some words.entry.exported) session.state done.session.state) }
     ensures capacity { IfOk result (λ done. done.session.cache.capacity ≡ session.cache.capacity) }
     ensures asked { IfOk result (λ done. is_some done.export ≡ is_some words.entry.exported) }
-    ensures file { IfOk result (λ done. IfSome done.export (IsExportFile session.now)) }
-    ensures fault { IfErr result (IsExportFault session.now) }
+    ensures file { IfOk result (λ done. IfSome done.export (IsExportFile session.state)) }
+    ensures fault { IfErr result (IsExportFault session.state) }
 {
     let mut session = session;
     if words.exported.is_none() {

@@ -33,7 +33,7 @@ fn run_to_path<R: NamedFiles + AllocGlobal, I: BufRead, P: Write, E: Write>(
 ) -> Result<Session, LiveFault>
     requires capacity { (1 ≤ settings.capacity.states) × (settings.capacity.states ≤ 4096) }
     requires sources { (1 ≤ length sources.now) × (length sources.now ≤ 8) }
-    ensures replied { IfOk result (λ session. IsLiveReplied (IsOut R.Made.contents (R.is_made_at rt.now) path.now) settings.tables (map rc_slice_items sources.now) (I.remaining requests.old) (P.contents replies.old) (P.contents replies.new) session.now) }
+    ensures replied { IfOk result (λ session. IsLiveReplied (IsOut R.Made.contents (R.is_made_at rt.now) path.now) settings.tables (map rc_slice_items sources.now) (I.remaining requests.old) (P.contents replies.old) (P.contents replies.new) session.state) }
     ensures noted { IfOk result (λ session. IsLiveNoted settings.tables (map rc_slice_items sources.now) (I.remaining requests.old) (P.contents replies.old) (P.contents replies.new) messages.old.has_refused messages.new.has_refused) }
     ensures capacity { IfOk result (λ session. session.cache.capacity ≡ settings.capacity) }
     ensures fault { IfErr result (IsLiveFault settings.tables (map rc_slice_items sources.now) (I.remaining requests.old) (P.contents replies.old) (P.contents replies.new)) }
@@ -95,7 +95,7 @@ fn run_over<R: NamedFiles + AllocGlobal, I: Read, P: Write, E: Write>(
 ) -> Result<Session, LiveFault>
     requires capacity { (1 ≤ settings.capacity.states) × (settings.capacity.states ≤ 4096) }
     requires sources { (1 ≤ length sources.now) × (length sources.now ≤ 8) }
-    ensures replied { IfOk result (λ session. IsLiveReplied (IsOut R.Made.contents (R.is_made_at rt.now) path.now) settings.tables (map rc_slice_items sources.now) (I.remaining reader.old) (P.contents replies.old) (P.contents replies.new) session.now) }
+    ensures replied { IfOk result (λ session. IsLiveReplied (IsOut R.Made.contents (R.is_made_at rt.now) path.now) settings.tables (map rc_slice_items sources.now) (I.remaining reader.old) (P.contents replies.old) (P.contents replies.new) session.state) }
     ensures noted { IfOk result (λ session. IsLiveNoted settings.tables (map rc_slice_items sources.now) (I.remaining reader.old) (P.contents replies.old) (P.contents replies.new) messages.old.has_refused messages.new.has_refused) }
     ensures capacity { IfOk result (λ session. session.cache.capacity ≡ settings.capacity) }
     ensures fault { IfErr result (IsLiveFault settings.tables (map rc_slice_items sources.now) (I.remaining reader.old) (P.contents replies.old) (P.contents replies.new)) }
@@ -125,7 +125,7 @@ fn run_requests<'a, R: NamedFiles + SavedFiles + AllocGlobal, I: Read, P: Write,
 ) -> Result<Session, Fault<'a>>
     requires capacity { (1 ≤ settings.capacity.states) × (settings.capacity.states ≤ 4096) }
     requires sources { (1 ≤ length sources.now) × (length sources.now ≤ 8) }
-    ensures replied { IfOk result (λ session. AreLiveReplied (run_files (R.bytes_at rt.now) R.Made.contents (R.is_made_at rt.now) (R.is_saved_at rt.now)) line.now (I.remaining input.old) (P.contents replies.old) (P.contents replies.new) session.now settings.tables (map rc_slice_items sources.now)) }
+    ensures replied { IfOk result (λ session. AreLiveReplied (run_files (R.bytes_at rt.now) R.Made.contents (R.is_made_at rt.now) (R.is_saved_at rt.now)) line.now (I.remaining input.old) (P.contents replies.old) (P.contents replies.new) session.state settings.tables (map rc_slice_items sources.now)) }
     ensures noted { IfOk result (λ session. AreLiveNoted (run_files (R.bytes_at rt.now) R.Made.contents (R.is_made_at rt.now) (R.is_saved_at rt.now)) line.now (I.remaining input.old) (P.contents replies.old) (P.contents replies.new) messages.old.has_refused messages.new.has_refused settings.tables (map rc_slice_items sources.now)) }
     ensures capacity { IfOk result (λ session. session.cache.capacity ≡ settings.capacity) }
     ensures refused { IfErr result (IsLiveRefused (run_files (R.bytes_at rt.now) R.Made.contents (R.is_made_at rt.now) (R.is_saved_at rt.now)) line.now settings.tables (map rc_slice_items sources.now) (I.remaining input.old) (P.contents replies.old) (P.contents replies.new)) }
@@ -162,9 +162,9 @@ fn finish_live<R: SavedFiles + AllocGlobal, E: Write>(
     requires capacity { IsGiven line.now.capacity }
     requires packets { is_some saves.packets ≡ is_some line.now.words.saved }
     requires frames { is_some saves.frames ≡ is_some line.now.words.exported }
-    ensures saved { IfOk result (λ new. AreSaved (R.is_saved_at rt.now) line.now.words session.now new.now) }
+    ensures saved { IfOk result (λ new. AreSaved (R.is_saved_at rt.now) line.now.words session.state new.now) }
     ensures capacity { IfOk result (λ new. new.cache.capacity ≡ session.cache.capacity) }
-    ensures fault { IfErr result (λ fault. IsSaveFault fault ⊎ IsExportFault session.now fault) }
+    ensures fault { IfErr result (λ fault. IsSaveFault fault ⊎ IsExportFault session.state fault) }
 {
     match with_export(session, line.words) {
         Ok(done) => finish(rt, done, line, sources, saves, messages),
@@ -187,7 +187,7 @@ fn answer_files<'a, R: NamedFiles + SavedFiles + AllocGlobal, I: Read, O: Write,
 ) -> Result<Served, Fault<'a>>
     requires capacity { IsGiven line.now.capacity }
     requires sources { (1 ≤ length files.sources.items) × (length files.sources.items ≤ 8) }
-    ensures replied { IfOk result (λ served. (end : SessionState) × AreLiveReplied (run_files (R.bytes_at rt.now) R.Made.contents (R.is_made_at rt.now) (R.is_saved_at rt.now)) line.now (I.remaining input.old) (O.contents output.old) (O.contents output.new) end files.tables (map (λ bytes. bytes.items) files.sources.items) × AreSaved (R.is_saved_at rt.now) line.now.words end served.session.now) }
+    ensures replied { IfOk result (λ served. (end : SessionState) × AreLiveReplied (run_files (R.bytes_at rt.now) R.Made.contents (R.is_made_at rt.now) (R.is_saved_at rt.now)) line.now (I.remaining input.old) (O.contents output.old) (O.contents output.new) end files.tables (map (λ bytes. bytes.items) files.sources.items) × AreSaved (R.is_saved_at rt.now) line.now.words end served.session.state) }
     ensures noted { IfOk result (λ served. AreLiveNoted (run_files (R.bytes_at rt.now) R.Made.contents (R.is_made_at rt.now) (R.is_saved_at rt.now)) line.now (I.remaining input.old) (O.contents output.old) (O.contents output.new) messages.old.has_refused served.has_refused files.tables (map (λ bytes. bytes.items) files.sources.items)) }
     ensures capacity { IfOk result (λ served. served.session.cache.capacity ≡ cached_by line.now.capacity) }
     ensures refused { IfErr result (λ fault. IsLiveRefused (run_files (R.bytes_at rt.now) R.Made.contents (R.is_made_at rt.now) (R.is_saved_at rt.now)) line.now files.tables (map (λ bytes. bytes.items) files.sources.items) (I.remaining input.old) (O.contents output.old) (O.contents output.new) fault ⊎ (IsSaveFault fault × Keeps (O.contents output.old) (O.contents output.new)) ⊎ ((end : SessionState) × AreLiveReplied (run_files (R.bytes_at rt.now) R.Made.contents (R.is_made_at rt.now) (R.is_saved_at rt.now)) line.now (I.remaining input.old) (O.contents output.old) (O.contents output.new) end files.tables (map (λ bytes. bytes.items) files.sources.items) × (IsSaveFault fault ⊎ IsExportFault end fault))) }
@@ -231,7 +231,7 @@ pub fn answer_live<'a, R: NamedFiles + SavedFiles + AllocGlobal, I: Read, O: Wri
 ) -> Result<Served, Fault<'a>>
     requires capacity { IsGiven line.now.capacity }
     requires paths { length line.now.more.items ≤ 7 }
-    ensures served { IfOk result (λ served. IsServed (run_files (R.bytes_at rt.now) R.Made.contents (R.is_made_at rt.now) (R.is_saved_at rt.now)) line.now served.session.cache.capacity (AreLiveReplied (run_files (R.bytes_at rt.now) R.Made.contents (R.is_made_at rt.now) (R.is_saved_at rt.now)) line.now (I.remaining input.old) (O.contents output.old) (O.contents output.new)) served.session.now) }
+    ensures served { IfOk result (λ served. IsServed (run_files (R.bytes_at rt.now) R.Made.contents (R.is_made_at rt.now) (R.is_saved_at rt.now)) line.now served.session.cache.capacity (AreLiveReplied (run_files (R.bytes_at rt.now) R.Made.contents (R.is_made_at rt.now) (R.is_saved_at rt.now)) line.now (I.remaining input.old) (O.contents output.old) (O.contents output.new)) served.session.state) }
     ensures noted { IfOk result (λ served. OverSources (run_files (R.bytes_at rt.now) R.Made.contents (R.is_made_at rt.now) (R.is_saved_at rt.now)) line.now (AreLiveNoted (run_files (R.bytes_at rt.now) R.Made.contents (R.is_made_at rt.now) (R.is_saved_at rt.now)) line.now (I.remaining input.old) (O.contents output.old) (O.contents output.new) messages.old.has_refused served.has_refused)) }
     ensures ended { IfErr result (IsLiveEnded (run_files (R.bytes_at rt.now) R.Made.contents (R.is_made_at rt.now) (R.is_saved_at rt.now)) line.now (I.remaining input.old) (I.remaining input.new) (O.contents output.old) (O.contents output.new)) }
 {

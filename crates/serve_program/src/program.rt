@@ -51,8 +51,8 @@ pub fn run_to<B: FileBytes, F: Write, P: Write, V: Observer>(
 ) -> Result<Session, Fault<'static>>
     requires capacity { (1 ≤ settings.capacity.states) × (settings.capacity.states ≤ 4096) }
     requires sources { (1 ≤ length sources.now) × (length sources.now ≤ 8) }
-    ensures answered { IfOk result (λ session. Means settings.tables (map B.bytes sources.now) requests.now (F.contents frames.old) (F.contents frames.new) (P.contents replies.old) (P.contents replies.new) session.now) }
-    ensures noted { IfOk result (λ session. MeansNoted settings.tables (map B.bytes sources.now) requests.now (F.contents frames.old) (F.contents frames.new) (P.contents replies.old) (P.contents replies.new) session.now (V.has_refused observer.old) (V.has_refused observer.new)) }
+    ensures answered { IfOk result (λ session. Means settings.tables (map B.bytes sources.now) requests.now (F.contents frames.old) (F.contents frames.new) (P.contents replies.old) (P.contents replies.new) session.state) }
+    ensures noted { IfOk result (λ session. MeansNoted settings.tables (map B.bytes sources.now) requests.now (F.contents frames.old) (F.contents frames.new) (P.contents replies.old) (P.contents replies.new) session.state (V.has_refused observer.old) (V.has_refused observer.new)) }
     ensures capacity { IfOk result (λ session. session.cache.capacity ≡ settings.capacity) }
     ensures refused { IfErr result (IsRefused settings.tables (map B.bytes sources.now) requests.now (F.contents frames.old) (F.contents frames.new) (P.contents replies.old) (P.contents replies.new)) }
 {
@@ -84,7 +84,7 @@ fn run_to_path<R: NamedFiles + AllocGlobal, P: Write, E: Write>(
 ) -> Result<Session, Fault<'static>>
     requires capacity { (1 ≤ settings.capacity.states) × (settings.capacity.states ≤ 4096) }
     requires sources { (1 ≤ length sources.now) × (length sources.now ≤ 8) }
-    ensures replied { IfOk result (λ session. IsReplied (IsOut R.Made.contents (R.is_made_at rt.now) path.now) settings.tables (map rc_slice_items sources.now) requests.now (P.contents replies.old) (P.contents replies.new) session.now) }
+    ensures replied { IfOk result (λ session. IsReplied (IsOut R.Made.contents (R.is_made_at rt.now) path.now) settings.tables (map rc_slice_items sources.now) requests.now (P.contents replies.old) (P.contents replies.new) session.state) }
     ensures noted { IfOk result (λ session. IsNoted settings.tables (map rc_slice_items sources.now) requests.now (P.contents replies.old) (P.contents replies.new) messages.old.has_refused messages.new.has_refused) }
     ensures capacity { IfOk result (λ session. session.cache.capacity ≡ settings.capacity) }
     ensures refused { IfErr result (IsUnreplied (map rc_slice_items sources.now) (IsStopped settings.tables (map rc_slice_items sources.now) requests.now (P.contents replies.old) (P.contents replies.new)) (P.contents replies.old) (P.contents replies.new)) }
@@ -146,7 +146,7 @@ pub fn taken_by<W: Write + Drop>(frames: &mut BufWriter<Counted<W>>) -> Taken {
 
 /// Reports the number of trailing bytes of all sources, if there are any.
 pub fn report_spare<E: Write>(session: &Session, errors: &mut E) -> io::Result<()>
-    ensures { OnOk result (Appends (E.contents errors.old) (E.contents errors.new) (spare_text session.now.now.spare)) }
+    ensures { OnOk result (Appends (E.contents errors.old) (E.contents errors.new) (spare_text session.now.state.spare)) }
 {
     let spare = session.spare();
     if spare == 0 {
@@ -190,7 +190,7 @@ pub fn finish<R: SavedFiles + AllocGlobal, E: Write>(
     requires packets { is_some saves.packets ≡ is_some line.now.words.saved }
     requires frames { is_some saves.frames ≡ is_some line.now.words.exported }
     ensures session { IfOk result (λ session. session ≡ done.session) }
-    ensures packets { OnOk result (ArePacketsSaved (R.is_saved_at rt.now) line.now.words done.session.now) }
+    ensures packets { OnOk result (ArePacketsSaved (R.is_saved_at rt.now) line.now.words done.session.state) }
     ensures frames { OnOk result (IfSome done.export (IsExportSaved (R.is_saved_at rt.now) line.now.words)) }
     ensures fault { IfErr result IsSaveFault }
 {
@@ -210,9 +210,9 @@ fn finish_batch<R: SavedFiles + AllocGlobal, E: Write>(
     messages: &mut Messages<'_, E>,
 ) -> Result<Session, Fault<'static>>
     requires { IsGiven line.now.capacity }
-    ensures saved { IfOk result (λ new. AreSaved (R.is_saved_at rt.now) line.now.words session.now new.now) }
+    ensures saved { IfOk result (λ new. AreSaved (R.is_saved_at rt.now) line.now.words session.state new.now) }
     ensures capacity { IfOk result (λ new. new.cache.capacity ≡ session.cache.capacity) }
-    ensures fault { IfErr result (λ fault. IsSaveFault fault ⊎ IsExportFault session.now fault) }
+    ensures fault { IfErr result (λ fault. IsSaveFault fault ⊎ IsExportFault session.state fault) }
 {
     let done = with_export(session, line.words)?;
     let saves = begin_saves(rt, line.words, messages)?;
@@ -238,7 +238,7 @@ fn answer_inputs<R: NamedFiles + SavedFiles + AllocGlobal, O: Write, E: Write>(
     requires capacity { IsGiven line.now.capacity }
     requires paths { length line.now.more.items ≤ 7 }
     requires read { IsOver (run_files (R.bytes_at rt.now) R.Made.contents (R.is_made_at rt.now) (R.is_saved_at rt.now)) line.now inputs.files.tables (map (λ bytes. bytes.items) inputs.files.sources.items) }
-    ensures replied { IfOk result (λ served. (end : SessionState) × IsReplied (IsOut R.Made.contents (R.is_made_at rt.now) line.now.words.frames.now) inputs.files.tables (map (λ bytes. bytes.items) inputs.files.sources.items) inputs.requests.items (O.contents output.old) (O.contents output.new) end × AreSaved (R.is_saved_at rt.now) line.now.words end served.session.now) }
+    ensures replied { IfOk result (λ served. (end : SessionState) × IsReplied (IsOut R.Made.contents (R.is_made_at rt.now) line.now.words.frames.now) inputs.files.tables (map (λ bytes. bytes.items) inputs.files.sources.items) inputs.requests.items (O.contents output.old) (O.contents output.new) end × AreSaved (R.is_saved_at rt.now) line.now.words end served.session.state) }
     ensures noted { IfOk result (λ served. IsNoted inputs.files.tables (map (λ bytes. bytes.items) inputs.files.sources.items) inputs.requests.items (O.contents output.old) (O.contents output.new) messages.old.has_refused served.has_refused) }
     ensures capacity { IfOk result (λ served. served.session.cache.capacity ≡ cached_by line.now.capacity) }
     ensures ended { IfErr result (λ fault. (left : Option (List ℕ)) → (left' : Option (List ℕ)) → AreRequests (contents_of (R.bytes_at rt.now) EMPTY) line.now.words.requests.now left inputs.requests.items → IsEnded (run_files (R.bytes_at rt.now) R.Made.contents (R.is_made_at rt.now) (R.is_saved_at rt.now)) line.now left left' (O.contents output.old) (O.contents output.new) (AreStopped (run_files (R.bytes_at rt.now) R.Made.contents (R.is_made_at rt.now) (R.is_saved_at rt.now)) line.now left (O.contents output.old) (O.contents output.new)) (AreReplied (run_files (R.bytes_at rt.now) R.Made.contents (R.is_made_at rt.now) (R.is_saved_at rt.now)) line.now left (O.contents output.old) (O.contents output.new)) fault) }
@@ -274,7 +274,7 @@ fn answer<'a, R: NamedFiles + SavedFiles + AllocGlobal, I: Read, O: Write, E: Wr
 ) -> Result<Served, Fault<'a>>
     requires capacity { IsGiven line.now.capacity }
     requires paths { length line.now.more.items ≤ 7 }
-    ensures served { IfOk result (λ served. IsServed (run_files (R.bytes_at rt.now) R.Made.contents (R.is_made_at rt.now) (R.is_saved_at rt.now)) line.now served.session.cache.capacity (AreReplied (run_files (R.bytes_at rt.now) R.Made.contents (R.is_made_at rt.now) (R.is_saved_at rt.now)) line.now (I.remaining input.old) (O.contents output.old) (O.contents output.new)) served.session.now) }
+    ensures served { IfOk result (λ served. IsServed (run_files (R.bytes_at rt.now) R.Made.contents (R.is_made_at rt.now) (R.is_saved_at rt.now)) line.now served.session.cache.capacity (AreReplied (run_files (R.bytes_at rt.now) R.Made.contents (R.is_made_at rt.now) (R.is_saved_at rt.now)) line.now (I.remaining input.old) (O.contents output.old) (O.contents output.new)) served.session.state) }
     ensures noted { IfOk result (λ served. OverSources (run_files (R.bytes_at rt.now) R.Made.contents (R.is_made_at rt.now) (R.is_saved_at rt.now)) line.now (AreNoted (run_files (R.bytes_at rt.now) R.Made.contents (R.is_made_at rt.now) (R.is_saved_at rt.now)) line.now (I.remaining input.old) (O.contents output.old) (O.contents output.new) messages.old.has_refused served.has_refused)) }
     ensures ended { IfErr result (IsEnded (run_files (R.bytes_at rt.now) R.Made.contents (R.is_made_at rt.now) (R.is_saved_at rt.now)) line.now (I.remaining input.old) (I.remaining input.new) (O.contents output.old) (O.contents output.new) (AreStopped (run_files (R.bytes_at rt.now) R.Made.contents (R.is_made_at rt.now) (R.is_saved_at rt.now)) line.now (I.remaining input.old) (O.contents output.old) (O.contents output.new)) (AreReplied (run_files (R.bytes_at rt.now) R.Made.contents (R.is_made_at rt.now) (R.is_saved_at rt.now)) line.now (I.remaining input.old) (O.contents output.old) (O.contents output.new))) }
 {
@@ -292,7 +292,7 @@ fn answer_accepted<'a, R: NamedFiles + SavedFiles + AllocGlobal, I: Read, O: Wri
 ) -> Result<Served, Fault<'a>>
     requires capacity { IsGiven line.now.capacity }
     requires paths { length line.now.more.items ≤ 7 }
-    ensures served { IfOk result (λ served. IsServedAs (run_files (R.bytes_at rt.now) R.Made.contents (R.is_made_at rt.now) (R.is_saved_at rt.now)) line.now served.session.cache.capacity (I.remaining input.old) (O.contents output.old) (O.contents output.new) served.session.now) }
+    ensures served { IfOk result (λ served. IsServedAs (run_files (R.bytes_at rt.now) R.Made.contents (R.is_made_at rt.now) (R.is_saved_at rt.now)) line.now served.session.cache.capacity (I.remaining input.old) (O.contents output.old) (O.contents output.new) served.session.state) }
     ensures noted { IfOk result (λ served. IsNotedAs (run_files (R.bytes_at rt.now) R.Made.contents (R.is_made_at rt.now) (R.is_saved_at rt.now)) line.now (I.remaining input.old) (O.contents output.old) (O.contents output.new) messages.old.has_refused served.has_refused) }
 {
     if line.words.is_live {

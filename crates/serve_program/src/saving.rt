@@ -20,7 +20,7 @@ struct Packets<'a> {
 }
 
 impl SavedText for Packets<'_> {
-    ghost text = { λ packets. saved_text packets.pads packets.restamps packets.session.now.now };
+    ghost text = { λ packets. saved_text packets.pads packets.restamps packets.session.now.state };
 
     fn write_to<W: Write + Drop>(&self, w: &mut BufWriter<W>) -> Result<(), Unsaved> {
         let saved = if self.restamps {
@@ -156,7 +156,7 @@ fn finish_packets<R: SavedFiles + AllocGlobal>(
     begun: Option<R::Begun>,
 ) -> Result<(), Unsaved>
     requires { is_some begun ≡ is_some words.saved }
-    ensures { OnOk result (ArePacketsSaved (R.is_saved_at rt.now) words.entry session.now.now) }
+    ensures { OnOk result (ArePacketsSaved (R.is_saved_at rt.now) words.entry session.now.state) }
 {
     let packets = Packets {
         session,
@@ -198,7 +198,7 @@ pub fn finish_saves<R: SavedFiles + AllocGlobal, E: Write>(
 ) -> Result<(), Fault<'static>>
     requires packets { is_some saves.packets ≡ is_some words.saved }
     requires frames { is_some saves.frames ≡ is_some words.exported }
-    ensures packets { OnOk result (ArePacketsSaved (R.is_saved_at rt.now) words.entry done.now.session.now) }
+    ensures packets { OnOk result (ArePacketsSaved (R.is_saved_at rt.now) words.entry done.now.session.state) }
     ensures frames { OnOk result (IfSome done.now.export (IsExportSaved (R.is_saved_at rt.now) words.entry)) }
     ensures fault { IfErr result IsSaveFault }
 {

@@ -9,12 +9,12 @@ use Rattle.wokureti_c.specs.declared.engine.Engine.{Engine}
 use Rattle.wokureti_c.specs.declared.opening.Opened.{Opened}
 use Rattle.wokureti_c.specs.Openings.{AreTables, IsOpened}
 
-pub is_opened : (files : List (List ℕ)) (capacity given : Capacity) (bytes : List ℕ) (opened : Opened) (engine : Engine) → (tables : Tables) × AreTables bytes tables × Means tables files [] None None None None opened.session.now
+pub is_opened : (files : List (List ℕ)) (capacity given : Capacity) (bytes : List ℕ) (opened : Opened) (engine : Engine) → (tables : Tables) × AreTables bytes tables × Means tables files [] None None None None opened.session.state
     → opened.session.cache.capacity ≡ given → given ≡ capacity → opened.heads.items ≡ map head_of files → engine.session ≡ opened.session → engine.heads ≡ opened.heads → IsOpened files capacity bytes engine
 is_opened files capacity given bytes opened engine found is same heads session its = record {
   tables = found.0;
   are = found.1;
-  means = subst (λ (s : SessionValue). Means found.0 files [] None None None None s.now) (sym session) found.2;
+  means = subst (λ (s : SessionValue). Means found.0 files [] None None None None s.state) (sym session) found.2;
   capacity_is = ap (λ (s : SessionValue). s.cache.capacity) session ∙ is ∙ same;
   heads = ap (λ hs. hs.items) its ∙ heads;
 }

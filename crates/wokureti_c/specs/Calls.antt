@@ -40,8 +40,8 @@ with_picture picture shown rooms = record {
 
 -- frame n of a session was asked for, and this is its result, and the session after it
 pub record FrameAnswers (old : SessionValue) (n : ℕ) (answer : Result PictureSamples Refusal) (new : SessionValue) : Type 0 where
-  pub is_its : IsFrameOrNoMemory (frame_of old.now n) answer
-  pub after : IsAfterFrame old.now (size_given answer) new.now
+  pub is_its : IsFrameOrNoMemory (frame_of old.state n) answer
+  pub after : IsAfterFrame old.state (size_given answer) new.state
 
 -- a frame that was served has this size, and its planes are in the rooms
 pub record IsServed (old : SessionValue) (n : ℕ) (before shown : Shown) (rooms rooms' : Planes) (new : SessionValue) : Type 0 where
@@ -76,7 +76,7 @@ pub record IsKept (count : ℕ) (asked reply : List ℕ) (kept : RefusedLine) : 
 -- a request line was answered over a session: its reply is the text that is left, and the bytes of frames that it wrote are given to nobody; the line
 -- is kept if it was refused
 pub record IsAnswered (old : Engine) (line : List ℕ) (new : Engine) : Type 0 where
-  pub serves : WritesAnswer old.session.now (asked_by line) None None (Some []) (Some new.text.items) new.session.now
+  pub serves : WritesAnswer old.session.state (asked_by line) None None (Some []) (Some new.text.items) new.session.state
   pub heads : new.heads ≡ old.heads
   pub number : new.answered ≡ min (old.answered + 1) (2 ^ 64 - 1)
   pub kept : IfSome new.refused (IsKept new.answered line new.text.items)
@@ -85,7 +85,7 @@ pub record IsAnswered (old : Engine) (line : List ℕ) (new : Engine) : Type 0 w
 abbrev pub IsReason : Engine → Option RefusedLine → List ℕ → Type 0
 IsReason engine None text = text ≡ []
 IsReason engine (Some asked) text =
-    (detail : Detail) × IsDetail engine.session.now (asked_by asked.line.items) asked.refusal detail × (text ≡ explained asked.number asked.line.items detail asked.refusal)
+    (detail : Detail) × IsDetail engine.session.state (asked_by asked.line.items) asked.refusal detail × (text ≡ explained asked.number asked.line.items detail asked.refusal)
 
 -- it is the text that is left, and nothing else changed
 pub record IsExplained (old new : Engine) : Type 0 where
@@ -99,7 +99,7 @@ saved_file padded now = written_text now.head ((if padded then padded_packets_of
 -- it is the text that is left, and nothing else changed
 pub record IsSaved (old : Engine) (padded : Bool) (new : Engine) : Type 0 where
   pub rest : new ≡ record old { text = new.text }
-  pub text : new.text.items ≡ saved_file padded old.session.now
+  pub text : new.text.items ≡ saved_file padded old.session.state
 
 -- a handle that holds an engine holds it afterwards, with another session at most
 abbrev pub KeepsRest : Option Engine → Option Engine → Type 0

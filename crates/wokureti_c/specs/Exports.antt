@@ -44,18 +44,18 @@ IsUnexported now pads number reported =
 -- the session after frames were exported, or were to be: packets may have been decoded
 pub record IsAfterExport (old new : Engine) : Type 0 where
   pub rest : new ≡ record old { session = new.session; text = new.text }
-  pub now : new.session.now ≡ record old.session.now { decoded = new.session.now.decoded }
-  pub steps : old.session.now.decoded ≤ new.session.now.decoded
+  pub now : new.session.state ≡ record old.session.state { decoded = new.session.state.decoded }
+  pub steps : old.session.state.decoded ≤ new.session.state.decoded
 
 -- the file of the frames is the text that is left
 pub record IsExported (old : Engine) (pads : Bool) (new : Engine) : Type 0 where
   pub export : Export
-  pub is : IsExportOf old.session.now pads export
+  pub is : IsExportOf old.session.state pads export
   pub text : new.text.items ≡ exported_text pads export
   pub after : IsAfterExport old new
 
 -- the frames are not exported, for this reason; the text is as it was
 pub record IsRefusedExport (old : Engine) (pads : Bool) (number : ℕ) (reported : Unexported) (new : Engine) : Type 0 where
-  pub why : IsUnexported old.session.now pads number reported
+  pub why : IsUnexported old.session.state pads number reported
   pub after : IsAfterExport old new
   pub text : new.text ≡ old.text

@@ -47,7 +47,7 @@ head_in bytes = if nat_le 24 (length bytes) then head_of bytes else record { wid
 pub record IsOpened (files : List (List ℕ)) (capacity : Capacity) (bytes : List ℕ) (engine : Engine) : Type 0 where
   pub tables : Tables
   pub are : AreTables bytes tables
-  pub means : Means tables files [] None None None None engine.session.now
+  pub means : Means tables files [] None None None None engine.session.state
   pub capacity_is : engine.session.cache.capacity ≡ capacity
   pub heads : engine.heads.items ≡ map head_of files
 

@@ -19,12 +19,12 @@ head_at heads source = slice_index_or heads source (record { width = 0; height =
 
 -- whether there is a source with this number
 abbrev pub is_source : Engine → ℕ → Bool
-is_source engine source = nat_lt source (length engine.session.now.lists)
+is_source engine source = nat_lt source (length engine.session.state.lists)
 
 -- the file of the packets of a source
 abbrev pub source_file : Engine → ℕ → (pads restamps : Bool) → List ℕ
 source_file engine source pads restamps =
-    let head = head_at engine.heads.items source in written_text head (saved_packets pads restamps head (list_at engine.session.now.lists source))
+    let head = head_at engine.heads.items source in written_text head (saved_packets pads restamps head (list_at engine.session.state.lists source))
 
 -- it is the text that is left, and nothing else changed
 pub record IsSavedSource (old : Engine) (source : ℕ) (pads restamps : Bool) (new : Engine) : Type 0 where

@@ -53,11 +53,11 @@ fn report(fault: ExportFault, reported: &mut Unexported) -> u32
 
 /// The export of the frames of a session, if its file is not too long, or the number of the error.
 fn export_of(session: &mut Session, pads: bool, reported: &mut Unexported) -> Result<Export, u32>
-    ensures file { IfOk result (IsExportOf session.old.now pads) }
-    ensures refused { IfErr result (λ number. IsUnexported session.old.now pads number reported.new) }
+    ensures file { IfOk result (IsExportOf session.old.state pads) }
+    ensures refused { IfErr result (λ number. IsUnexported session.old.state pads number reported.new) }
     ensures number { IfErr result (λ number. 0 < number) }
-    ensures after { session.new.now ≡ record session.old.now { decoded = session.new.now.decoded } }
-    ensures rises { session.old.now.decoded ≤ session.new.now.decoded }
+    ensures after { session.new.state ≡ record session.old.state { decoded = session.new.state.decoded } }
+    ensures rises { session.old.state.decoded ≤ session.new.state.decoded }
 {
     let export = match session.export() {
         Ok(export) => export,

@@ -125,7 +125,7 @@ pub fn open(
     capacity: Capacity,
     tables: &[u8],
 ) -> Result<Opened, OpenFault>
-    ensures opened { IfOk result (λ opened. (entries : TableEntries) × AreTables tables.now entries × Means entries (files_in bytes.now ends.now) [] None None None None opened.session.now) }
+    ensures opened { IfOk result (λ opened. (entries : TableEntries) × AreTables tables.now entries × Means entries (files_in bytes.now ends.now) [] None None None None opened.session.state) }
     ensures capacity { IfOk result (λ opened. opened.session.cache.capacity ≡ capacity) }
     ensures heads { IfOk result (λ opened. opened.heads.items ≡ map head_of (files_in bytes.now ends.now)) }
     ensures refused { IfErr result (OpenRefuses bytes.now ends.now capacity.states tables.now) }

@@ -67,11 +67,11 @@ fn first_of(numbers: &[u64]) -> Option<u64>
 impl Session {
     /// The packet of frame `n`, and the number of the first node that changes samples of it.
     fn origin_of(&mut self, n: u64) -> Result<Origin, Refusal>
-        ensures target { IfOk result (λ found. found.changed ≡ None → HasTarget self.old.now n found.target) }
-        ensures changed { IfOk result (λ found. IfSome found.changed (IsChanged self.old.now n)) }
-        ensures refused { IfErr result (λ refusal. IsOrNoMemory (frame_of (unsized self.old.now) n) (Err refusal)) }
-        ensures after { self.new.now ≡ record self.old.now { decoded = self.new.now.decoded } }
-        ensures rises { self.old.now.decoded ≤ self.new.now.decoded }
+        ensures target { IfOk result (λ found. found.changed ≡ None → HasTarget self.old.state n found.target) }
+        ensures changed { IfOk result (λ found. IfSome found.changed (IsChanged self.old.state n)) }
+        ensures refused { IfErr result (λ refusal. IsOrNoMemory (frame_of (unsized self.old.state) n) (Err refusal)) }
+        ensures after { self.new.state ≡ record self.old.state { decoded = self.new.state.decoded } }
+        ensures rises { self.old.state.decoded ≤ self.new.state.decoded }
         ensures capacity { self.new.cache.capacity ≡ self.old.cache.capacity }
     {
         let counts = self.shown_counts();
@@ -107,10 +107,10 @@ impl Session {
 
     /// The packet of frame `n`, if the script changes no sample of it.
     fn export_target(&mut self, n: u64) -> Result<Target, ExportFault>
-        ensures target { IfOk result (HasTarget self.old.now n) }
-        ensures fault { IfErr result (IsFrameFault self.old.now n) }
-        ensures after { self.new.now ≡ record self.old.now { decoded = self.new.now.decoded } }
-        ensures rises { self.old.now.decoded ≤ self.new.now.decoded }
+        ensures target { IfOk result (HasTarget self.old.state n) }
+        ensures fault { IfErr result (IsFrameFault self.old.state n) }
+        ensures after { self.new.state ≡ record self.old.state { decoded = self.new.state.decoded } }
+        ensures rises { self.old.state.decoded ≤ self.new.state.decoded }
         ensures capacity { self.new.cache.capacity ≡ self.old.cache.capacity }
     {
         match self.origin_of(n) {
@@ -132,12 +132,12 @@ impl Session {
     /// The packets of the first frames, this many.
     #[tactic(auto, using(crate::proofs::ExportedFrames::steps_only))]
     fn export_targets(&mut self, count: u64) -> Result<Vec<Target>, ExportFault>
-        requires { count ≤ frame_count self.old.now }
-        ensures targets { IfOk result (λ targets. HaveTargets self.old.now 0 targets.items) }
+        requires { count ≤ frame_count self.old.state }
+        ensures targets { IfOk result (λ targets. HaveTargets self.old.state 0 targets.items) }
         ensures count { IfOk result (λ targets. length targets.items ≡ count) }
-        ensures fault { IfErr result (IsNotExported self.old.now) }
-        ensures after { self.new.now ≡ record self.old.now { decoded = self.new.now.decoded } }
-        ensures rises { self.old.now.decoded ≤ self.new.now.decoded }
+        ensures fault { IfErr result (IsNotExported self.old.state) }
+        ensures after { self.new.state ≡ record self.old.state { decoded = self.new.state.decoded } }
+        ensures rises { self.old.state.decoded ≤ self.new.state.decoded }
         ensures capacity { self.new.cache.capacity ≡ self.old.cache.capacity }
     {
         let mut targets = self.no_targets();
@@ -152,18 +152,18 @@ impl Session {
 
     /// The packets that show these frames.
     fn packets_of(&self, targets: &[Target]) -> Result<Vec<Bytes>, CutFault>
-        ensures value { IfOk result (λ packets. packets.items ≡ exported self.now.now.tables (streams_in self.now.now) None targets.now) }
+        ensures value { IfOk result (λ packets. packets.items ≡ exported self.now.state.tables (streams_in self.now.state) None targets.now) }
         ensures few { IfOk result (λ packets. length packets.items ≤ 1048576) }
-        ensures full { IfErr result (λ fault. fault ≡ CutFault.Full → IsTooLarge (exported self.now.now.tables (streams_in self.now.now) None targets.now)) }
+        ensures full { IfErr result (λ fault. fault ≡ CutFault.Full → IsTooLarge (exported self.now.state.tables (streams_in self.now.state) None targets.now)) }
     {
         export_packets(self.alloc, &self.tables, &self.stores, targets)
     }
 
     /// The same, with the error of an export.
     fn export_packed(&self, targets: &[Target]) -> Result<Vec<Bytes>, ExportFault>
-        ensures value { IfOk result (λ packets. packets.items ≡ exported self.now.now.tables (streams_in self.now.now) None targets.now) }
+        ensures value { IfOk result (λ packets. packets.items ≡ exported self.now.state.tables (streams_in self.now.state) None targets.now) }
         ensures few { IfOk result (λ packets. length packets.items ≤ 1048576) }
-        ensures fault { IfErr result (IsPackingFault self.now.now targets.now) }
+        ensures fault { IfErr result (IsPackingFault self.now.state targets.now) }
     {
         match self.packets_of(targets) {
             Ok(packets) => Ok(packets),
@@ -173,7 +173,7 @@ impl Session {
 
     /// How long the packet of a frame is shown, in the units of the head of source 0.
     fn units_at(&self, target: Target) -> u64
-        ensures { result ≡ units_at self.now.now target }
+        ensures { result ≡ units_at self.now.state target }
     {
         if target.source < self.stores.len() {
             units_of_packet(&self.stores[target.source], target.place, self.head)
@@ -184,7 +184,7 @@ impl Session {
 
     /// How long the packets of frames are shown.
     fn units_of(&self, targets: &[Target]) -> Result<Vec<u64>, NoMemory>
-        ensures { IfOk result (λ units. units.items ≡ map (units_at self.now.now) targets.now) }
+        ensures { IfOk result (λ units. units.items ≡ map (units_at self.now.state) targets.now) }
     {
         let mut units = Vec::with_capacity(self.alloc, targets.len())?;
         for target in targets {
@@ -195,7 +195,7 @@ impl Session {
 
     /// The head of an export of these frames.
     fn export_head(&self, targets: &[Target]) -> Head
-        ensures { result ≡ export_head self.now.now.head targets.now }
+        ensures { result ≡ export_head self.now.state.head targets.now }
     {
         let (width, height) = match targets.first() {
             Some(target) => (target.width, target.height),
@@ -211,7 +211,7 @@ impl Session {
 
     /// The packets with the time stamps of these frames.
     fn stamp_packets(&self, targets: &[Target], packets: Vec<Bytes>) -> Result<Packets, ExportFault>
-        ensures file { IfOk result (λ file. file ≡ stamped 0 (map (units_at self.now.now) targets.now) packets.items) }
+        ensures file { IfOk result (λ file. file ≡ stamped 0 (map (units_at self.now.state) targets.now) packets.items) }
         ensures fault { IfErr result (λ fault. fault ≡ ExportFault.Packets CutFault.NoMemory) }
     {
         let Ok(units) = self.units_of(targets) else {
@@ -225,14 +225,14 @@ impl Session {
 
     /// Does nothing. Its contract: packets of frames show these frames, with the tables of the session.
     fn prove_exports(&self)
-        ensures { ExportsShowTheirFrames self.now.now.tables }
+        ensures { ExportsShowTheirFrames self.now.state.tables }
     {
         exports_show_their_frames(&self.tables);
     }
 
     /// The number of frames that the script serves.
     fn frames(&self) -> u64
-        ensures { result ≡ frame_count self.now.now }
+        ensures { result ≡ frame_count self.now.state }
     {
         self.count().1
     }
@@ -248,10 +248,10 @@ impl Session {
     /// 1,048,576 packets, or more than 1,073,741,824 bytes as an IVF file, with `Size` or `TooLarge` if a hold packet cannot be forged, and with
     /// `NoMemory`.
     pub fn export(&mut self) -> Result<Export, ExportFault>
-        ensures file { IfOk result (IsExportFile self.old.now) }
-        ensures fault { IfErr result (IsNotExported self.old.now) }
-        ensures after { self.new.now ≡ record self.old.now { decoded = self.new.now.decoded } }
-        ensures rises { self.old.now.decoded ≤ self.new.now.decoded }
+        ensures file { IfOk result (IsExportFile self.old.state) }
+        ensures fault { IfErr result (IsNotExported self.old.state) }
+        ensures after { self.new.state ≡ record self.old.state { decoded = self.new.state.decoded } }
+        ensures rises { self.old.state.decoded ≤ self.new.state.decoded }
         ensures capacity { self.new.cache.capacity ≡ self.old.cache.capacity }
     {
         self.prove_exports();

@@ -15,15 +15,15 @@ impl Session {
 
     /// The source on which edits act.
     pub fn current(&self) -> usize
-        ensures { result ≡ self.now.now.current }
+        ensures { result ≡ self.now.state.current }
     {
         self.current
     }
 
     /// The packets of a source, if there is such a source.
     pub fn list(&self, source: usize) -> Option<&Store>
-        ensures list { IfSome result (λ list. list.now.list ≡ list_at self.now.now.lists source) }
-        ensures there { is_some result ≡ nat_lt source (length self.now.now.lists) }
+        ensures list { IfSome result (λ list. list.now.list ≡ list_at self.now.state.lists source) }
+        ensures there { is_some result ≡ nat_lt source (length self.now.state.lists) }
     {
         if source < self.stores.len() {
             Some(&self.stores[source])
@@ -34,7 +34,7 @@ impl Session {
 
     /// The number of packets of a source; 0 if there is no such source.
     pub fn packets_in(&self, source: u64) -> u64
-        ensures { result ≡ packets_in self.now.now source }
+        ensures { result ≡ packets_in self.now.state source }
     {
         if source < self.stores.len() as u64 {
             self.stores[source as usize].len() as u64
@@ -45,7 +45,7 @@ impl Session {
 
     /// The index of the last packet before `at` of the current source that has a key tag, if one has.
     pub fn key_before(&self, at: u64) -> Option<usize>
-        ensures { at ≤ length (current_list self.now.now).entries → IsLast (key_tag_at (stream_of (current_list self.now.now))) 0 at result }
+        ensures { at ≤ length (current_list self.now.state).entries → IsLast (key_tag_at (stream_of (current_list self.now.state))) 0 at result }
     {
         let store = &self.stores[self.current];
         if at <= store.len() as u64 {
@@ -57,7 +57,7 @@ impl Session {
 
     /// The size of the first frame that was served, if one was.
     pub fn first_size(&self) -> Option<Size>
-        ensures { result ≡ self.now.now.size }
+        ensures { result ≡ self.now.state.size }
     {
         self.size
     }
@@ -65,7 +65,7 @@ impl Session {
     /// The size of frame `n` of the current script, from the last key packet up to its own and the crops; `None` if
     /// there is no such frame, if the key packet has no size, or if a crop reaches past the edge. Nothing is decoded.
     pub fn stated_size(&self, n: u64) -> Option<(u16, u16)>
-        ensures { result ≡ stated_size self.now.now n }
+        ensures { result ≡ stated_size self.now.state n }
     {
         let (source, frame, trace) = self.script.trace(&self.shown_counts(), n)?;
         let place = self.shown_place(source, frame)?;

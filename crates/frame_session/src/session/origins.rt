@@ -18,7 +18,7 @@ impl Session {
     /// The origin of frame `n` of the current script, which is this frame of this source.
     fn origin_from(&self, n: u64, source: usize, frame: u64) -> FrameOrigin
         requires { source < length self.now.stores }
-        ensures value { result ≡ origin_from self.now.now n source frame }
+        ensures value { result ≡ origin_from self.now.state n source frame }
         ensures few { result.packet ≤ 1048576 }
     {
         self.stores[source].prove_few();
@@ -34,7 +34,7 @@ impl Session {
     fn size_up_to(&self, source: usize, packet: u64) -> (u16, u16)
         requires source { source < length self.now.stores }
         requires packet { packet ≤ 1048576 }
-        ensures { result ≡ size_up_to self.now.now source packet }
+        ensures { result ≡ size_up_to self.now.state source packet }
     {
         self.stores[source].size_at(packet + 1).unwrap_or((0, 0))
     }
@@ -51,8 +51,8 @@ impl Session {
         requires source { source < length self.now.stores }
         requires few { length steps.now ≤ 16 }
         requires allowed { All IsNodeStep steps.now }
-        requires steps { steps.now ≡ node_steps (shown_counts self.now.now) self.now.now.script n }
-        ensures { OnOk result (Appends (W.contents w.old) (W.contents w.new) (origin_object self.now.now n source frame)) }
+        requires steps { steps.now ≡ node_steps (shown_counts self.now.state) self.now.state.script n }
+        ensures { OnOk result (Appends (W.contents w.old) (W.contents w.new) (origin_object self.now.state n source frame)) }
     {
         let origin = self.origin_from(n, source, frame);
         let (width, height) = self.size_up_to(source, origin.packet);
@@ -63,7 +63,7 @@ impl Session {
 
     /// Writes the line of frame `n` of the current script: a JSON object with its origin; an empty line if there is no such frame.
     fn write_origin_line<W: Write>(&self, w: &mut W, n: u64) -> Result<(), WriteFault>
-        ensures { OnOk result (Appends (W.contents w.old) (W.contents w.new) (origin_line self.now.now n)) }
+        ensures { OnOk result (Appends (W.contents w.old) (W.contents w.new) (origin_line self.now.state n)) }
     {
         let counts = self.shown_counts();
         let Some(steps) = self.script.node_steps(&counts, n) else {
@@ -84,7 +84,7 @@ impl Session {
         count: u64,
     ) -> Result<(), WriteFault>
         requires { first + count < 2 ^ 64 }
-        ensures { OnOk result (Appends (W.contents w.old) (W.contents w.new) (concat (map (origin_line self.now.now) (range_with_len first count)))) }
+        ensures { OnOk result (Appends (W.contents w.old) (W.contents w.new) (concat (map (origin_line self.now.state) (range_with_len first count)))) }
     {
         for n in first..first + count {
             self.write_origin_line(w, n)?;
@@ -101,7 +101,7 @@ impl Session {
         first: u64,
         count: u64,
     ) -> Result<Option<Refusal>, WriteFault>
-        ensures wrote { OnOk result (Appends (W.contents w.old) (W.contents w.new) (origins_answer self.now.now first count)) }
+        ensures wrote { OnOk result (Appends (W.contents w.old) (W.contents w.new) (origins_answer self.now.state first count)) }
         ensures told { IfOk result (Tells (W.contents w.old) (W.contents w.new)) }
     {
         let frames = self.count().1;

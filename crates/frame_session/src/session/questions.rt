@@ -154,7 +154,7 @@ impl Session {
         what: What,
         at: u64,
     ) -> Result<Option<Refusal>, WriteFault>
-        ensures wrote { OnOk result (Appends (W.contents w.old) (W.contents w.new) (detail_answer what self.now.now.tables (current_list self.now.now) at) ⊎ Appends (W.contents w.old) (W.contents w.new) (refused_line Refusal.NoMemory)) }
+        ensures wrote { OnOk result (Appends (W.contents w.old) (W.contents w.new) (detail_answer what self.now.state.tables (current_list self.now.state) at) ⊎ Appends (W.contents w.old) (W.contents w.new) (refused_line Refusal.NoMemory)) }
         ensures told { IfOk result (Tells (W.contents w.old) (W.contents w.new)) }
     {
         let store = &self.stores[self.current];
@@ -173,7 +173,7 @@ impl Session {
         w: &mut W,
         question: Question,
     ) -> Result<Option<Refusal>, WriteFault>
-        ensures wrote { OnOk result (GainsAnswer self.now.now question (W.contents w.old) (W.contents w.new)) }
+        ensures wrote { OnOk result (GainsAnswer self.now.state question (W.contents w.old) (W.contents w.new)) }
         ensures told { IfOk result (Tells (W.contents w.old) (W.contents w.new)) }
     {
         match question {

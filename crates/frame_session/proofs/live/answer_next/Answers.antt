@@ -14,7 +14,7 @@ pub returns-in_err-is_terminated-clause-err : goal.returns-in_err-is_terminated-
 returns-in_err-is_terminated-clause-err g c =
     let i = g.I.Read.remaining in
     let x = c.in_err-is_terminated.ensures in
-    let why = ends_first c.args.session.now.now (i c.args.input.now) (i c.read_whole_line.new.input) (g.F.Write.contents c.args.frames.now) (g.P.Write.contents c.args.replies.now) x.0 x.1 c.in_err-is_terminated.field-0.0 x.2 in
+    let why = ends_first c.args.session.now.state (i c.args.input.now) (i c.read_whole_line.new.input) (g.F.Write.contents c.args.frames.now) (g.P.Write.contents c.args.replies.now) x.0 x.1 c.in_err-is_terminated.field-0.0 x.2 in
     search rules
 
 pub returns-then-line-eq0-clause-ok : goal.returns-then-line-eq0-clause-ok

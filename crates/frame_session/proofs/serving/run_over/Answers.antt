@@ -24,4 +24,4 @@ returns-in-Ok-serve_all-clause-noted g c =
     let f = g.F.Write.contents in
     let r = g.P.Write.contents in
     let o = g.V.Observer.has_refused in
-    means_noted c.args.settings.tables c.args.settings.capacity (map g.B.FileBytes.bytes c.args.ivfs.now) c.args.requests.now (f c.args.frames.now) (f c.serve_all.new.frames) (r c.args.replies.now) (r c.serve_all.new.replies) c.in_ok-files.files.items c.in-Ok.session c.serve_all.new.session.now (o c.args.observer.now) (o c.serve_all.new.observer) c.in_ok-files.ensures.are c.in-Ok.ensures c.in-Ok-serve_all.ensures.noted
+    means_noted c.args.settings.tables c.args.settings.capacity (map g.B.FileBytes.bytes c.args.ivfs.now) c.args.requests.now (f c.args.frames.now) (f c.serve_all.new.frames) (r c.args.replies.now) (r c.serve_all.new.replies) c.in_ok-files.files.items c.in-Ok.session c.serve_all.new.session.state (o c.args.observer.now) (o c.serve_all.new.observer) c.in_ok-files.ensures.are c.in-Ok.ensures c.in-Ok-serve_all.ensures.noted

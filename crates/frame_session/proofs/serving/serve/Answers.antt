@@ -14,108 +14,108 @@ pub returns-in-Silent-clause-serves : goal.returns-in-Silent-clause-serves
 returns-in-Silent-clause-serves g c =
     let f = g.F.Write.contents c.args.frames.now in
     let r = g.P.Write.contents c.args.replies.now in
-    rw c.in-Silent.is (serves_reply c.args.session.now.now f f r r requests.Silent [] (refl, refl) (Appends-nil r))
+    rw c.in-Silent.is (serves_reply c.args.session.now.state f f r r requests.Silent [] (refl, refl) (Appends-nil r))
 
 pub returns-in-Silent-clause-frame_first : goal.returns-in-Silent-clause-frame_first
 returns-in-Silent-clause-frame_first g c =
     let f = g.F.Write.contents c.args.frames.now in
-    rw c.in-Silent.is (inr (serves_reply c.args.session.now.now f f None None requests.Silent [] (refl, refl) tt))
+    rw c.in-Silent.is (inr (serves_reply c.args.session.now.state f f None None requests.Silent [] (refl, refl) tt))
 
 pub returns-in-Unknown-clause-serves : goal.returns-in-Unknown-clause-serves
 returns-in-Unknown-clause-serves g c =
     let f = g.F.Write.contents c.args.frames.now in
     let r = g.P.Write.contents c.args.replies.now in
     let r' = g.P.Write.contents c.write_refused.new.w in
-    rw c.in-Unknown.is (on_ok_weaker c.write_refused.result (λ said. serves_reply c.args.session.now.now f f r r' requests.Unknown _ (refl, refl) said) c.write_refused.ensures.wrote)
+    rw c.in-Unknown.is (on_ok_weaker c.write_refused.result (λ said. serves_reply c.args.session.now.state f f r r' requests.Unknown _ (refl, refl) said) c.write_refused.ensures.wrote)
 
 pub returns-in-Unknown-clause-frame_first : goal.returns-in-Unknown-clause-frame_first
 returns-in-Unknown-clause-frame_first g c =
     let f = g.F.Write.contents c.args.frames.now in
-    rw c.in-Unknown.is (inr (serves_reply c.args.session.now.now f f None None requests.Unknown _ (refl, refl) tt))
+    rw c.in-Unknown.is (inr (serves_reply c.args.session.now.state f f None None requests.Unknown _ (refl, refl) tt))
 
 pub returns-in-Use-clause-serves : goal.returns-in-Use-clause-serves
 returns-in-Use-clause-serves g c =
     let f = g.F.Write.contents c.args.frames.now in
     let r = g.P.Write.contents c.args.replies.now in
     let r' = g.P.Write.contents c.write_edited.new.w in
-    rw c.in-Use.is (on_ok_weaker c.write_edited.result (λ said. serves_chosen c.args.session.now.now f f r r' c.in-Use.source c.choose-chosen.result c.choose-chosen.new.self.now c.choose-chosen.ensures.returned (ap (λ (v : SessionValue). v.now) {y = record c.args.session.now { now = now_after_choice c.in-Use.source c.args.session.now.now }} c.choose-chosen.ensures.after) said) c.write_edited.ensures.wrote)
+    rw c.in-Use.is (on_ok_weaker c.write_edited.result (λ said. serves_chosen c.args.session.now.state f f r r' c.in-Use.source c.choose-chosen.result c.choose-chosen.new.self.state c.choose-chosen.ensures.returned (ap (λ (v : SessionValue). v.state) {y = record c.args.session.now { state = now_after_choice c.in-Use.source c.args.session.now.state }} c.choose-chosen.ensures.after) said) c.write_edited.ensures.wrote)
 
 pub returns-in-Use-clause-frame_first : goal.returns-in-Use-clause-frame_first
 returns-in-Use-clause-frame_first g c =
     let f = g.F.Write.contents c.args.frames.now in
-    rw c.in-Use.is (inr (serves_chosen c.args.session.now.now f f None None c.in-Use.source c.choose-chosen.result c.choose-chosen.new.self.now c.choose-chosen.ensures.returned (ap (λ (v : SessionValue). v.now) {y = record c.args.session.now { now = now_after_choice c.in-Use.source c.args.session.now.now }} c.choose-chosen.ensures.after) tt))
+    rw c.in-Use.is (inr (serves_chosen c.args.session.now.state f f None None c.in-Use.source c.choose-chosen.result c.choose-chosen.new.self.state c.choose-chosen.ensures.returned (ap (λ (v : SessionValue). v.state) {y = record c.args.session.now { state = now_after_choice c.in-Use.source c.args.session.now.state }} c.choose-chosen.ensures.after) tt))
 
 pub returns-in-Edit-clause-serves : goal.returns-in-Edit-clause-serves
 returns-in-Edit-clause-serves g c =
     let f = g.F.Write.contents c.args.frames.now in
     let r = g.P.Write.contents c.args.replies.now in
     let r' = g.P.Write.contents c.write_edited-in-Edit.new.w in
-    rw c.in-Edit.is (on_ok_weaker c.write_edited-in-Edit.result (λ said. serves_edited c.args.session.now.now f f r r' c.in-Edit.edit c.edit_written-edited.result c.edit_written-edited.new.self.now c.edit_written-edited.ensures.returned c.edit_written-edited.ensures.after said) c.write_edited-in-Edit.ensures.wrote)
+    rw c.in-Edit.is (on_ok_weaker c.write_edited-in-Edit.result (λ said. serves_edited c.args.session.now.state f f r r' c.in-Edit.edit c.edit_written-edited.result c.edit_written-edited.new.self.state c.edit_written-edited.ensures.returned c.edit_written-edited.ensures.after said) c.write_edited-in-Edit.ensures.wrote)
 
 pub returns-in-Edit-clause-frame_first : goal.returns-in-Edit-clause-frame_first
 returns-in-Edit-clause-frame_first g c =
     let f = g.F.Write.contents c.args.frames.now in
-    rw c.in-Edit.is (inr (serves_edited c.args.session.now.now f f None None c.in-Edit.edit c.edit_written-edited.result c.edit_written-edited.new.self.now c.edit_written-edited.ensures.returned c.edit_written-edited.ensures.after tt))
+    rw c.in-Edit.is (inr (serves_edited c.args.session.now.state f f None None c.in-Edit.edit c.edit_written-edited.result c.edit_written-edited.new.self.state c.edit_written-edited.ensures.returned c.edit_written-edited.ensures.after tt))
 
 pub returns-in-Script-clause-serves : goal.returns-in-Script-clause-serves
 returns-in-Script-clause-serves g c =
     let f = g.F.Write.contents c.args.frames.now in
     let r = g.P.Write.contents c.args.replies.now in
     let r' = g.P.Write.contents c.write_edited-in-Script.new.w in
-    rw c.in-Script.is (on_ok_weaker c.write_edited-in-Script.result (λ said. serves_script c.args.session.now.now f f r r' c.in-Script.text c.set_script-set.result c.set_script-set.new.self.now (rw c.as_slice.ensures at c.set_script-set.ensures.returned) (ap (λ (v : SessionValue). v.now) (rw c.as_slice.ensures at c.set_script-set.ensures.after)) said) c.write_edited-in-Script.ensures.wrote)
+    rw c.in-Script.is (on_ok_weaker c.write_edited-in-Script.result (λ said. serves_script c.args.session.now.state f f r r' c.in-Script.text c.set_script-set.result c.set_script-set.new.self.state (rw c.as_slice.ensures at c.set_script-set.ensures.returned) (ap (λ (v : SessionValue). v.state) (rw c.as_slice.ensures at c.set_script-set.ensures.after)) said) c.write_edited-in-Script.ensures.wrote)
 
 pub returns-in-Script-clause-frame_first : goal.returns-in-Script-clause-frame_first
 returns-in-Script-clause-frame_first g c =
     let f = g.F.Write.contents c.args.frames.now in
-    rw c.in-Script.is (inr (serves_script c.args.session.now.now f f None None c.in-Script.text c.set_script-set.result c.set_script-set.new.self.now (rw c.as_slice.ensures at c.set_script-set.ensures.returned) (ap (λ (v : SessionValue). v.now) (rw c.as_slice.ensures at c.set_script-set.ensures.after)) tt))
+    rw c.in-Script.is (inr (serves_script c.args.session.now.state f f None None c.in-Script.text c.set_script-set.result c.set_script-set.new.self.state (rw c.as_slice.ensures at c.set_script-set.ensures.returned) (ap (λ (v : SessionValue). v.state) (rw c.as_slice.ensures at c.set_script-set.ensures.after)) tt))
 
 pub returns-in-Count-clause-serves : goal.returns-in-Count-clause-serves
 returns-in-Count-clause-serves g c =
     let f = g.F.Write.contents c.args.frames.now in
     let r = g.P.Write.contents c.args.replies.now in
     let r' = g.P.Write.contents c.report_count.new.replies in
-    rw c.in-Count.is (on_ok_weaker c.report_count.result (λ said. serves_reply c.args.session.now.now f f r r' requests.Count _ (refl, refl) said) c.report_count.ensures.wrote)
+    rw c.in-Count.is (on_ok_weaker c.report_count.result (λ said. serves_reply c.args.session.now.state f f r r' requests.Count _ (refl, refl) said) c.report_count.ensures.wrote)
 
 pub returns-in-Count-clause-frame_first : goal.returns-in-Count-clause-frame_first
 returns-in-Count-clause-frame_first g c =
     let f = g.F.Write.contents c.args.frames.now in
-    rw c.in-Count.is (inr (serves_reply c.args.session.now.now f f None None requests.Count _ (refl, refl) tt))
+    rw c.in-Count.is (inr (serves_reply c.args.session.now.state f f None None requests.Count _ (refl, refl) tt))
 
 pub returns-in-Stats-clause-serves : goal.returns-in-Stats-clause-serves
 returns-in-Stats-clause-serves g c =
     let f = g.F.Write.contents c.args.frames.now in
     let r = g.P.Write.contents c.args.replies.now in
     let r' = g.P.Write.contents c.write_stats.new.w in
-    rw c.in-Stats.is (on_ok_weaker c.write_stats.result (λ said. serves_reply c.args.session.now.now f f r r' requests.Stats _ (refl, refl) said) (rw c.decoded.ensures.value at c.write_stats.ensures.wrote))
+    rw c.in-Stats.is (on_ok_weaker c.write_stats.result (λ said. serves_reply c.args.session.now.state f f r r' requests.Stats _ (refl, refl) said) (rw c.decoded.ensures.value at c.write_stats.ensures.wrote))
 
 pub returns-in-Stats-clause-frame_first : goal.returns-in-Stats-clause-frame_first
 returns-in-Stats-clause-frame_first g c =
     let f = g.F.Write.contents c.args.frames.now in
-    rw c.in-Stats.is (inr (serves_reply c.args.session.now.now f f None None requests.Stats _ (refl, refl) tt))
+    rw c.in-Stats.is (inr (serves_reply c.args.session.now.state f f None None requests.Stats _ (refl, refl) tt))
 
 pub returns-in-Ask-clause-serves : goal.returns-in-Ask-clause-serves
 returns-in-Ask-clause-serves g c =
     let f = g.F.Write.contents c.args.frames.now in
     let r = g.P.Write.contents c.args.replies.now in
     let r' = g.P.Write.contents c.answer.new.w in
-    rw c.in-Ask.is (on_ok_weaker c.answer.result (λ gains. serves_asked c.args.session.now.now f f r r' c.in-Ask.question gains) c.answer.ensures.wrote)
+    rw c.in-Ask.is (on_ok_weaker c.answer.result (λ gains. serves_asked c.args.session.now.state f f r r' c.in-Ask.question gains) c.answer.ensures.wrote)
 
 pub returns-in-Ask-clause-frame_first : goal.returns-in-Ask-clause-frame_first
 returns-in-Ask-clause-frame_first g c =
     let f = g.F.Write.contents c.args.frames.now in
-    rw c.in-Ask.is (inr (serves_reply c.args.session.now.now f f None None (requests.Ask c.in-Ask.question) _ (answer_to c.args.session.now.now c.in-Ask.question, inl refl, refl, refl) tt))
+    rw c.in-Ask.is (inr (serves_reply c.args.session.now.state f f None None (requests.Ask c.in-Ask.question) _ (answer_to c.args.session.now.state c.in-Ask.question, inl refl, refl, refl) tt))
 
 pub returns-in-Lost-clause-serves : goal.returns-in-Lost-clause-serves
 returns-in-Lost-clause-serves g c =
     let f = g.F.Write.contents c.args.frames.now in
     let r = g.P.Write.contents c.args.replies.now in
     let r' = g.P.Write.contents c.write_refused-in-Lost.new.w in
-    rw c.in-Lost.is (on_ok_weaker c.write_refused-in-Lost.result (λ said. serves_reply c.args.session.now.now f f r r' requests.Lost _ (refl, refl) said) c.write_refused-in-Lost.ensures.wrote)
+    rw c.in-Lost.is (on_ok_weaker c.write_refused-in-Lost.result (λ said. serves_reply c.args.session.now.state f f r r' requests.Lost _ (refl, refl) said) c.write_refused-in-Lost.ensures.wrote)
 
 pub returns-in-Lost-clause-frame_first : goal.returns-in-Lost-clause-frame_first
 returns-in-Lost-clause-frame_first g c =
     let f = g.F.Write.contents c.args.frames.now in
-    rw c.in-Lost.is (inr (serves_reply c.args.session.now.now f f None None requests.Lost _ (refl, refl) tt))
+    rw c.in-Lost.is (inr (serves_reply c.args.session.now.state f f None None requests.Lost _ (refl, refl) tt))
 
 pub returns-in-Frame-clause-question : goal.returns-in-Frame-clause-question
 returns-in-Frame-clause-question g c = λ asked. absurd (no_question _ _ c.in-Frame.is refl asked)

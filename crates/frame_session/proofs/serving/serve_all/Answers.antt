@@ -16,7 +16,7 @@ lines-preserved g c = record {
   whole = all_more c.lines.invariant.done c.unwrap_or-request.result c.in-Some.line.now (lines c.lines.rest.now) (lines c.in-Some.following.now) _ (c.unwrap_or-request.ensures ∙ ap (λ (read : Result Line Misfit). result_unwrap_or read Unknown) c.read_line.ensures) c.in-Some.ensures.next c.lines.invariant.whole;
   ran = runs_more _ _ _ _ _ _ _ _ _ _ _ c.lines.invariant.ran (serves_of _ _ _ _ _ _ _ _ c.in_ok-told.ensures.costs);
   costs = costs_more c.args.session.now c.lines.session c.serve_line.new.session c.lines.invariant.done c.lines.invariant.ran.answers c.unwrap_or-request.result c.in_ok-told.ensures.costs.answer c.lines.invariant.costs c.in_ok-told.ensures.costs.means c.in_ok-told.ensures.costs.costs;
-  noted = noted_append c.args.session.now.now c.lines.session.now c.lines.invariant.done (c.unwrap_or-request.result ∷ []) c.lines.invariant.ran.answers (c.in_ok-told.ensures.costs.answer ∷ []) (g.V.Observer.has_refused c.args.observer.now) (g.V.Observer.has_refused c.lines.observer) (g.V.Observer.has_refused c.answered.new.self) c.lines.invariant.ran.means c.lines.invariant.noted
+  noted = noted_append c.args.session.now.state c.lines.session.state c.lines.invariant.done (c.unwrap_or-request.result ∷ []) c.lines.invariant.ran.answers (c.in_ok-told.ensures.costs.answer ∷ []) (g.V.Observer.has_refused c.args.observer.now) (g.V.Observer.has_refused c.lines.observer) (g.V.Observer.has_refused c.answered.new.self) c.lines.invariant.ran.means c.lines.invariant.noted
       (noted_line c.unwrap_or-request.result c.in_ok-told.ensures.costs.answer c.is_frame-asks_frame.result c.in_ok-told.told (g.V.Observer.has_refused c.lines.observer) (g.V.Observer.has_refused c.answered.new.self) c.is_frame-asks_frame.ensures c.in_ok-told.ensures.costs.told c.answered.ensures);
   capacity = c.serve_line.ensures.capacity ∙ c.lines.invariant.capacity;
 }
@@ -25,7 +25,7 @@ pub lines-init : goal.lines-init
 lines-init g c = record {
   done = [];
   whole = refl;
-  ran = runs_none c.args.session.now.now (g.F.Write.contents c.args.frames.now) (g.P.Write.contents c.args.replies.now);
+  ran = runs_none c.args.session.now.state (g.F.Write.contents c.args.frames.now) (g.P.Write.contents c.args.replies.now);
   costs = refl;
   noted = sym (or_false (g.V.Observer.has_refused c.args.observer.now));
   capacity = refl;
@@ -44,4 +44,4 @@ returns-in_default-clause-noted g c =
     let r = g.P.Write.contents in
     let o = g.V.Observer.has_refused in
     let none : lines c.lines.rest.now ≡ [] = search rules in
-    all_noted c.args.session.now.now c.lines.session.now c.lines.invariant.done (lines c.lines.rest.now) (requests_of c.args.requests.now) (f c.args.frames.now) (f c.lines.frames) (r c.args.replies.now) (r c.lines.replies) (o c.args.observer.now) (o c.lines.observer) none c.lines.invariant.whole c.lines.invariant.ran c.lines.invariant.noted
+    all_noted c.args.session.now.state c.lines.session.state c.lines.invariant.done (lines c.lines.rest.now) (requests_of c.args.requests.now) (f c.args.frames.now) (f c.lines.frames) (r c.args.replies.now) (r c.lines.replies) (o c.args.observer.now) (o c.lines.observer) none c.lines.invariant.whole c.lines.invariant.ran c.lines.invariant.noted

@@ -9,7 +9,7 @@ abbrev pub invariant-lines : goal.invariant-lines
 invariant-lines g l = record {
   done : List Line;
   whole : done ++ requests_of l.rest ≡ requests_of l.fn.requests;
-  ran : WritesAnswers l.fn.session.now done (g.F.Write.contents l.fn.frames) (g.F.Write.contents l.frames) (g.P.Write.contents l.fn.replies) (g.P.Write.contents l.replies) l.session.now;
+  ran : WritesAnswers l.fn.session.state done (g.F.Write.contents l.fn.frames) (g.F.Write.contents l.frames) (g.P.Write.contents l.fn.replies) (g.P.Write.contents l.replies) l.session.state;
   costs : RunCosts l.fn.session done ran.answers l.session;
   noted : g.V.Observer.has_refused l.observer ≡ (g.V.Observer.has_refused l.fn.observer || refuses_some done ran.answers);
   capacity : l.session.cache.capacity ≡ l.fn.session.cache.capacity;

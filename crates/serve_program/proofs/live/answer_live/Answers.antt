@@ -36,4 +36,4 @@ returns-clause-served g c =
     let i = g.I.Read.remaining c.args.input.now in
     let o = g.O.Write.contents in
     let run = run_files (g.R.NamedFiles.bytes_at c.args.rt.now) g.R.Made.Write.contents (g.R.NamedFiles.is_made_at c.args.rt.now) (g.R.SavedFiles.is_saved_at c.args.rt.now) in
-    both_ok c.answer_files.result _ _ _ (λ done replied cached. live_served run c.args.line.now i (o c.args.output.now) (o c.answer_files.new.output) c.in_ok-files.files.tables (map (λ bytes. bytes.items) c.in_ok-files.files.sources.items) replied.0 done.session.now done.session.cache.capacity c.in_ok-files.ensures.read replied.1 replied.2 cached) c.answer_files.ensures.replied c.answer_files.ensures.capacity
+    both_ok c.answer_files.result _ _ _ (λ done replied cached. live_served run c.args.line.now i (o c.args.output.now) (o c.answer_files.new.output) c.in_ok-files.files.tables (map (λ bytes. bytes.items) c.in_ok-files.files.sources.items) replied.0 done.session.state done.session.cache.capacity c.in_ok-files.ensures.read replied.1 replied.2 cached) c.answer_files.ensures.replied c.answer_files.ensures.capacity

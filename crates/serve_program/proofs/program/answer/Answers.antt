@@ -12,7 +12,7 @@ returns-clause-served g c =
     let i = g.I.Read.remaining c.args.input.now in
     let o = g.O.Write.contents in
     let run = run_files (g.R.NamedFiles.bytes_at c.args.rt.now) g.R.Made.Write.contents (g.R.NamedFiles.is_made_at c.args.rt.now) (g.R.SavedFiles.is_saved_at c.args.rt.now) in
-    both_ok c.answer_inputs.result _ _ _ (λ done replied cached. served run c.args.line.now i (o c.args.output.now) (o c.answer_inputs.new.output) c.in_ok-inputs.inputs.files.tables (map (λ bytes. bytes.items) c.in_ok-inputs.inputs.files.sources.items) replied.0 done.session.now done.session.cache.capacity c.in_ok-inputs.ensures.read (c.in_ok-inputs.inputs.requests.items, c.in_ok-inputs.ensures.requests, replied.1) replied.2 cached) c.answer_inputs.ensures.replied c.answer_inputs.ensures.capacity
+    both_ok c.answer_inputs.result _ _ _ (λ done replied cached. served run c.args.line.now i (o c.args.output.now) (o c.answer_inputs.new.output) c.in_ok-inputs.inputs.files.tables (map (λ bytes. bytes.items) c.in_ok-inputs.inputs.files.sources.items) replied.0 done.session.state done.session.cache.capacity c.in_ok-inputs.ensures.read (c.in_ok-inputs.inputs.requests.items, c.in_ok-inputs.ensures.requests, replied.1) replied.2 cached) c.answer_inputs.ensures.replied c.answer_inputs.ensures.capacity
 
 pub returns-in_err-inputs-clause-ended : goal.returns-in_err-inputs-clause-ended
 returns-in_err-inputs-clause-ended g c =

@@ -33,4 +33,4 @@ returns-in_err-session-2-clause-ended g c =
     let sources : map rc_slice_items c.as_slice.result.now ≡ map (λ bytes. bytes.items) c.args.inputs.files.sources.items = search rules in
     let requests : c.as_slice-2.result.now ≡ c.args.inputs.requests.items = search rules in
     returned c.from_residual-in_err-session-2.result _ c.in_err-session-2.field-0.0 c.from_residual-in_err-session-2.ensures.1
-    (λ left left' are. finish_ended_over run c.args.line.now left left' r r' c.args.inputs.files.tables c.settings_with-settings.result.tables (map (λ bytes. bytes.items) c.args.inputs.files.sources.items) (map rc_slice_items c.as_slice.result.now) c.args.inputs.requests.items c.as_slice-2.result.now c.in_err-session-2.field-0.0 c.settings_with-settings.ensures.tables sources requests c.requires.read are c.in_ok-session.session.now c.in_ok-session.ensures.replied c.in_err-session-2.ensures.fault)
+    (λ left left' are. finish_ended_over run c.args.line.now left left' r r' c.args.inputs.files.tables c.settings_with-settings.result.tables (map (λ bytes. bytes.items) c.args.inputs.files.sources.items) (map rc_slice_items c.as_slice.result.now) c.args.inputs.requests.items c.as_slice-2.result.now c.in_err-session-2.field-0.0 c.settings_with-settings.ensures.tables sources requests c.requires.read are c.in_ok-session.session.state c.in_ok-session.ensures.replied c.in_err-session-2.ensures.fault)

@@ -19,7 +19,7 @@ returns-in-Check-clause-wrote g c =
     let store : StoreValue = c.index-store.result.now in
     let here : store.list ≡ list_at (lists_of stores) c.self.inside.current =
     ap (λ (s : StoreValue). s.list) (c.index-store.ensures ∙ found stores c.self.inside.current store c.self.invariant.current_exists) ∙ sym (list_of_store stores c.self.inside.current) in
-    let P : SessionValue → Type 0 = λ v. OnOk c.answer_check.result (GainsAnswer v.now (questions.Check first count) r r') in
-    let Q : Question → Type 0 = λ question. OnOk c.answer_check.result (GainsAnswer c.args.self.now.now question r r') in
+    let P : SessionValue → Type 0 = λ v. OnOk c.answer_check.result (GainsAnswer v.state (questions.Check first count) r r') in
+    let Q : Question → Type 0 = λ question. OnOk c.answer_check.result (GainsAnswer c.args.self.now.state question r r') in
     let gained : P c.args.self.now = subst P c.self.view_is (check_gains c.answer_check.result _ store.list first count r r' here c.answer_check.ensures.wrote) in
     subst Q (sym c.in-Check.is) gained

@@ -13,10 +13,10 @@ returns-clause-after c =
     let made : List StoreValue = take s.stores.len (c.edit_cached.new.stores ++ rest) in
     ap (λ (d : ℕ). record old { lists = lists_of made; decoded = d }) c.edit_cached.ensures.steps
     ∙ edit_leaves old s.stores.items made c.args.edit c.edit_cached.result (take_front c.edit_cached.new.stores rest s.stores.len (search rules) ∙ c.edit_cached.ensures.after ∙ ap (λ (stores : List StoreValue). stores_after s.tables s.current c.args.edit stores c.edit_cached.result) c.deref_mut.ensures.value)
-    ∙ ap (λ (v : SessionValue). now_after_edit c.args.edit v.now c.edit_cached.result) c.self.view_is
+    ∙ ap (λ (v : SessionValue). now_after_edit c.args.edit v.state c.edit_cached.result) c.self.view_is
 
 pub returns-clause-stores : goal.returns-clause-stores
 returns-clause-stores c =
     take_front c.edit_cached.new.stores (drop (length c.edit_cached.new.stores) c.self.inside.stores.items) c.self.inside.stores.len (search rules) ∙ c.edit_cached.ensures.after
     ∙ ap (λ (stores : List StoreValue). stores_after c.self.inside.tables c.self.inside.current c.args.edit stores c.edit_cached.result) c.deref_mut.ensures.value
-    ∙ ap (λ (v : SessionValue). stores_after v.now.tables v.now.current c.args.edit v.stores c.edit_cached.result) c.self.view_is
+    ∙ ap (λ (v : SessionValue). stores_after v.state.tables v.state.current c.args.edit v.stores c.edit_cached.result) c.self.view_is

@@ -10,8 +10,8 @@ use Rattle.frame_session.proofs.session.Session.export.Goals as goal
 
 pub returns-clause-file : goal.returns-clause-file
 returns-clause-file c =
-    let old : SessionState = c.args.self.now.now in
-    let new : SessionState = c.export_targets.new.self.now in
+    let old : SessionState = c.args.self.now.state in
+    let new : SessionState = c.export_targets.new.self.state in
     let targets : List Target = c.in_ok-targets.targets.items in
     let bytes : List (List ℕ) = c.in_ok-bytes.bytes.items in
     let made : bytes ≡ exported new.tables (streams_in new) None targets = c.in_ok-bytes.ensures.value ∙ ap (λ (ts : List Target). exported new.tables (streams_in new) None ts) c.deref.ensures.value in
@@ -31,15 +31,15 @@ returns-clause-file c =
 
 pub returns-in_err-bytes-clause-fault : goal.returns-in_err-bytes-clause-fault
 returns-in_err-bytes-clause-fault c =
-    let old : SessionState = c.args.self.now.now in
+    let old : SessionState = c.args.self.now.state in
     let targets : List Target = c.deref.result.now in
     let have : HaveTargets old 0 targets = subst (HaveTargets old 0) (sym c.deref.ensures.value) c.in_ok-targets.ensures.targets in
     let all : length targets ≡ frame_count old = ap length c.deref.ensures.value ∙ c.in_ok-targets.ensures.count ∙ c.frames-count.ensures in
-    let why = packing_fault old c.export_targets.new.self.now targets c.in_err-bytes.field-0.0 c.in_ok-targets.ensures.after have all c.in_err-bytes.ensures.fault in
+    let why = packing_fault old c.export_targets.new.self.state targets c.in_err-bytes.field-0.0 c.in_ok-targets.ensures.after have all c.in_err-bytes.ensures.fault in
     search rules
 
 pub invariant_of-result : goal.invariant_of-result
 invariant_of-result c =
-    let units : List ℕ = map (units_at c.export_targets.new.self.now) c.deref-2.result.now in
+    let units : List ℕ = map (units_at c.export_targets.new.self.state) c.deref-2.result.now in
     let long : length c.in_ok-packets.packets ≡ length c.in_ok-bytes.bytes.items = ap length c.in_ok-packets.ensures.file ∙ stamped_length 0 units c.in_ok-bytes.bytes.items in
     record { few = omega (arith, long, c.in_ok-bytes.ensures.few) }

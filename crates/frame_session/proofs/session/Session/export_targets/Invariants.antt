@@ -4,9 +4,9 @@ use Rattle.frame_session.proofs.session.Session.export_targets.Given as goal
 
 abbrev pub invariant-frames : goal.invariant-frames
 invariant-frames l = record {
-  same : l.self.now ≡ record l.fn.self.now { decoded = l.self.now.decoded };
-  has : HaveTargets l.fn.self.now 0 l.targets.items;
+  same : l.self.state ≡ record l.fn.self.state { decoded = l.self.state.decoded };
+  has : HaveTargets l.fn.self.state 0 l.targets.items;
   count : length l.targets.items ≡ l.n;
-  rises : l.fn.self.now.decoded ≤ l.self.now.decoded;
+  rises : l.fn.self.state.decoded ≤ l.self.state.decoded;
   capacity : l.self.cache.capacity ≡ l.fn.self.cache.capacity;
 }

@@ -11,12 +11,12 @@ use Rattle.frame_session.proofs.session.Session.packets_of.Goals as goal
 
 pub returns-clause-value : goal.returns-clause-value
 returns-clause-value c =
-    let P : SessionValue → Type 0 = λ v. IfOk c.export_packets.result (λ packets. packets.items ≡ exported v.now.tables (streams_in v.now) None c.args.targets.now) in
+    let P : SessionValue → Type 0 = λ v. IfOk c.export_packets.result (λ packets. packets.items ≡ exported v.state.tables (streams_in v.state) None c.args.targets.now) in
     let same : streams_of c.deref.result.now ≡ map stream_of (lists_of c.self.inside.stores.items) = ap streams_of c.deref.ensures.value ∙ streams_same c.self.inside.stores.items in
     subst P c.self.view_is (IfOk-weaker c.export_packets.result _ _ (λ packets is. is ∙ ap (λ (ss : List (List (List ℕ))). exported c.self.inside.tables ss None c.args.targets.now) same) c.export_packets.ensures.value)
 
 pub returns-clause-full : goal.returns-clause-full
 returns-clause-full c =
-    let P : SessionValue → Type 0 = λ v. IfErr c.export_packets.result (λ fault. fault ≡ cuts.Full → IsTooLarge (exported v.now.tables (streams_in v.now) None c.args.targets.now)) in
+    let P : SessionValue → Type 0 = λ v. IfErr c.export_packets.result (λ fault. fault ≡ cuts.Full → IsTooLarge (exported v.state.tables (streams_in v.state) None c.args.targets.now)) in
     let same : streams_of c.deref.result.now ≡ map stream_of (lists_of c.self.inside.stores.items) = ap streams_of c.deref.ensures.value ∙ streams_same c.self.inside.stores.items in
     subst P c.self.view_is (IfErr-weaker c.export_packets.result _ _ (λ fault is full. subst IsTooLarge (ap (λ (ss : List (List (List ℕ))). exported c.self.inside.tables ss None c.args.targets.now) same) (is full)) c.export_packets.ensures.full)

@@ -4,4 +4,4 @@ use Rattle.frame_session.specs.Cached.{SessionValue}
 use Rattle.frame_session.proofs.session.Session.prove_exports.Goals as goal
 
 pub returns : goal.returns
-returns c = subst (λ (v : SessionValue). ExportsShowTheirFrames v.now.tables) c.self.view_is c.exports_show_their_frames.ensures
+returns c = subst (λ (v : SessionValue). ExportsShowTheirFrames v.state.tables) c.self.view_is c.exports_show_their_frames.ensures

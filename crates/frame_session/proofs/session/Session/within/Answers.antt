@@ -16,7 +16,7 @@ invariant_of-result c = begun_session c.args.tables c.args.files.items c.in_ok-s
 pub returns : goal.returns
 returns c =
     let made : List StoreValue → List Listing → Head → ℕ → List Node → CacheValue → SessionValue = λ stores lists head spare script cache. record {
-      now = record { tables = c.args.tables; head = head; lists = lists; current = 0; script = script; spare = spare; size = None; decoded = cache.decoded };
+      state = record { tables = c.args.tables; head = head; lists = lists; current = 0; script = script; spare = spare; size = None; decoded = cache.decoded };
       stores = stores;
       cache = cache;
     } in

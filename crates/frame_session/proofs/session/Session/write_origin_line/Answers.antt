@@ -11,11 +11,11 @@ use Rattle.frame_session.proofs.session.Session.write_origin_line.Goals as goal
 
 pub returns : goal.returns
 returns g c =
-    let now = c.args.self.now.now in
+    let now = c.args.self.now.state in
     let n = c.args.n in
     let source = c.in-Some-trace.source in
     let frame = c.in-Some-trace.frame in
-    let T : SessionValue → Type 0 = λ v. traced c.shown_counts-counts.result.items v.now.script n ≡ Some (origin_of source frame c.in-Some-trace.field-0-2) in
+    let T : SessionValue → Type 0 = λ v. traced c.shown_counts-counts.result.items v.state.script n ≡ Some (origin_of source frame c.in-Some-trace.field-0-2) in
     let found : T c.args.self.now = subst T c.self.view_is (ap (λ (k : List ℕ). traced k c.self.inside.script n) (sym c.deref-2.ensures.0) ∙ c.in-Some-trace.ensures.some) in
     let from = ap (λ (k : List ℕ). traced k now.script n) (sym c.shown_counts-counts.ensures.value) ∙ found in
     let line : origin_line now n ≡ origin_object now n source frame ++ 10 ∷ [] = ap (λ (o : Option Origin). option_map_or (λ (f : Origin). origin_object now n f.source f.frame) o [] ++ 10 ∷ []) from in

@@ -8,7 +8,7 @@ use Rattle.frame_session.proofs.session.Session.write_origin_lines.Goals as goal
 
 pub loop-n-preserved : goal.loop-n-preserved
 loop-n-preserved g c =
-    let now = c.args.self.now.now in
+    let now = c.args.self.now.state in
     let first = c.args.first in
     let n = c.loop-n.n in
     let one : n + 1 - first ≡ n - first + 1 = omega arith in

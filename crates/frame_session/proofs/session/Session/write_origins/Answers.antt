@@ -6,7 +6,7 @@ use Rattle.frame_session.proofs.session.Session.write_origins.Goals as goal
 
 pub returns-clause-wrote : goal.returns-clause-wrote
 returns-clause-wrote g c =
-    let whole = origins_replied c.args.self.now.now c.args.first c.args.count _ (omega arith) (omega arith) in
+    let whole = origins_replied c.args.self.now.state c.args.first c.args.count _ (omega arith) (omega arith) in
     subst (λ (t : List ℕ). Appends (g.W.Write.contents c.args.w.now) (g.W.Write.contents c.write_origin_lines.new.w) t) (sym whole)
     (Appends-trans _ _ _ _ _ c.in_ok-write_lines_line.ensures c.in_ok-write_origin_lines.ensures)
 
