@@ -78,7 +78,7 @@ fn answer_line<
     let given = match parse(rt.alloc(), words) {
         Ok(given) => given,
         Err(error) => {
-            help_or_mistake(error, output)?;
+            help_or_mistake(&error, output)?;
             return Ok(0);
         }
     };

@@ -10,15 +10,15 @@ use std::io::{BufWriter, Write};
 
 /// Answers arguments that could not be parsed: help or the version, if that was asked for, goes to `output`, which is flushed.
 pub fn help_or_mistake<O: Write + Drop>(
-    error: clap::Error,
+    error: &clap::Error,
     output: &mut BufWriter<O>,
 ) -> Result<(), ArgumentFault>
-    ensures help { kind_of error ≡ ErrorKind.DisplayHelp → IsOkUnless result ArgumentFault.CannotWrite }
-    ensures version { kind_of error ≡ ErrorKind.DisplayVersion → IsOkUnless result ArgumentFault.CannotWrite }
-    ensures asked { OnOk result (IsHelp error) }
+    ensures help { kind_of error.now ≡ ErrorKind.DisplayHelp → IsOkUnless result ArgumentFault.CannotWrite }
+    ensures version { kind_of error.now ≡ ErrorKind.DisplayVersion → IsOkUnless result ArgumentFault.CannotWrite }
+    ensures asked { OnOk result (IsHelp error.now) }
     ensures flushed { OnOk result (writer_buffer output.new ≡ []) }
-    ensures memory { kind_of error ≡ ErrorKind.OutOfMemory → result ≡ Err ArgumentFault.NoMemory }
-    ensures mistake { kind_of error ≢ ErrorKind.DisplayHelp → kind_of error ≢ ErrorKind.DisplayVersion → kind_of error ≢ ErrorKind.OutOfMemory → result ≡ Err ArgumentFault.CommandLine }
+    ensures memory { kind_of error.now ≡ ErrorKind.OutOfMemory → result ≡ Err ArgumentFault.NoMemory }
+    ensures mistake { kind_of error.now ≢ ErrorKind.DisplayHelp → kind_of error.now ≢ ErrorKind.DisplayVersion → kind_of error.now ≢ ErrorKind.OutOfMemory → result ≡ Err ArgumentFault.CommandLine }
 {
     match error.kind() {
         ErrorKind::DisplayHelp | ErrorKind::DisplayVersion => {

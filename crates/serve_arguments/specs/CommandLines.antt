@@ -11,6 +11,8 @@ use Rattle.serve_arguments.specs.declared.files.Named.{Named}
 use Rattle.serve_arguments.specs.declared.files.SameFile.{SameFile}
 use Rattle.serve_arguments.specs.declared.fault.Fault.{Fault}
 use Rattle.serve_arguments.specs.declared.fault.Fault.TheVariants as faults
+use Rattle.serve_arguments.specs.declared.fault.Mistake.{Mistake}
+use Rattle.serve_arguments.specs.declared.fault.Mistake.TheVariants as mistakes
 use Rattle.serve_arguments.specs.declared.words.Accepted.{Accepted}
 use Rattle.serve_arguments.specs.declared.words.Words.{Words}
 
@@ -163,9 +165,17 @@ source_names line = line.words.stream.now ∷ names_of line.more.items
 abbrev pub tables_name : Accepted → Option (List ℕ)
 tables_name line = option_map (λ path. path.now) line.words.tables
 
+-- the values of the arguments have this mistake
+abbrev pub HasMistake : Words → Mistake → Type 0
+HasMistake words mistakes.Arguments = ⊥
+HasMistake words mistakes.Cache = capacity_asked words ≡ None
+HasMistake words mistakes.Pad = pads_nothing words ≡ true
+HasMistake words mistakes.Restamp = restamps_nothing words ≡ true
+HasMistake words mistakes.Sources = AreNoPaths (more_paths words)
+
 -- why the command line is not accepted
 abbrev pub IsMistake : Words → Fault → Type 0
-IsMistake words faults.CommandLine = (capacity_asked words ≡ None) ⊎ (pads_nothing words ≡ true) ⊎ (restamps_nothing words ≡ true) ⊎ AreNoPaths (more_paths words)
+IsMistake words (faults.CommandLine mistake) = HasMistake words mistake
 IsMistake words (faults.NamedTwice same) = IsNamedTwice words (read_files words (more_paths words)) same
 IsMistake words faults.NoMemory = Unit {0}
 IsMistake words _ = ⊥

@@ -7,11 +7,12 @@ use Rattle.program_parts.specs.declared.fault.ArgumentFault.TheVariants as argum
 use Rattle.program_parts.specs.declared.fault.FileFault.{FileFault}
 use Rattle.program_parts.specs.declared.fault.FileFault.TheVariants as files
 use Rattle.serve_arguments.specs.declared.fault.Fault.{Fault}
+use Rattle.serve_arguments.specs.declared.fault.Mistake.TheVariants as mistakes
 use Rattle.serve_arguments.specs.declared.fault.Fault.TheVariants.{CommandLine, NamedTwice, CannotRead, TooLong, Tables, Input, NotExported, CannotWrite, NoMemory}
 
 -- a mistake on the command line has status 2, every other error 1
 abbrev pub status_of : Fault → ℕ
-status_of CommandLine = 2
+status_of (CommandLine mistake) = 2
 status_of (NamedTwice same) = 2
 status_of (CannotRead path) = 1
 status_of (TooLong path) = 1
@@ -23,7 +24,7 @@ status_of NoMemory = 1
 
 -- an error of the arguments as the program's
 abbrev pub argument_fault : ArgumentFault → Fault
-argument_fault arguments.CommandLine = CommandLine
+argument_fault arguments.CommandLine = CommandLine mistakes.Arguments
 argument_fault arguments.CannotWrite = CannotWrite
 argument_fault arguments.NoMemory = NoMemory
 

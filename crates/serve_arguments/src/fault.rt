@@ -23,13 +23,28 @@ impl fmt::Display for SourceName {
     }
 }
 
+/// What is wrong with a command line.
+#[derive(Clone, Copy, Debug, PartialEq, Eq)]
+pub enum Mistake {
+    /// The arguments are not the program's.
+    Arguments,
+    /// The number of cached states is not 1 to 4,096, the size of `--cache-bytes` is not one, or both are given.
+    Cache,
+    /// `--pad` is given without `--save` and `--export`.
+    Pad,
+    /// `--restamp` is given without `--save`.
+    Restamp,
+    /// `--sources` has more than seven paths, or an empty one.
+    Sources,
+}
+
 /// Why the program exits before all requests were answered. Its `Display` is the text that the user
 /// sees after the program's name. A path is the argument as given, `-` for standard input.
 #[derive(Clone, Copy, Debug, PartialEq, Eq, Error)]
 pub enum Fault<'a> {
-    /// The arguments are not the program's.
+    /// The command line has this mistake.
     #[error("command line")]
-    CommandLine,
+    CommandLine(Mistake),
     /// A file that would be written is named by another argument too.
     #[error("command line: {0}")]
     NamedTwice(SameFile<'a>),
@@ -67,7 +82,7 @@ impl Ending for Fault<'_> {
     /// 2 for the command line, 1 for all else.
     fn status(self) -> u8 {
         match self {
-            Fault::CommandLine | Fault::NamedTwice(_) => 2,
+            Fault::CommandLine(_) | Fault::NamedTwice(_) => 2,
             _ => 1,
         }
     }
@@ -78,7 +93,7 @@ impl From<ArgumentFault> for Fault<'_> {
 
     fn from(why: ArgumentFault) -> Self {
         match why {
-            ArgumentFault::CommandLine => Fault::CommandLine,
+            ArgumentFault::CommandLine => Fault::CommandLine(Mistake::Arguments),
             ArgumentFault::CannotWrite => Fault::CannotWrite,
             ArgumentFault::NoMemory => Fault::NoMemory,
         }

@@ -16,7 +16,7 @@ mod words;
 pub use arguments::parse;
 pub use capacities::Capacity;
 pub use exports::NotExported;
-pub use fault::Fault;
+pub use fault::{Fault, Mistake};
 pub use files::{Argument, SameFile};
 pub use inputs::{FilesRead, Inputs, read_files, read_inputs};
 pub use located::{Located, check_located, check_places};

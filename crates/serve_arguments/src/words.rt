@@ -5,7 +5,7 @@ ghost use Rattle.serve_arguments.specs.Capacities.{IsGiven, bytes_given, states_
 ghost use Rattle.serve_arguments.specs.CommandLines.{AreNoPaths, ArePaths, IsAccepted, IsMistake, capacity_asked, names_of, pads_nothing, paths_in, restamps_nothing};
 
 use crate::capacities::{Capacity, size_of};
-use crate::fault::Fault;
+use crate::fault::{Fault, Mistake};
 use crate::files::check_files;
 use std::alloc::{AllocError, Global};
 
@@ -52,7 +52,7 @@ pub struct Words<'a> {
 impl Words<'_> {
     /// The most cached states of a session: the number or the size given, or 32 states. `None` if both are given, if the number is not
     /// 1 to 4,096, or the size is not one.
-    pub fn capacity(self) -> Option<Capacity>
+    fn capacity(self) -> Option<Capacity>
         ensures given { result ≡ capacity_asked self.entry }
         ensures range { IfSome result IsGiven }
     {
@@ -65,14 +65,14 @@ impl Words<'_> {
     }
 
     /// Whether packets are to be padded, but neither saved nor exported.
-    pub fn pads_nothing(self) -> bool
+    fn pads_nothing(self) -> bool
         ensures { result ≡ pads_nothing self.entry }
     {
         self.pads && self.saved.is_none() && self.exported.is_none()
     }
 
     /// Whether packets are to get new time stamps, but not saved.
-    pub fn restamps_nothing(self) -> bool
+    fn restamps_nothing(self) -> bool
         ensures { result ≡ restamps_nothing self.entry }
     {
         self.restamps && self.saved.is_none()
@@ -130,15 +130,15 @@ fn paths_in<'a>(alloc: Global, list: Option<&'a str>) -> Result<Vec<&'a str>, Al
 /// Checks the paths of the sources after source 0: at most 7, and none is empty.
 fn check_paths(paths: &[&str]) -> Result<(), Fault<'static>>
     ensures paths { OnOk result (ArePaths (names_of paths.now)) }
-    ensures fault { IfErr result (λ fault. fault ≡ Fault.CommandLine) }
+    ensures fault { IfErr result (λ fault. fault ≡ Fault.CommandLine Mistake.Sources) }
     ensures mistake { IfErr result (λ fault. AreNoPaths (names_of paths.now)) }
 {
     if MOST_PATHS < paths.len() {
-        return Err(Fault::CommandLine);
+        return Err(Fault::CommandLine(Mistake::Sources));
     }
     for path in paths {
         if path.is_empty() {
-            return Err(Fault::CommandLine);
+            return Err(Fault::CommandLine(Mistake::Sources));
         }
     }
     Ok(())
@@ -147,8 +147,7 @@ fn check_paths(paths: &[&str]) -> Result<(), Fault<'static>>
 impl<'a> Words<'a> {
     /// Checks the command line before any file is read.
     ///
-    /// `CommandLine` if the number of cached states is not 1 to 4,096, if the size of `--cache-bytes` is not one, or both are given, if
-    /// `--pad` is given without `--save` and `--export`, or `--restamp` without `--save`, if `--sources` has more than seven paths, or an empty one;
+    /// `CommandLine` with the first mistake, in the order of `Mistake`'s variants;
     /// `NamedTwice` if OUT or the file of `--save` or `--export` is the file of another argument;
     /// `NoMemory`. Paths under `/dev/` may be named twice.
     pub fn accept(self, alloc: Global) -> Result<Accepted<'a>, Fault<'a>>
@@ -158,10 +157,13 @@ impl<'a> Words<'a> {
         ensures paths { IfOk result (λ line. length line.more.items ≤ 7) }
     {
         let Some(capacity) = self.capacity() else {
-            return Err(Fault::CommandLine);
+            return Err(Fault::CommandLine(Mistake::Cache));
         };
-        if self.pads_nothing() || self.restamps_nothing() {
-            return Err(Fault::CommandLine);
+        if self.pads_nothing() {
+            return Err(Fault::CommandLine(Mistake::Pad));
+        }
+        if self.restamps_nothing() {
+            return Err(Fault::CommandLine(Mistake::Restamp));
         }
         let more = paths_in(alloc, self.sources).map_err(|_| Fault::NoMemory)?;
         check_paths(more.as_slice())?;

@@ -28,7 +28,7 @@ run_refused tables sources requests f f' r r' runs.NoMemory why = (why.2, why.3)
 
 -- it, if it is not known where the frames went
 pub unreplied : (tables : TableEntries) (sources : List (List ℕ)) (requests : List ℕ) (f f' r r' : Option (List ℕ)) (fault : Fault) → IsRefused tables sources requests f f' r r' fault → IsUnreplied sources (IsStopped tables sources requests r r') r r' fault
-unreplied tables sources requests f f' r r' CommandLine why = absurd why
+unreplied tables sources requests f f' r r' (CommandLine mistake) why = absurd why
 unreplied tables sources requests f f' r r' (NamedTwice same) why = absurd why
 unreplied tables sources requests f f' r r' (CannotRead path) why = absurd why
 unreplied tables sources requests f f' r r' (TooLong path) why = absurd why
@@ -87,7 +87,7 @@ module _ (run : RunFiles) (line : Accepted) where
     module _ (tables : TableEntries) (sources : List (List ℕ)) (over : IsOver run line tables sources) where
       -- the requests were not all answered
       pub unreplied_ended : (stopped : Type 0) (fault : Fault) → (stopped → IsBeforeOrAfter run line replies replies' Replied ⊎ OverSources run line Stopped) → IsUnreplied sources stopped replies replies' fault → IsEnded run line left left' replies replies' Stopped Replied fault
-      unreplied_ended stopped CommandLine so why = absurd why
+      unreplied_ended stopped (CommandLine mistake) so why = absurd why
       unreplied_ended stopped (NamedTwice same) so why = absurd why
       unreplied_ended stopped (CannotRead path) so why = absurd why
       unreplied_ended stopped (TooLong path) so why = absurd why
@@ -106,7 +106,7 @@ module _ (run : RunFiles) (line : Accepted) where
 
         -- or the frames not exported
         unexported_ended : (fault : Fault) → IsExportFault end fault → IsEnded run line left left' replies replies' Stopped Replied fault
-        unexported_ended CommandLine why = absurd why
+        unexported_ended (CommandLine mistake) why = absurd why
         unexported_ended (NamedTwice same) why = absurd why
         unexported_ended (CannotRead path) why = absurd why
         unexported_ended (TooLong path) why = absurd why

@@ -209,7 +209,7 @@ all_saved saved words export end new after same file packets at = record {
 -- ---- the exit status
 
 status_range : (fault : Fault) → (1 ≤ status_of fault) × (status_of fault ≤ 2)
-status_range CommandLine = (omega arith, omega arith)
+status_range (CommandLine mistake) = (omega arith, omega arith)
 status_range (NamedTwice same) = (omega arith, omega arith)
 status_range (CannotRead path) = (omega arith, omega arith)
 status_range (TooLong path) = (omega arith, omega arith)

@@ -73,7 +73,7 @@ module _ (run : RunFiles) (line : Accepted) where
 
   module _ (left left' replies replies' : Option (List ℕ)) where
     unopened_ended : (fault : Fault) → IsUnopened run line replies replies' fault → IsEnded run line left left' replies replies' (AreLiveStopped run line left replies replies') (AreLiveReplied run line left replies replies') fault
-    unopened_ended CommandLine why = absurd why
+    unopened_ended (CommandLine mistake) why = absurd why
     unopened_ended (NamedTwice same) why = absurd why
     unopened_ended (CannotRead path) why = (inr (sym why.0, λ other. why.1), why.2)
     unopened_ended (TooLong path) why = absurd why

@@ -12,7 +12,7 @@ use explanations::{CutRecord, StreamReason, cut_record, stream_reason};
 use frame_session::Export;
 use output_files::{Taken, Unsaved};
 use program_parts::{Format, InLine, NO_FILE, write_format};
-use serve_arguments::{Argument, Fault, NotExported, Words, parse};
+use serve_arguments::{Argument, Fault, Mistake, NotExported, Words};
 use std::convert::AsStr;
 use std::fs::{self, File};
 use std::io::{self, Read, Write};
@@ -50,15 +50,15 @@ pub fn name_help<S: AsStr, E: Write>(words: &[S], errors: &mut E) -> io::Result<
     )
 }
 
-/// Explains the error that ends the program over these arguments. An error of `messages` is ignored.
-pub fn explain_fault<R: Files + AllocGlobal, S: AsStr, E: Write>(
+/// Explains the error that ends the program over a command line that was parsed. An error of `messages` is ignored.
+pub fn explain_fault<R: Files + AllocGlobal, E: Write>(
     rt: &R,
-    words: &[S],
+    parsed: &Result<Words<'_>, clap::Error>,
     fault: Fault<'_>,
     messages: &mut Messages<'_, E>,
 ) {
-    let _ = match parse(rt.alloc(), words) {
-        Ok(words) => explain_in(rt, words, fault, messages),
+    let _ = match parsed {
+        Ok(words) => explain_in(rt, *words, fault, messages),
         Err(error) => writeln!(messages.errors, "{error}try vp8serve --help"),
     };
 }
@@ -71,22 +71,7 @@ fn explain_in<R: Files + AllocGlobal, E: Write>(
     messages: &mut Messages<'_, E>,
 ) -> io::Result<()> {
     match fault {
-        Fault::CommandLine if words.capacity().is_none() => writeln!(
-            messages.errors,
-            "--cache-bytes takes 1 byte or more, for example 64M, 512K or 5000000: try vp8serve --help"
-        ),
-        Fault::CommandLine if words.pads_nothing() => writeln!(
-            messages.errors,
-            "--pad is for the packets of --save or --export: name a file for them by --save FILE or --export FILE"
-        ),
-        Fault::CommandLine if words.restamps_nothing() => writeln!(
-            messages.errors,
-            "--restamp is for the packets of --save: name a file for them by --save FILE"
-        ),
-        Fault::CommandLine => writeln!(
-            messages.errors,
-            "--sources takes 1 to 7 paths, none of them empty: try vp8serve --help"
-        ),
+        Fault::CommandLine(mistake) => explain_mistake(mistake, messages.errors),
         Fault::NamedTwice(_) => writeln!(messages.errors, "try vp8serve --help"),
         Fault::CannotRead(path) => explain_unread(rt, words, path, messages),
         Fault::TooLong(path) => explain_long(words, path, messages),
@@ -97,6 +82,29 @@ fn explain_in<R: Files + AllocGlobal, E: Write>(
         Fault::NoMemory => writeln!(
             messages.errors,
             "try a smaller --cache or --cache-bytes, or shorter files"
+        ),
+    }
+}
+
+/// Explains a mistake of the command line.
+fn explain_mistake<E: Write>(mistake: Mistake, errors: &mut E) -> io::Result<()> {
+    match mistake {
+        Mistake::Arguments => writeln!(errors, "try vp8serve --help"),
+        Mistake::Cache => writeln!(
+            errors,
+            "--cache-bytes takes 1 byte or more, for example 64M, 512K or 5000000: try vp8serve --help"
+        ),
+        Mistake::Pad => writeln!(
+            errors,
+            "--pad is for the packets of --save or --export: name a file for them by --save FILE or --export FILE"
+        ),
+        Mistake::Restamp => writeln!(
+            errors,
+            "--restamp is for the packets of --save: name a file for them by --save FILE"
+        ),
+        Mistake::Sources => writeln!(
+            errors,
+            "--sources takes 1 to 7 paths, none of them empty: try vp8serve --help"
         ),
     }
 }

@@ -12,4 +12,4 @@ mod saving;
 
 pub use explain::{name_explain, name_help};
 pub use program::{run_to, serve};
-pub use serve_arguments::{Argument, Fault, NotExported, SameFile, parse};
+pub use serve_arguments::{Argument, Fault, Mistake, NotExported, SameFile, parse};

@@ -340,7 +340,7 @@ fn status_after(fails_refused: bool, has_refused: bool) -> u8
 /// the arguments: no contract says which argument sets the flag of an option.
 fn answer_line<'a, R: NamedFiles + SavedFiles + AllocGlobal, I: Read, O: Write + Drop, E: Write>(
     rt: &R,
-    parsed: Result<Words<'a>, clap::Error>,
+    parsed: &Result<Words<'a>, clap::Error>,
     is_named: bool,
     input: &mut I,
     output: &mut BufWriter<O>,
@@ -349,12 +349,12 @@ fn answer_line<'a, R: NamedFiles + SavedFiles + AllocGlobal, I: Read, O: Write +
     requires fresh { messages.now.has_refused ≡ false }
     ensures status { IfOk result (λ status. (status ≡ 0) ⊎ (status ≡ 3)) }
     ensures asked { IfOk result (λ status. status ≡ 3 → is_named ≡ true) }
-    ensures done { IfOk result (IsExitStatus (run_files (R.bytes_at rt.now) R.Made.contents (R.is_made_at rt.now) (R.is_saved_at rt.now)) parsed.entry is_named (I.remaining input.old) (writer_contents O.contents output.old) (writer_contents O.contents output.new)) }
+    ensures done { IfOk result (IsExitStatus (run_files (R.bytes_at rt.now) R.Made.contents (R.is_made_at rt.now) (R.is_saved_at rt.now)) parsed.now is_named (I.remaining input.old) (writer_contents O.contents output.old) (writer_contents O.contents output.new)) }
     ensures flushed { OnOk result (writer_buffer output.new ≡ []) }
 {
     match parsed {
         Ok(words) => {
-            let has_refused = answer_words(rt, words, input, output, messages)?;
+            let has_refused = answer_words(rt, *words, input, output, messages)?;
             Ok(status_after(is_named && words.fails_refused, has_refused))
         }
         Err(error) => {
@@ -402,11 +402,11 @@ pub fn serve<
 {
     let mut messages = Messages::new(errors, is_asked(words));
     let is_named = names_fail_refused(words);
-    let answer = answer_line(rt, parsed, is_named, input, output, &mut messages);
+    let answer = answer_line(rt, &parsed, is_named, input, output, &mut messages);
     let status = exit_status(answer, messages.errors);
     if messages.explains {
         if let Err(fault) = answer {
-            explain_fault(rt, words, fault, &mut messages);
+            explain_fault(rt, &parsed, fault, &mut messages);
         }
     }
     status

@@ -3,7 +3,7 @@ use crate::expected::{Broken, ONE, check, clear, expect, expect_fault, put};
 use frame_header::Cause;
 use output_files::SavedFiles;
 use program_parts::{NamedFiles, tell};
-use serve_arguments::{Argument, Fault, NotExported, SameFile};
+use serve_arguments::{Argument, Fault, Mistake, NotExported, SameFile};
 use std::fs::hard_link;
 use std::os::unix::fs::symlink;
 use std::process::Abort;
@@ -39,7 +39,12 @@ fn tells_each_fault(rt: HostRuntime) {
         2,
         "vp8serve: command line: OUT /dev/stdout is standard output, so replies would be among the frames: name /dev/fd/3 3>&1 >replies\n",
     );
-    expect_told(&rt, Fault::CommandLine, 2, "vp8serve: command line\n");
+    expect_told(
+        &rt,
+        Fault::CommandLine(Mistake::Pad),
+        2,
+        "vp8serve: command line\n",
+    );
     expect_told(&rt, Fault::NamedTwice(same), 2, twice);
     expect_told(
         &rt,
