@@ -47,7 +47,7 @@ all_noted old new done left all f f' r r' seen seen' none whole ran noted =
     subst (λ (ls : List Line). RunsNoted old ls f f' r r' new seen seen') same (record { runs = ran; noted = noted })
 
 -- a run from its first session
-pub means_noted : (tables : Tables) (capacity : Capacity) (sources : List (List ℕ)) (requests : List ℕ) (f f' r r' : Option (List ℕ)) (files : List Ivf) (first : SessionValue) (end : SessionState) (seen seen' : Bool) → AreIvfs sources files → first ≡ begun tables capacity files → RunsNoted first.now (requests_of requests) f f' r r' end seen seen' → MeansNoted tables sources requests f f' r r' end seen seen'
+pub means_noted : (tables : Tables) (capacity : Capacity) (sources : List (List ℕ)) (requests : List ℕ) (f f' r r' : Option (List ℕ)) (files : List Ivf) (first : SessionValue) (end : SessionState) (seen seen' : Bool) → AreIvfs sources files → first ≡ begun tables capacity files → RunsNoted first.state (requests_of requests) f f' r r' end seen seen' → MeansNoted tables sources requests f f' r r' end seen seen'
 means_noted tables capacity sources requests f f' r r' files first end seen seen' are is ran =
     let so : RunsNoted (start tables files) (requests_of requests) f f' r r' end seen seen' = subst (λ (v : SessionValue). RunsNoted v.state (requests_of requests) f f' r r' end seen seen') is ran in
     record { means = record { files = files; are = are; runs = so.runs }; noted = so.noted }
