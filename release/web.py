@@ -19,7 +19,7 @@ from .sources import TOP, Failed, kit_folder, version
 PAGE = TOP / "clients/web"
 FILES = ("index.html", "style.css", "engine.js", "cuts.js", "editor.js", "pixels.js", "worker.js", "page.js")
 CPU, TARGET = "x86-64", "wasm64-unknown-unknown"
-CALLS = ("wk_version", "wk_open", "wk_close", "wk_frame", "wk_request", "wk_why", "wk_save", "wk_text", "wk_room", "wk_free")
+CALLS = ("wk_version", "wk_open", "wk_open_bytes", "wk_close", "wk_frame", "wk_request", "wk_why", "wk_save", "wk_text", "wk_room", "wk_free")
 FEATURES = ["-msimd128", "-mbulk-memory"]
 # A stack that is full ends the call, and writes over nothing.
 LINKING = ["-mwasm64", "--no-entry", "--gc-sections", "--strip-all", "--stack-first", "-z", "stack-size=1048576", *[f"--export={name}" for name in CALLS]]

@@ -133,6 +133,18 @@ def questions(node, folder):
             yield f"questions of {task['file'].name}: other replies {result.get('error')}"
 
 
+def bounded(node, folder):
+    """The pictures of a hundred packets of 2048x2048 take more than the editor's limit. The file's header has no size to reckon with."""
+    path, count = folder / "large.ivf", 100
+    ran(SERVE, "-", "-", "--save", path, input=b"count\n")
+    lines = ["blank 0 2048 2048"] * count + [f"frame {n}" for n in range(count)]
+    (result,) = node.tasks([{"file": path, "lines": lines, "out": None, "save": folder / "large-saved.ivf"}])
+    if result.get("replies") != [f"ok {n + 1}" for n in range(count)] + [f"served {n}" for n in range(count)]:
+        yield f"large pictures: {result.get('error') or 'other replies'}"
+    elif result["memory"] > 2**29:
+        yield f"large pictures: {result['memory']} bytes of memory"
+
+
 def edited(node, chance, folder):
     """Steps of the editor: the frames of the saved file are those that they leave."""
     tasks, wanted = [], []
@@ -316,7 +328,7 @@ def main():
             print("skipped: Node with 64-bit memory in WebAssembly is not there")
         else:
             node = Node(words)
-            wrong += [*frames(node), *lists(node, chance, folder), *questions(node, folder), *edited(node, chance, folder), *repaired(node, folder)]
+            wrong += [*frames(node), *lists(node, chance, folder), *questions(node, folder), *bounded(node, folder), *edited(node, chance, folder), *repaired(node, folder)]
         with browser_of() as browser:
             if browser is not None:
                 wrong += in_browser(browser, folder)

@@ -2,7 +2,8 @@
 /* The page's scripts in Node: node [--experimental-wasm-memory64] web_session.js FOLDER, with a task in JSON in each line of standard input, and its result in
  * each line of standard output.
  *
- * { file, states, lines, out, save }   answers request lines as vp8serve does: replies; the samples of the frames go to `out`, the packets to `save`
+ * { file, states, lines, out, save }   answers request lines as vp8serve does: replies, and the bytes of the module's memory; the samples of the frames go to `out`, the
+ *                                      packets to `save`. Without `states` the limit is that of the editor
  * { file, out }                        the editor's frames in order and backwards: the MD5 of each, or the refusal
  * { file, steps, save }                the editor's steps, as keep 2 5, cut 2 5, repair, undo, and the file that is saved then; the number of frames after each */
 const crypto = require("node:crypto");
@@ -17,16 +18,16 @@ const { Editor, Engine, MODULE, Refused } = vm.runInThisContext("({ Editor, Engi
 
 function answer(module, { file, states, lines, out, save }) {
   const engine = new Engine(module);
-  engine.open(fs.readFileSync(file), states);
+  engine.open(fs.readFileSync(file), states ? { states } : Editor.LIMIT);
   const [replies, frames] = [[], []];
   for (const line of lines) {
     const reply = engine.request(line);
     if (reply) replies.push(reply);
-    if (reply.startsWith("served ")) frames.push(engine.frame(Number(reply.slice(7))).samples.slice());
+    if (out && reply.startsWith("served ")) frames.push(engine.frame(Number(reply.slice(7))).samples.slice());
   }
   if (out) fs.writeFileSync(out, Buffer.concat(frames));
   fs.writeFileSync(save, engine.save(false));
-  return { replies };
+  return { replies, memory: engine.calls.memory.buffer.byteLength };
 }
 
 function sum(editor, n) {

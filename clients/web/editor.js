@@ -2,6 +2,9 @@
 
 /** A stream that is looked at and edited: the session, the file that it was opened with, and the steps since. */
 class Editor {
+  /** The limit of the cached states, whatever the sizes of the packets. */
+  static LIMIT = { bytes: 2 ** 29 };
+
   constructor(module) {
     this.engine = new Engine(module);
     this.file = null;
@@ -13,7 +16,7 @@ class Editor {
   open(file) {
     const isMatroska = [0x1a, 0x45, 0xdf, 0xa3].every((byte, at) => file[at] === byte);
     if (isMatroska) throw new Refused("this is a WebM or Matroska file, and the page reads IVF: ffmpeg -i IN -an -c copy OUT.ivf takes the packets out");
-    this.engine.open(file, statesFor(file));
+    this.engine.open(file, Editor.LIMIT);
     this.file = file;
     this.opened = this.engine.save(false);
     this.steps = [];
@@ -54,7 +57,7 @@ class Editor {
 
   /** Opens the file again, and makes these steps. */
   goTo(steps) {
-    this.engine.open(this.file, statesFor(this.file));
+    this.engine.open(this.file, Editor.LIMIT);
     this.steps = steps;
     for (const { lines } of steps) lines.forEach((line) => this.engine.edit(line));
     return this.facts();
@@ -98,10 +101,4 @@ class Editor {
     const file = this.engine.save(true);
     return this.steps.length ? restamped(file, this.opened) : file;
   }
-}
-
-/** How many decoded states are cached: those of some 256 MB, by the size in the header of the file. */
-function statesFor(file) {
-  const [width, height] = [12, 14].map((at) => (file[at] ?? 0) + 256 * (file[at + 1] ?? 0));
-  return Math.max(4, Math.min(512, Math.floor(2 ** 28 / (1.6 * (width + 64) * (height + 64)))));
 }

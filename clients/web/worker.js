@@ -30,7 +30,7 @@ function work() {
 /** The editor in a worker: `call` has its calls. A page from a file may start no worker from a file, so its text is made here. */
 class Client {
   constructor() {
-    const parts = [Refused, Engine, packetsOf, shownOf, keyBefore, deleting, hiding, keeping, cutting, mending, restamped, rateOf, statesFor, Editor, colourTerms, toPixels, work];
+    const parts = [Refused, Engine, packetsOf, shownOf, keyBefore, deleting, hiding, keeping, cutting, mending, restamped, rateOf, Editor, colourTerms, toPixels, work];
     const text = `"use strict";\n${parts.join("\n")}\nwork();`;
     this.worker = new Worker(URL.createObjectURL(new Blob([text], { type: "text/javascript" })));
     this.waiting = new Map();
