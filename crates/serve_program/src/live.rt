@@ -162,7 +162,7 @@ fn finish_live<R: SavedFiles + AllocGlobal, E: Write>(
     requires capacity { IsGiven line.now.capacity }
     requires packets { is_some saves.packets ≡ is_some line.now.words.saved }
     requires frames { is_some saves.frames ≡ is_some line.now.words.exported }
-    ensures saved { IfOk result (λ new. AreSaved (R.is_saved_at rt.now) line.now.words session.state new.now) }
+    ensures saved { IfOk result (λ new. AreSaved (R.is_saved_at rt.now) line.now.words session.state new.state) }
     ensures capacity { IfOk result (λ new. new.cache.capacity ≡ session.cache.capacity) }
     ensures fault { IfErr result (λ fault. IsSaveFault fault ⊎ IsExportFault session.state fault) }
 {

@@ -210,7 +210,7 @@ fn finish_batch<R: SavedFiles + AllocGlobal, E: Write>(
     messages: &mut Messages<'_, E>,
 ) -> Result<Session, Fault<'static>>
     requires { IsGiven line.now.capacity }
-    ensures saved { IfOk result (λ new. AreSaved (R.is_saved_at rt.now) line.now.words session.state new.now) }
+    ensures saved { IfOk result (λ new. AreSaved (R.is_saved_at rt.now) line.now.words session.state new.state) }
     ensures capacity { IfOk result (λ new. new.cache.capacity ≡ session.cache.capacity) }
     ensures fault { IfErr result (λ fault. IsSaveFault fault ⊎ IsExportFault session.state fault) }
 {
