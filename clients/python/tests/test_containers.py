@@ -336,6 +336,11 @@ class Reading(Case):
             self.assertEqual(int.from_bytes(out.read_bytes()[24:28], "little"), len(packets_of(out)), read)
             done = subprocess.run([programs.find("vp8list"), out, "--check"], capture_output=True, text=True, timeout=20 * SLOW, check=False)
             self.assertNotIn("note: header", done.stdout)
+            # This ffmpeg may write the right number itself; others write 30000.
+            text = out.read_bytes()
+            out.write_bytes(text[:24] + (30000).to_bytes(4, "little") + text[28:])
+            containers.count_packets(out)
+            self.assertEqual(out.read_bytes(), text)
 
     def test_what_has_no_vp8(self):
         room = self.folder()
