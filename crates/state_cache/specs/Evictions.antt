@@ -20,6 +20,10 @@ saved saving = saving.before * saving.after
 abbrev pub last_use : Saving → ℕ
 last_use saving = saving.used
 
+-- the number of uses after one more, as far as 64 bits go
+abbrev pub one_use_more : ℕ → ℕ
+one_use_more uses = min (uses + 1) (2 ^ 64 - 1)
+
 -- the age of an outcome: 1, and the number of uses of the cache since it was last used, as far as 32 bits go
 abbrev pub age : ℕ → Saving → ℕ
 age uses saving = min (uses - saving.used) (2 ^ 32 - 2) + 1

@@ -1,6 +1,6 @@
 //! What each cached outcome saves: from this the one that a full cache drops is chosen.
-ghost use Rattle.std.specs.Prelude.{◌≡◌, ◌↔◌, ◌+◌, ◌-◌, ◌*◌, ◌^◌, ◌<◌, ◌≤◌, ℕ, IfOk, IfSome, IsSome, IsTrue, false, length, map, min, slice_get, slice_set, take};
-ghost use Rattle.state_cache.specs.Evictions.{IsOtherVictim, IsVictim, age, last_use, saved};
+ghost use Rattle.std.specs.Prelude.{◌≡◌, ◌↔◌, ◌+◌, ◌-◌, ◌*◌, ◌^◌, ◌<◌, ◌≤◌, ℕ, IfOk, IfSome, IsSome, IsTrue, false, if◌then◌else◌, is_some, length, map, min, slice_get, slice_set, take};
+ghost use Rattle.state_cache.specs.Evictions.{IsOtherVictim, IsVictim, age, last_use, one_use_more, saved};
 ghost use Rattle.state_cache.specs.ProofsOnly.{IsLeastBetween, Lesser, NoneIsLess, Searched};
 
 use pixel_planes::NoMemory;
@@ -195,7 +195,7 @@ impl Savings {
         ensures len { length self.new.list ≡ length self.old.list }
         ensures youngest { IfSome (slice_get self.new.list index) (λ saving. age self.new.uses saving ≡ 1) }
         ensures others { (n : ℕ) → (n ≡ index → ⊥) → slice_get self.new.list n ≡ slice_get self.old.list n }
-        ensures counted { self.new.uses ≡ min (self.old.uses + 1) (2 ^ 64 - 1) }
+        ensures counted { self.new.uses ≡ one_use_more self.old.uses }
     {
         let uses = self.uses.saturating_add(1);
         self.uses = uses;
@@ -213,6 +213,7 @@ impl Savings {
     pub fn touch_any(&mut self, index: Option<usize>)
         ensures len { length self.new.list ≡ length self.old.list }
         ensures youngest { IfSome index (λ index. IfSome (slice_get self.new.list index) (λ saving. age self.new.uses saving ≡ 1)) }
+        ensures counted { self.new.uses ≡ (if is_some index then one_use_more self.old.uses else self.old.uses) }
     {
         if let Some(index) = index {
             self.touch(index);
@@ -225,6 +226,7 @@ impl Savings {
         ensures len { length self.new.list ≡ length self.old.list }
         ensures youngest { IfSome (slice_get self.new.list index) (λ saving. age self.new.uses saving ≡ 1) }
         ensures others { (n : ℕ) → (n ≡ index → ⊥) → slice_get (map last_use self.new.list) n ≡ slice_get (map last_use self.old.list) n }
+        ensures counted { self.new.uses ≡ one_use_more self.old.uses }
     {
         self.unlink(index);
         let saving = match from {
@@ -242,6 +244,7 @@ impl Savings {
         ensures len { length self.new.list ≡ length self.old.list }
         ensures moved { (index ≡ last → ⊥) → index < length self.old.list → last < length self.old.list → slice_get (map last_use self.new.list) index ≡ slice_get (map last_use self.old.list) last }
         ensures others { (n : ℕ) → (n ≡ index → ⊥) → (n ≡ last → ⊥) → slice_get (map last_use self.new.list) n ≡ slice_get (map last_use self.old.list) n }
+        ensures counted { self.new.uses ≡ self.old.uses }
     {
         self.unlink(index);
         let moved = self.saving_at(last);
@@ -280,6 +283,7 @@ impl Savings {
     fn unlink(&mut self, index: usize)
         ensures len { length self.new.list ≡ length self.old.list }
         ensures uses { map last_use self.new.list ≡ map last_use self.old.list }
+        ensures counted { self.new.uses ≡ self.old.uses }
     {
         let saving = self.saving_at(index);
         let distance = saving.before.saturating_add(saving.after);
@@ -302,6 +306,7 @@ impl Savings {
     fn set_next(&mut self, index: u16, next: u16, after: u16)
         ensures len { length self.new.list ≡ length self.old.list }
         ensures uses { map last_use self.new.list ≡ map last_use self.old.list }
+        ensures counted { self.new.uses ≡ self.old.uses }
     {
         let saving = self.saving_at(index as usize);
         self.put(
@@ -318,6 +323,7 @@ impl Savings {
     fn set_previous(&mut self, index: u16, previous: u16, before: u16)
         ensures len { length self.new.list ≡ length self.old.list }
         ensures uses { map last_use self.new.list ≡ map last_use self.old.list }
+        ensures counted { self.new.uses ≡ self.old.uses }
     {
         let saving = self.saving_at(index as usize);
         self.put(
