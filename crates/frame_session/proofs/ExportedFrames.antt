@@ -1,11 +1,10 @@
 -- The packets of a script's frames show the frames that the session serves.
-use Rattle.std.proofs.Common.{◌≡◌, ℕ, zero, suc, ◌+◌, ◌-◌, ◌*◌, ◌/◌, ◌≤◌, ◌<◌, ◌==◌, ◌&&◌, Bool, true, false, List, [], ◌∷◌, ◌++◌, length, map, slice_get, Option, Some, None, Result, Ok, Err, refl, sym, ap, subst, ◌∙◌, arith, zero-add, inl, inr, if◌then◌else◌}
+use Rattle.std.proofs.Common.{◌≡◌, ℕ, zero, suc, ◌+◌, ◌*◌, ◌/◌, ◌≤◌, ◌<◌, ◌==◌, ◌&&◌, Bool, true, false, List, [], ◌∷◌, ◌++◌, length, map, slice_get, Option, Some, None, Result, Ok, Err, refl, sym, ap, subst, ◌∙◌, arith, zero-add, inr, if◌then◌else◌}
 use Rattle.std.specs.Prelude.{IfSome, is_some, nat_le, nat_lt, option_and_then, unwrap_or}
 use Rattle.std.specs.List.{list_all}
 use Rattle.std.proofs.lemmas.Bool.{and_from, and_parts, eqb-true, le-leb}
 use Rattle.vp8_tables.specs.declared.tables.Tables.{Tables}
-use Rattle.pixel_planes.specs.Pictures.{PictureSamples, plane_of, side_of}
-use Rattle.pixel_planes.specs.Samples.{sample_at}
+use Rattle.pixel_planes.specs.Pictures.{PictureSamples}
 use Rattle.pixel_planes.specs.declared.pictures.Component.{Component}
 use Rattle.pixel_planes.specs.declared.pictures.Component.TheVariants.{Luma, Cb, Cr}
 use Rattle.packet_edits.specs.Edits.{Listing}

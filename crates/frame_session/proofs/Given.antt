@@ -62,6 +62,29 @@ frame_given old n counts source frame place steps picture made same from at deco
     let given = fitted_given old.size (steps_shown steps (shown_in picture)) made shows fit in
     (given.0, is ∙ given.1, given.2, whole)
 
+-- a frame of another size is refused
+refused : (shown : Shown) (b : Bool) → b ≡ false → cond b (Ok shown) (Err refusals.SizeDiffers) ≡ Err refusals.SizeDiffers
+refused shown true e = cc
+refused shown false e = refl
+
+fitted_refused : (size : Option Size) (m : Option Shown) (made : PictureSamples) → ShowsMade m made → fits size (record { width = made.width; height = made.height }) ≡ false → fitted size m ≡ Err refusals.SizeDiffers
+fitted_refused size None made shows unfit = absurd shows
+fitted_refused size (Some shown) made shows unfit =
+    let P : ℕ → ℕ → Type 0 = λ w h. fits size (record { width = w; height = h }) ≡ false in
+    let unfit' : P shown.width shown.height = subst (λ h. P shown.width h) shows.high (subst (λ w. P w made.height) shows.wide unfit) in
+    refused shown (fits size (size_of shown)) unfit'
+
+pub frame_refused : (old : SessionState) (n : ℕ) (counts : List ℕ) (source frame place : ℕ) (steps : List Step) (picture made : PictureSamples) → counts ≡ shown_counts old → traced counts old.script n ≡ Some (origin_of source frame steps) → Some place ≡ slice_get (shown_indexes (stream_of (list_at old.lists source))) frame
+    → picture_from source (slice_get (outcomes old.tables (stream_of (list_at old.lists source))) place) ≡ Ok picture → ShowsMade (steps_shown steps (shown_in picture)) made → fits old.size (record { width = made.width; height = made.height }) ≡ false → frame_of old n ≡ Err refusals.SizeDiffers
+frame_refused old n counts source frame place steps picture made same from at decoded shows unfit =
+    let stream = stream_of (list_at old.lists source) in
+    let out : outcome_of old source frame ≡ slice_get (outcomes old.tables stream) place = ap (λ (s : Option ℕ). option_and_then (λ i. slice_get (outcomes old.tables stream) i) s) (sym at) in
+    ap (λ k. frame_from old (traced k old.script n)) (sym same)
+    ∙ ap (λ (f : Option Origin). frame_from old f) from
+    ∙ ap (λ (o : Option Outcome). frame_made old.size steps (picture_from source o)) out
+    ∙ ap (λ (p : Result PictureSamples Refusal). frame_made old.size steps p) decoded
+    ∙ fitted_refused old.size (steps_shown steps (shown_in picture)) made shows unfit
+
 -- and it costs what reaching its packet costs
 pub frame_costs : (old new : SessionValue) (n : ℕ) (counts : List ℕ) (source frame place : ℕ) (steps : List Step) (made : PictureSamples) → counts ≡ shown_counts old.state → traced counts old.state.script n ≡ Some (origin_of source frame steps) → Some place ≡ slice_get (shown_indexes (stream_of (list_at old.state.lists source))) frame
     → Costs old.state.tables source (store_at old.stores source) old.cache place true (store_at new.stores source) new.cache → IsWalk old.state.tables source (store_at old.stores source) old.cache place true (store_at new.stores source) new.cache → LeavesOthers source old new → FrameCosts (packet_of_frame old.state n) old (Ok made) new

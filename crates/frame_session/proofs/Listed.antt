@@ -1,5 +1,5 @@
 -- Replies of several lines.
-use Rattle.std.proofs.Common.{◌≡◌, ℕ, ◌+◌, ◌-◌, ◌≤◌, ◌++◌, ◌∷◌, [], false, List, Option, None, Result, Ok, Err, inl, inr, refl, subst, ◌⊎◌, take, drop, length, map, min, nat_lt, sym, ap, ◌∙◌, append-nil, rules, tests}
+use Rattle.std.proofs.Common.{◌≡◌, ℕ, ◌+◌, ◌-◌, ◌<◌, ◌≤◌, ◌++◌, ◌∷◌, [], false, true, List, Option, None, Result, Ok, Err, inl, inr, refl, subst, ◌⊎◌, take, drop, length, map, min, nat_lt, sym, ap, ◌∙◌, append-nil, rules, tests}
 use Rattle.std.specs.List.{concat, range_with_len}
 use Rattle.std.specs.Prelude.{OnOk}
 use Rattle.std.specs.Io.KnownBytes.{Appends}
@@ -16,12 +16,13 @@ use Rattle.stream_checks.specs.declared.finding.Finding.{Finding}
 use Rattle.stream_checks.specs.Packets.{findings_of_each, joined}
 use Rattle.stream_checks.specs.Packets.{first_position as checked_first}
 use Rattle.stream_checks.specs.Stamps.{pace_of}
+use Rattle.macroblock_lists.specs.declared.layouts.What.{What}
 use Rattle.packet_lists.specs.Findings.{check_lines, finding_lines, findings_from}
 use Rattle.packet_lists.specs.Lines.{first_record, lines_from, lines_of}
 use Rattle.packet_lists.proofs.Found.{each_counted}
 use Rattle.frame_session.specs.Origins.{origin_line, origins_answer}
 use Rattle.request_lines.specs.declared.question.Question.TheVariants as questions
-use Rattle.frame_session.specs.Questions.{GainsAnswer, check_answer, list_answer}
+use Rattle.frame_session.specs.Questions.{GainsAnswer, check_answer, detail_answer, list_answer}
 use Rattle.frame_session.specs.declared.refusal.Refusal.TheVariants as refusals
 use Rattle.frame_session.specs.Replies.{lines_line, refused_line}
 use Rattle.frame_session.specs.Sessions.{SessionState, current_list, frame_count}
@@ -67,6 +68,18 @@ check_wrote (Ok a) tables list first count cut lines text r r' within is many ma
     ap (λ (n : ℕ). lines_line n ++ text) many ∙ ap (λ (t : List ℕ). lines_line (length (check_lines tables list first cut)) ++ t) made ∙ sym (check_replied tables list first count cut within is) in
     inl (subst (λ (t : List ℕ). Appends r r' t) whole said)
 check_wrote (Err e) tables list first count cut lines text r r' within is many made said = tt
+
+-- past the last packet it is a refusal
+pub check_outside : {A E : Type 0} (w : Result A E) (tables : TableEntries) (list : Listing) (first count : ℕ) (r r' : Option (List ℕ)) → length list.entries < first
+    → OnOk w (Appends r r' (refused_line refusals.Place)) → OnOk w (Appends r r' (check_answer tables list first count) ⊎ Appends r r' (refused_line refusals.NoMemory))
+check_outside (Ok a) tables list first count r r' outside said = let past : nat_lt (length list.entries) first ≡ true = search (rules, tests) in inl (rw past said)
+check_outside (Err e) tables list first count r r' outside said = tt
+
+-- so is that to a question for a packet
+pub detail_outside : {A E : Type 0} (w : Result A E) (what : What) (tables : TableEntries) (list : Listing) (at : ℕ) (r r' : Option (List ℕ)) → length list.entries ≤ at
+    → OnOk w (Appends r r' (refused_line refusals.Place)) → OnOk w (Appends r r' (detail_answer what tables list at) ⊎ Appends r r' (refused_line refusals.NoMemory))
+detail_outside (Ok a) what tables list at r r' outside said = let past : nat_lt at (length list.entries) ≡ false = search (rules, tests) in inl (rw past said)
+detail_outside (Err e) what tables list at r r' outside said = tt
 
 -- the reply to `check` about a session's current source
 pub check_gains : {A E : Type 0} (w : Result A E) (now : SessionState) (list : Listing) (first count : ℕ) (r r' : Option (List ℕ)) → list ≡ current_list now

@@ -1,14 +1,12 @@
 -- The lines of a text that is read line by line.
-use Rattle.std.proofs.Common.{◌≡◌, inl, inr, ℕ, ◌+◌, ◌-◌, ◌<◌, ◌≤◌, ◌==◌, ◌&&◌, Bool, true, false, cond, nat_lt, lt-ltb, eqb-true, Option, All, List, [], ◌∷◌, ◌++◌, map, length, take, get_or, append_assoc, append-nil, length-append, length-take-le, ne_eqb, eq-eqb, refl, sym, ap, ◌∙◌, subst, arith, take_all}
-use Rattle.std.proofs.lemmas.Bool.{false≢true}
-use Rattle.std.proofs.lemmas.List.{get_or-append-add, map-append, take_more}
+use Rattle.std.proofs.Common.{◌≡◌, ℕ, ◌+◌, ◌-◌, ◌<◌, ◌≤◌, ◌==◌, Bool, true, false, cond, All, List, [], ◌∷◌, ◌++◌, map, length, take, get_or, append_assoc, append-nil, length-append, length-take-le, ne_eqb, eq-eqb, refl, sym, ap, ◌∙◌, subst, arith, take_all}
+use Rattle.std.proofs.lemmas.List.{get_or-append-add, take_more}
 use Rattle.std.proofs.Math.Seq.{get_or-append_seam}
 use Rattle.std.proofs.lemmas.List.Elements.{All-append, All-cons, All-nil}
 use Rattle.std.proofs.lemmas.List.Splits.{slice_split_at, slice_split_none, slice_split-cons_yes, slice_split-cons_no}
 use Rattle.std.specs.List.{slice_split, onto_first}
 use Rattle.std.specs.Str.Lines.{lines, lines_of_parts, strip_carriage_return}
 use Rattle.std.specs.Io.{IsEmptyOrEndsWith}
-use Rattle.std.specs.Io.BufRead.{ends_with_byte}
 use Rattle.request_lines.specs.declared.lines.Line.{Line}
 use Rattle.frame_session.specs.Live.{AreAsked, HasShortLines, longest_line}
 use Rattle.frame_session.specs.LiveSteps.{IsShort}

@@ -1,5 +1,5 @@
 -- The bytes of a line, part by part.
-use Rattle.std.proofs.Common.{◌≡◌, inl, inr, ℕ, ◌+◌, ◌-◌, ◌<◌, ◌≤◌, ◌==◌, Bool, true, false, List, [], ◌∷◌, ◌++◌, Option, Some, None, OnSome, Result, Ok, Err, IfOk, IfErr, length, take, get_or, get_or-take, length-take-le, length-append, append_assoc, append-nil, take_all, eq-eqb, eqb-true, refl, sym, ap, ◌∙◌, subst, arith}
+use Rattle.std.proofs.Common.{◌≡◌, ℕ, ◌+◌, ◌-◌, ◌<◌, ◌≤◌, ◌==◌, true, false, List, [], ◌∷◌, ◌++◌, Option, Some, None, OnSome, Result, Ok, Err, IfOk, IfErr, length, take, get_or, get_or-take, length-take-le, length-append, append_assoc, append-nil, eq-eqb, eqb-true, sym, ap, ◌∙◌, subst, arith}
 use Rattle.std.proofs.lemmas.Bool.{false≢true}
 use Rattle.std.proofs.lemmas.List.{take_more}
 use Rattle.std.proofs.lemmas.List.Elements.{All-append, All-nil}

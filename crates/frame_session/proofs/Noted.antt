@@ -4,6 +4,7 @@ use Rattle.vp8_tables.specs.declared.tables.Tables.{Tables}
 use Rattle.stream_files.specs.declared.ivf.Ivf.{Ivf}
 use Rattle.request_lines.specs.Requests.{asked_by}
 use Rattle.request_lines.specs.declared.lines.Line.{Line}
+use Rattle.request_lines.specs.declared.lines.Line.TheVariants as requests
 use Rattle.state_cache.specs.declared.capacity.Capacity.{Capacity}
 use Rattle.frame_session.specs.declared.refusal.Refusal.{Refusal}
 use Rattle.frame_session.specs.Answers.{Answer, AreIvfs, AnswersEach, WritesAnswers, requests_of}
@@ -32,6 +33,19 @@ noted_append old new ls ls' xs ys seen seen' seen'' ran before after =
     ∙ ap (λ (b : Bool). b || refuses_some ls' ys) before
     ∙ or_assoc seen (refuses_some ls xs) (refuses_some ls' ys)
     ∙ ap (λ (b : Bool). seen || b) (sym (some_append old new ls ls' xs ys ran))
+
+-- a line that is no request for a frame
+pub not_frame : (line : Line) → ((n : ℕ) → line ≡ requests.Frame n → ⊥) → false ≡ is_frame line
+not_frame (requests.Frame n) other = absurd (other n refl)
+not_frame requests.Silent other = refl
+not_frame requests.Unknown other = refl
+not_frame (requests.Use source) other = refl
+not_frame (requests.Edit edit) other = refl
+not_frame (requests.Script text) other = refl
+not_frame requests.Count other = refl
+not_frame requests.Stats other = refl
+not_frame (requests.Ask question) other = refl
+not_frame requests.Lost other = refl
 
 -- one line
 pub noted_line : (line : Line) (answer : Answer) (asks : Bool) (refusal : Option Refusal) (seen seen' : Bool) → asks ≡ is_frame line → refuses_frame line answer ≡ (is_frame line && is_some refusal) → Notes seen seen' asks refusal → seen' ≡ (seen || refuses_some (line ∷ []) (answer ∷ []))

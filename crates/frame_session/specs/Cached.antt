@@ -4,6 +4,8 @@ pub use Rattle.state_cache.specs.Reaching.{of_bytes, of_states}
 pub use Rattle.state_cache.specs.declared.capacity.Capacity.{Capacity}
 use Rattle.vp8_tables.specs.declared.tables.Tables.{Tables}
 use Rattle.stream_files.specs.declared.ivf.Ivf.{Ivf}
+use Rattle.packet_lists.specs.declared.lister.Lister.{Lister}
+use Rattle.packet_lists.specs.Kept.{IsLister}
 use Rattle.packet_times.specs.Durations.{one_frame}
 use Rattle.packet_edits.specs.Edits.{Listing, copied, starting}
 use Rattle.packet_edits.specs.Marks.{StoreValue, marks_deleted, marks_inserted, marks_moved, marks_pushed, marks_replaced}
@@ -60,6 +62,11 @@ pub record IsSession (tables : Tables) (stores : List StoreValue) (current : ℕ
   pub sound : IsSound tables stores cache
   pub few : length stores ≤ 8
   pub current_exists : current < length stores
+
+-- what an open session keeps of the answers to questions is of the current list
+pub record IsOpen (tables : Tables) (stores : List StoreValue) (current : ℕ) (cache : CacheValue) (lister : Lister) : Type 0 where
+  pub session : IsSession tables stores current cache
+  pub kept : IsLister tables (list_at (lists_of stores) current) lister
 
 -- the number of shown packets of each source
 abbrev pub shown_counts_of : List StoreValue → List ℕ

@@ -1,5 +1,5 @@
 -- Whether a request for a frame was refused, as the observer of a run notes it.
-use Rattle.std.specs.Prelude.{◌≡◌, ℕ, Bool, true, false, ◌&&◌, ◌||◌, is_some, List, [], ◌∷◌, Option}
+use Rattle.std.specs.Prelude.{◌≡◌, ℕ, Bool, true, false, ◌&&◌, ◌||◌, is_some, List, ◌∷◌, Option}
 use Rattle.vp8_tables.specs.declared.tables.Tables.{Tables}
 use Rattle.request_lines.specs.declared.lines.Line.{Line}
 use Rattle.request_lines.specs.declared.lines.Line.TheVariants as requests

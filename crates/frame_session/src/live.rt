@@ -9,7 +9,7 @@ ghost use Rattle.frame_session.specs.LiveSteps.{IsRead, IsShort, ReadsLine, Read
 ghost use Rattle.frame_session.specs.Replies.{live_fault_word};
 
 use crate::observer::Observer;
-use crate::serving::{Flushing, RunFault, is_frame, read_sources, serve_line};
+use crate::serving::{Flushing, RunFault, read_sources, serve_line};
 use crate::session::Session;
 use crate::settings::Settings;
 use request_lines::{Beginning, Line, read_line, without_carriage_return};
@@ -220,7 +220,7 @@ fn answer_next<I: BufRead, F: Write, P: Write, V: Observer>(
         return Ok(false);
     }
     let request = line.request(is_terminated);
-    let asks_frame = is_frame(&request);
+    let asks_frame = matches!(request, Line::Frame(_));
     match serve_line(session, request, frames, replies, Flushing::EachAnswer) {
         Ok(told) => {
             observer.answered(session, line.text(is_terminated), asks_frame, told);

@@ -8,7 +8,7 @@ ghost use Rattle.frame_session.specs.Sessions.{frame_count, packet_count};
 ghost use Rattle.request_lines.specs.Requests.{asked_by};
 ghost use Rattle.state_cache.specs.Reaching.{of_states};
 ghost use Rattle.frame_session.specs.ProofsOnly.{IsSourceRefused};
-ghost use Rattle.frame_session.specs.Noted.{MeansNoted, RunsNoted, is_frame};
+ghost use Rattle.frame_session.specs.Noted.{MeansNoted, RunsNoted};
 ghost use Rattle.frame_session.specs.Told.{Tells};
 ghost use Rattle.frame_session.specs.Answers.{AreIvfs, Means, RunStops, WritesAnswers, WritesAnswer, WritesUntilError, WritesFrameFirst, opening, requests_of, texts_of};
 ghost use Rattle.frame_session.specs.LineCosts.{AnswersAtCost, MeansAtCost, RunsAtCost};
@@ -243,13 +243,6 @@ pub fn answer_line<F: Write, P: Write>(
     serve_line(session, request, frames, replies, Flushing::AtEnd)
 }
 
-/// Whether a line is a request for a frame.
-pub(crate) fn is_frame(line: &Line<'_>) -> bool
-    ensures { result ≡ is_frame line.now }
-{
-    matches!(line, Line::Frame(_))
-}
-
 /// Answers all lines of a text.
 pub(crate) fn serve_all<F: Write, P: Write, V: Observer>(
     session: &mut Session,
@@ -271,7 +264,7 @@ pub(crate) fn serve_all<F: Write, P: Write, V: Observer>(
             return Ok(());
         };
         let request = read_line(line).unwrap_or(Line::Unknown);
-        let asks_frame = is_frame(&request);
+        let asks_frame = matches!(request, Line::Frame(_));
         let told = serve_line(session, request, frames, replies, flushing)?;
         observer.answered(session, line, asks_frame, told);
         rest = following;

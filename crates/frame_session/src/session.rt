@@ -24,6 +24,7 @@ use crate::size::Size;
 use arrayvec::ArrayVec;
 pub use exports::ExportFault;
 use packet_edits::Store;
+use packet_lists::Lister;
 use packet_times::usual_duration;
 use pixel_planes::{NoMemory, Picture};
 use request_lines::{Edit, Hex};
@@ -48,16 +49,17 @@ pub struct Session {
     spare: u64,
     size: Option<Size>,
     cache: Cache,
+    lister: Lister,
 }
 
 impl Model for Session {
-    ghost use Rattle.frame_session.specs.Cached.{IsSession, SessionValue, lists_of};
+    ghost use Rattle.frame_session.specs.Cached.{IsOpen, SessionValue, lists_of};
 
     ghost Value = { SessionValue };
 
     ghost view = { λ s. record { state = record { tables = s.tables; head = s.head; lists = lists_of s.stores.items; current = s.current; script = s.script; spare = s.spare; size = s.size; decoded = s.cache.decoded }; stores = s.stores.items; cache = s.cache } };
 
-    ghost invariant = { λ s. IsSession s.tables s.stores.items s.current s.cache };
+    ghost invariant = { λ s. IsOpen s.tables s.stores.items s.current s.cache s.lister };
 }
 
 impl Session {
@@ -115,6 +117,7 @@ impl Session {
             spare,
             size: None,
             cache,
+            lister: Lister::new(alloc),
         })
     }
 
@@ -216,6 +219,7 @@ impl Session {
             return Err(Refusal::Source);
         }
         self.current = source as usize;
+        self.lister = Lister::new(self.alloc);
         Ok(self.stores[self.current].len() as u64)
     }
 
@@ -254,14 +258,16 @@ impl Session {
         ensures cache { CacheWithout self.old.state.current (id_removed edit (current_list self.old.state) result) self.old.cache self.new.cache }
         ensures refused { OnErr result (self.new ≡ self.old) }
     {
-        edit_cached(
+        let edited = edit_cached(
             self.alloc,
             &self.tables,
             &mut self.stores,
             &mut self.cache,
             self.current,
             edit,
-        )
+        );
+        self.lister = Lister::new(self.alloc);
+        edited
     }
 
     /// Makes an edit whose bytes are decoded only once nothing else is refused.

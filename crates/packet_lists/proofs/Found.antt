@@ -1,5 +1,5 @@
 -- The findings at packets after a position, and their lines.
-use Rattle.std.proofs.Common.{◌≡◌, ℕ, Bool, true, false, not, cond, Option, subst, zero, suc, ◌+◌, ◌-◌, ◌≤◌, ◌<◌, List, [], ◌∷◌, ◌++◌, Some, None, Ok, take, drop, map, length, slice_get, refl, sym, ap, ◌∙◌, arith, append-nil, append_assoc, length-append}
+use Rattle.std.proofs.Common.{◌≡◌, inl, inr, ℕ, Bool, true, false, not, cond, Option, subst, zero, suc, ◌+◌, List, [], ◌∷◌, ◌++◌, Some, None, Ok, take, drop, map, length, slice_get, refl, sym, ap, ◌∙◌, arith, append-nil, append_assoc, length-append}
 use Rattle.std.specs.List.{concat, flat_map}
 use Rattle.std.specs.Io.KnownBytes.{Appends}
 use Rattle.std.proofs.KnownBytes.{Appends-trans}
@@ -13,19 +13,24 @@ use Rattle.stream_files.specs.declared.packets.Packet.{Packet}
 use Rattle.macroblock_lists.specs.Known.{Progress, progress_after, progress_over}
 use Rattle.macroblock_lists.specs.declared.layouts.Form.{Form}
 use Rattle.macroblock_lists.specs.declared.layouts.Form.TheVariants as forms
+use Rattle.frame_header.specs.Tags.{has_key_tag}
 use Rattle.packet_edits.specs.Edits.{Listing}
+use Rattle.packet_edits.specs.Saved.{packets_of}
+use Rattle.macroblock_lists.specs.Texts.{progress_before}
 use Rattle.stream_checks.specs.declared.finding.Finding.{Finding}
 use Rattle.stream_checks.specs.declared.finding.Tally.{Tally}
 use Rattle.stream_checks.specs.declared.packets.Position.{Position}
 use Rattle.stream_checks.specs.declared.stamps.Pace.{Pace}
 use Rattle.stream_checks.specs.Breaks.{progresses_from}
 use Rattle.stream_checks.specs.Objects.{object_of, tally_object}
-use Rattle.stream_checks.specs.Packets.{bytes_of, each_from, joined, position_after, position_over}
+use Rattle.stream_checks.specs.Packets.{bytes_of, each_from, first_position, joined, position_after, position_over}
 use Rattle.stream_checks.specs.Partitions.{ends_from}
 use Rattle.stream_checks.specs.Severity.{is_damage, tally_of}
 use Rattle.stream_checks.specs.Stamps.{shown_stamp, shown_stamps}
 use Rattle.stream_checks.specs.Texts.{texts_of}
 use Rattle.packet_lists.specs.Findings.{check_lines, finding_lines, findings_from}
+use Rattle.packet_lists.specs.Kept.{IsKnownFor}
+use Rattle.packet_lists.proofs.Progressed.{key_packet}
 
 -- the findings at each packet of a stream from a position on
 abbrev pub each : TableEntries → Pace → ℕ → Position → Progress → List Packet → List (List Finding)
@@ -127,3 +132,31 @@ pub check_counted : (tables : TableEntries) (list : Listing) (first count : ℕ)
     → found ≡ findings_from tables list first count → tally ≡ tally_of found → tally.damage + tally.notes + 1 ≡ length (check_lines tables list first count)
 check_counted tables list first count found tally is counted =
     ap (λ (t : Tally). t.damage + t.notes + 1) counted ∙ sym (lines_counted found) ∙ ap (λ (fs : List Finding). length (finding_lines fs)) is
+
+-- a packet with a key tag needs nothing before it
+each_forgets : (tables : TableEntries) (pace : Pace) (place : ℕ) (position : Position) (one other : Progress) (packet : Packet) (packets : List Packet) → has_key_tag packet.bytes ≡ true
+    → each tables pace place position one (packet ∷ packets) ≡ each tables pace place position other (packet ∷ packets)
+each_forgets tables pace place position one other packet packets key = rw key refl
+
+-- the findings from an index on, by what is known there
+pub each_known : (tables : TableEntries) (pace : Pace) (list : Listing) (first count : ℕ) (position : Position) (progress : Progress)
+    → position ≡ position_over pace.step first_position (take first (packets_of list)) → IsKnownFor tables list first count progress
+    → each tables pace first position progress (drop first (packets_of list)) ≡ drop first (each tables pace 0 first_position (Ok None) (packets_of list))
+each_known tables pace list first count position progress is known =
+    let packets : List Packet = packets_of list in
+    let rest : List Packet = drop first packets in
+    let from : first ≡ 0 + first = omega arith in
+    let before : Progress = progress_before tables packets first in
+    let exact : each tables pace first position before rest ≡ drop first (each tables pace 0 first_position (Ok None) packets) =
+    ap (λ (n : ℕ). each tables pace n position before rest) from
+    ∙ ap (λ (p : Position). each tables pace (0 + first) p before rest) is
+    ∙ each_dropped tables pace 0 first_position (Ok None) packets first in
+    elim known.known [
+      | inl same ↦ ap (λ (d : Progress). each tables pace first position d rest) same ∙ exact
+      | inr key ↦
+          let found = key_packet list.entries first key in
+          let here : rest ≡ found.0 ∷ drop (suc first) packets = drop_here packets first found.0 found.1 in
+          ap (λ (xs : List Packet). each tables pace first position progress xs) here
+          ∙ each_forgets tables pace first position progress before found.0 (drop (suc first) packets) found.2
+          ∙ sym (ap (λ (xs : List Packet). each tables pace first position before xs) here) ∙ exact
+    ]

@@ -4,7 +4,6 @@ use Rattle.std.proofs.lemmas.Bool.{le-leb, lt-leb}
 use Rattle.stream_files.specs.declared.packets.Packet.{Packet}
 use Rattle.frame_header.specs.Tags.{has_key_tag, is_shown}
 use Rattle.packet_edits.specs.declared.entry.Entry.{Entry}
-use Rattle.packet_edits.specs.Nearest.{HoldsNowhere, IsFirst}
 use Rattle.packet_edits.specs.Saved.{packet_of}
 use Rattle.packet_edits.specs.Shown.{shown_from}
 use Rattle.packet_edits.specs.Sizes.{key_tag_at}

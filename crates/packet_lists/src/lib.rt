@@ -6,8 +6,8 @@ mod details;
 mod findings;
 pub mod laws;
 mod lines;
+mod lister;
 mod places;
+mod reached;
 
-pub use details::write_details;
-pub use findings::write_check;
-pub use lines::write_lines;
+pub use lister::Lister;

@@ -1,6 +1,7 @@
 // The position before a packet, from the last key packet before it.
-ghost use Rattle.std.specs.Prelude.{◌≡◌, ℕ, ◌+◌, ◌≤◌, ◌<◌, Some, length, slice_get, take, true, false};
+ghost use Rattle.std.specs.Prelude.{◌≡◌, ℕ, ◌+◌, ◌≤◌, ◌<◌, IfSome, Some, length, slice_get, take, true, false};
 ghost use Rattle.packet_edits.specs.Shown.{shown_indexes, stream_of};
+ghost use Rattle.packet_lists.specs.Kept.{IsListed};
 ghost use Rattle.packet_lists.specs.Places.{IsAfterKey, position_at};
 
 use frame_header::read_outline;
@@ -80,14 +81,33 @@ fn position_after_key(store: &Store, at: usize) -> Position
     }
 }
 
-/// The position before the packet at index `at`, or after the last packet.
-pub(crate) fn position_before(store: &Store, at: usize) -> Position
-    requires { at ≤ length store.now.list.entries }
-    ensures { result ≡ position_at store.now.list at }
+/// The position from which headers are read for index `at`: after the last accepted key packet before it, or the known one, if that is
+/// nearer.
+fn nearest_before(store: &Store, known: Option<Position>, at: usize) -> Position
+    requires within { at ≤ length store.now.list.entries }
+    requires known { IfSome known (IsListed store.now.list) }
+    ensures listed { IsListed store.now.list result }
+    ensures before { result.packets ≤ at }
+{
+    let start = after_key_before(store, at);
+    if let Some(known) = known {
+        if start <= known.packets() && known.packets() <= at {
+            return known;
+        }
+    }
+    position_after_key(store, start)
+}
+
+/// The position before the packet at index `at`, or after the last packet. `known` is another position of the list, if one is known.
+pub(crate) fn position_before(store: &Store, known: Option<Position>, at: usize) -> Position
+    requires within { at ≤ length store.now.list.entries }
+    requires known { IfSome known (IsListed store.now.list) }
+    ensures is { result ≡ position_at store.now.list at }
+    ensures packets { result.packets ≡ at }
 {
     store.prove_few();
-    let start = after_key_before(store, at);
-    let mut position = position_after_key(store, start);
+    let mut position = nearest_before(store, known, at);
+    let start = position.packets();
     for place in start..at {
         let _facts = position.next_of(store.stamp(place), store.packet(place));
     }

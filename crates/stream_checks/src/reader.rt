@@ -41,6 +41,13 @@ impl Reader {
         Reader { alloc, progress }
     }
 
+    /// What is known there.
+    pub fn into_progress(self) -> Progress
+        ensures { result ≡ self }
+    {
+        self.progress
+    }
+
     /// Reads the packet at index `place`: where decoding ends in each of its partitions. A packet that
     /// is refused or lost has none.
     pub fn next(

@@ -40,7 +40,7 @@ pub struct Facts {
 /// A position between two packets of a stream: the number of packets and of shown packets before
 /// it, the byte of the file at which the next record begins, whether a header before it was accepted,
 /// and whether the packets after it are lost up to the next key tag.
-#[derive(Drop)]
+#[derive(Clone, Copy)]
 pub struct Position {
     packets: usize,
     frames: usize,
@@ -61,6 +61,13 @@ impl Position {
             follows: false,
             is_broken: false,
         }
+    }
+
+    /// The number of packets before it.
+    pub fn packets(self) -> usize
+        ensures { result ≡ self.packets }
+    {
+        self.packets
     }
 
     /// Reads the outline of a packet's header, after which packets without a key tag may follow.

@@ -1,8 +1,10 @@
-use Rattle.std.proofs.Common.{◌≡◌, Bool, true, false, rules}
+use Rattle.std.proofs.Common.{◌≡◌, ◌∙◌, Bool, true, false, refl, rules}
 use Rattle.std.proofs.lemmas.Bool.{true≢false}
 use Rattle.frame_session.proofs.AtCost.{serves_of}
 use Rattle.frame_session.proofs.LiveRuns.{ends_first, nothing_left, read_answered, read_refused}
-use Rattle.frame_session.proofs.Noted.{noted_line}
+use Rattle.frame_session.specs.Noted.{is_frame}
+use Rattle.frame_session.proofs.Noted.{not_frame, noted_line}
+use Rattle.frame_session.proofs.live.answer_next.Goals.{in-Frame, in_default}
 use Rattle.frame_session.proofs.live.answer_next.Goals as goal
 use Rattle.frame_session.proofs.live.answer_next.Goals.{else-not-is_terminated-via-then-not-is_terminated+else-line-eq0, else-not-is_terminated-via-else-not-is_terminated}
 
@@ -34,7 +36,11 @@ returns-in-Ok-clause-ok g c =
       | else-not-is_terminated-via-then-not-is_terminated+else-line-eq0 w ↦ λ e none. w.if-line-eq0.false none
       | else-not-is_terminated-via-else-not-is_terminated w ↦ λ e none. never t w.if-not-is_terminated.false e
     ] in
-    read_answered c.args.session.now c.serve_line.new.session (i c.args.input.now) (i c.read_whole_line.new.input) (f c.args.frames.now) (f c.serve_line.new.frames) (r c.args.replies.now) (r c.serve_line.new.replies) c.read_whole_line.new.line c.request-request.result seen seen' t c.in_ok-is_terminated.ensures some c.request-request.ensures (serves_of c.args.session.now c.request-request.result (f c.args.frames.now) (f c.serve_line.new.frames) (r c.args.replies.now) (r c.serve_line.new.replies) c.in-Ok.told c.serve_line.new.session c.in-Ok.ensures.costs) c.in-Ok.ensures.costs.costs (noted_line c.request-request.result c.in-Ok.ensures.costs.answer c.is_frame-asks_frame.result c.in-Ok.told seen seen' c.is_frame-asks_frame.ensures c.in-Ok.ensures.costs.told c.answered.ensures)
+    let asks : c.match-matches.matches ≡ is_frame c.request-request.result = elim c.match-matches.branch [
+      | in-Frame w ↦ rw (w.matches-is, w.in-Frame.is) refl
+      | in_default w ↦ w.matches-is ∙ not_frame c.request-request.result w.in_default.not-Frame
+    ] in
+    read_answered c.args.session.now c.serve_line.new.session (i c.args.input.now) (i c.read_whole_line.new.input) (f c.args.frames.now) (f c.serve_line.new.frames) (r c.args.replies.now) (r c.serve_line.new.replies) c.read_whole_line.new.line c.request-request.result seen seen' t c.in_ok-is_terminated.ensures some c.request-request.ensures (serves_of c.args.session.now c.request-request.result (f c.args.frames.now) (f c.serve_line.new.frames) (r c.args.replies.now) (r c.serve_line.new.replies) c.in-Ok.told c.serve_line.new.session c.in-Ok.ensures.costs) c.in-Ok.ensures.costs.costs (noted_line c.request-request.result c.in-Ok.ensures.costs.answer c.match-matches.matches c.in-Ok.told seen seen' asks c.in-Ok.ensures.costs.told c.answered.ensures)
 
 pub returns-clause-err : goal.returns-clause-err
 returns-clause-err g c =

@@ -1,6 +1,6 @@
-use Rattle.std.proofs.Common.{◌≡◌, Ok, subst, rules}
+use Rattle.std.proofs.Common.{Ok, subst, rules}
 use Rattle.frame_session.specs.declared.live.Reached.{Reached}
-use Rattle.frame_session.proofs.LiveReads.{IsWithin, MorePart, line_cut_off, line_ends, line_goes_on, line_is_last, nothing_read}
+use Rattle.frame_session.proofs.LiveReads.{MorePart, line_cut_off, line_ends, line_goes_on, line_is_last, nothing_read}
 use Rattle.frame_session.proofs.live.read_whole_line.Goals as goal
 
 pub parts-init : goal.parts-init

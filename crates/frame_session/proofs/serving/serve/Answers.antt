@@ -98,12 +98,12 @@ returns-in-Ask-clause-serves g c =
     let f = g.F.Write.contents c.args.frames.now in
     let r = g.P.Write.contents c.args.replies.now in
     let r' = g.P.Write.contents c.answer.new.w in
-    rw c.in-Ask.is (on_ok_weaker c.answer.result (λ gains. serves_asked c.args.session.now.state f f r r' c.in-Ask.question gains) c.answer.ensures.wrote)
+    rw (c.in-Ask.is, c.answer.ensures.same) (on_ok_weaker c.answer.result (λ gains. serves_asked c.args.session.now.state f f r r' c.in-Ask.question gains) c.answer.ensures.wrote)
 
 pub returns-in-Ask-clause-frame_first : goal.returns-in-Ask-clause-frame_first
 returns-in-Ask-clause-frame_first g c =
     let f = g.F.Write.contents c.args.frames.now in
-    rw c.in-Ask.is (inr (serves_reply c.args.session.now.state f f None None (requests.Ask c.in-Ask.question) _ (answer_to c.args.session.now.state c.in-Ask.question, inl refl, refl, refl) tt))
+    rw (c.in-Ask.is, c.answer.ensures.same) (inr (serves_reply c.args.session.now.state f f None None (requests.Ask c.in-Ask.question) _ (answer_to c.args.session.now.state c.in-Ask.question, inl refl, refl, refl) tt))
 
 pub returns-in-Lost-clause-serves : goal.returns-in-Lost-clause-serves
 returns-in-Lost-clause-serves g c =
@@ -183,7 +183,7 @@ returns-in-Ask-clause-costs g c =
     let f = g.F.Write.contents c.args.frames.now in
     let r = g.P.Write.contents c.args.replies.now in
     let r' = g.P.Write.contents c.answer.new.w in
-    rw c.in-Ask.is (asked_at_cost c.answer.result c.args.session.now f r r' c.in-Ask.question c.answer.ensures.wrote)
+    rw (c.in-Ask.is, c.answer.ensures.same) (asked_at_cost c.answer.result c.args.session.now f r r' c.in-Ask.question c.answer.ensures.wrote)
 
 pub returns-in-Lost-clause-costs : goal.returns-in-Lost-clause-costs
 returns-in-Lost-clause-costs g c =

@@ -6,20 +6,27 @@ use Rattle.request_lines.specs.declared.lines.Line.TheVariants.{Unknown}
 use Rattle.request_lines.specs.declared.misfit.Misfit.{Misfit}
 use Rattle.frame_session.specs.Answers.{requests_of}
 use Rattle.frame_session.proofs.AtCost.{all_at_cost, costs_more, serves_of}
-use Rattle.frame_session.proofs.Noted.{all_noted, noted_append, noted_line, or_false}
+use Rattle.frame_session.proofs.Noted.{all_noted, not_frame, noted_append, noted_line, or_false}
 use Rattle.frame_session.proofs.Served.{all_more, runs_more, runs_none}
+use Rattle.frame_session.specs.Noted.{is_frame}
+use Rattle.frame_session.proofs.serving.serve_all.Goals.{in-Frame, in_default-matches}
 use Rattle.frame_session.proofs.serving.serve_all.Goals as goal
 
 pub lines-preserved : goal.lines-preserved
-lines-preserved g c = record {
-  done = c.lines.invariant.done ++ c.unwrap_or-request.result ∷ [];
-  whole = all_more c.lines.invariant.done c.unwrap_or-request.result c.in-Some.line.now (lines c.lines.rest.now) (lines c.in-Some.following.now) _ (c.unwrap_or-request.ensures ∙ ap (λ (read : Result Line Misfit). result_unwrap_or read Unknown) c.read_line.ensures) c.in-Some.ensures.next c.lines.invariant.whole;
-  ran = runs_more _ _ _ _ _ _ _ _ _ _ _ c.lines.invariant.ran (serves_of _ _ _ _ _ _ _ _ c.in_ok-told.ensures.costs);
-  costs = costs_more c.args.session.now c.lines.session c.serve_line.new.session c.lines.invariant.done c.lines.invariant.ran.answers c.unwrap_or-request.result c.in_ok-told.ensures.costs.answer c.lines.invariant.costs c.in_ok-told.ensures.costs.means c.in_ok-told.ensures.costs.costs;
-  noted = noted_append c.args.session.now.state c.lines.session.state c.lines.invariant.done (c.unwrap_or-request.result ∷ []) c.lines.invariant.ran.answers (c.in_ok-told.ensures.costs.answer ∷ []) (g.V.Observer.has_refused c.args.observer.now) (g.V.Observer.has_refused c.lines.observer) (g.V.Observer.has_refused c.answered.new.self) c.lines.invariant.ran.means c.lines.invariant.noted
-      (noted_line c.unwrap_or-request.result c.in_ok-told.ensures.costs.answer c.is_frame-asks_frame.result c.in_ok-told.told (g.V.Observer.has_refused c.lines.observer) (g.V.Observer.has_refused c.answered.new.self) c.is_frame-asks_frame.ensures c.in_ok-told.ensures.costs.told c.answered.ensures);
-  capacity = c.serve_line.ensures.capacity ∙ c.lines.invariant.capacity;
-}
+lines-preserved g c =
+    let asks : c.match-matches.matches ≡ is_frame c.unwrap_or-request.result = elim c.match-matches.branch [
+      | in-Frame w ↦ rw (w.matches-is, w.in-Frame.is) refl
+      | in_default-matches w ↦ w.matches-is ∙ not_frame c.unwrap_or-request.result w.in_default-matches.not-Frame
+    ] in
+    record {
+      done = c.lines.invariant.done ++ c.unwrap_or-request.result ∷ [];
+      whole = all_more c.lines.invariant.done c.unwrap_or-request.result c.in-Some.line.now (lines c.lines.rest.now) (lines c.in-Some.following.now) _ (c.unwrap_or-request.ensures ∙ ap (λ (read : Result Line Misfit). result_unwrap_or read Unknown) c.read_line.ensures) c.in-Some.ensures.next c.lines.invariant.whole;
+      ran = runs_more _ _ _ _ _ _ _ _ _ _ _ c.lines.invariant.ran (serves_of _ _ _ _ _ _ _ _ c.in_ok-told.ensures.costs);
+      costs = costs_more c.args.session.now c.lines.session c.serve_line.new.session c.lines.invariant.done c.lines.invariant.ran.answers c.unwrap_or-request.result c.in_ok-told.ensures.costs.answer c.lines.invariant.costs c.in_ok-told.ensures.costs.means c.in_ok-told.ensures.costs.costs;
+      noted = noted_append c.args.session.now.state c.lines.session.state c.lines.invariant.done (c.unwrap_or-request.result ∷ []) c.lines.invariant.ran.answers (c.in_ok-told.ensures.costs.answer ∷ []) (g.V.Observer.has_refused c.args.observer.now) (g.V.Observer.has_refused c.lines.observer) (g.V.Observer.has_refused c.answered.new.self) c.lines.invariant.ran.means c.lines.invariant.noted
+          (noted_line c.unwrap_or-request.result c.in_ok-told.ensures.costs.answer c.match-matches.matches c.in_ok-told.told (g.V.Observer.has_refused c.lines.observer) (g.V.Observer.has_refused c.answered.new.self) asks c.in_ok-told.ensures.costs.told c.answered.ensures);
+      capacity = c.serve_line.ensures.capacity ∙ c.lines.invariant.capacity;
+    }
 
 pub lines-init : goal.lines-init
 lines-init g c = record {

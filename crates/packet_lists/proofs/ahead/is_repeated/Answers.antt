@@ -1,4 +1,4 @@
-use Rattle.std.proofs.Common.{◌≡◌, ◌+◌, ◌≤◌, ℕ, List, Some, ap, sym, ◌∙◌, drop, length, slice_get, arith}
+use Rattle.std.proofs.Common.{◌≡◌, ◌+◌, ◌≤◌, ℕ, List, Some, ap, sym, ◌∙◌, length, slice_get, arith}
 use Rattle.std.proofs.lemmas.List.{drop_all, length-map}
 use Rattle.stream_files.specs.declared.packets.Packet.{Packet}
 use Rattle.packet_edits.specs.Saved.{packet_of, packets_of}

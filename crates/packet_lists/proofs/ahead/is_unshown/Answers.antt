@@ -1,4 +1,4 @@
-use Rattle.std.proofs.Common.{◌≡◌, ℕ, ◌+◌, List, Some, None, drop, length, map, slice_get, take, leb, sym, ap, ◌∙◌, arith}
+use Rattle.std.proofs.Common.{◌≡◌, ℕ, ◌+◌, List, Some, None, drop, map, slice_get, leb, sym, ap, ◌∙◌, arith}
 use Rattle.packet_edits.specs.Saved.{packet_of}
 use Rattle.packet_edits.specs.Shown.{shown_from}
 use Rattle.stream_checks.specs.Packets.{bytes_of}

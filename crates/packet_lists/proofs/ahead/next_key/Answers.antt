@@ -1,5 +1,5 @@
-use Rattle.std.proofs.Common.{ℕ, ◌≤◌, ◌<◌, arith}
-use Rattle.packet_lists.proofs.NextKeys.{IsNextKey, lost_is}
+use Rattle.std.proofs.Common.{arith}
+use Rattle.packet_lists.proofs.NextKeys.{lost_is}
 use Rattle.packet_lists.proofs.ahead.next_key.Goals as goal
 
 pub returns-in-Some : goal.returns-in-Some

@@ -1,4 +1,4 @@
-use Rattle.std.proofs.Common.{inl, inr, refl}
+use Rattle.std.proofs.Common.{inr}
 use Rattle.packet_lists.proofs.Progressed.{key_found}
 use Rattle.packet_lists.proofs.details.key_before.Goals as goal
 

@@ -1,4 +1,4 @@
-use Rattle.std.proofs.Common.{◌≡◌, ◌≤◌, ℕ, List, ap, sym, ◌∙◌, take, arith, add-one}
+use Rattle.std.proofs.Common.{◌≡◌, ◌≤◌, ◌+◌, ℕ, suc, List, ap, sym, ◌∙◌, length, take, arith}
 use Rattle.stream_files.specs.declared.packets.Packet.{Packet}
 use Rattle.packet_edits.specs.Saved.{packets_of}
 use Rattle.stream_checks.specs.declared.packets.Position.{Position}
@@ -14,10 +14,20 @@ loop-place-preserved c =
     let place = c.loop-place.place in
     let packet : Packet = record { stamp = c.stamp.result; bytes = c.packet.result.now } in
     let here = packet_here c.args.store.now.list.entries place c.stamp.result c.packet.result.now c.stamp.ensures c.packet.ensures in
+    let met = c.loop-place.invariant in
+    let before : Position = c.loop-place.position in
+    let after : Position = c.after-position.result in
+    let start : before ≡ position_over step first_position (take place packets) = met.is.is ∙ ap (λ (n : ℕ). position_over step first_position (take n packets)) met.packets in
+    let next : after.packets ≡ before.packets + 1 = ap (λ (p : Position). p.packets) c.after-position.ensures.after in
+    let index : suc place ≡ after.packets = omega (arith, next, met.packets) in
+    let many : after.packets ≤ length c.args.store.now.list.entries = omega (arith, next, met.packets, c.requires.within) in
     record {
-      before = c.after-position.ensures.after ∙ ap (λ (p : Position). position_after step p packet) c.loop-place.invariant.before
-          ∙ sym (position_more step first_position packets place packet here)
-          ∙ ap (λ (n : ℕ). position_over step first_position (take n packets)) (sym (add-one place));
-      packets = omega (arith, ap (λ (p : Position). p.packets) c.after-position.ensures.after, c.loop-place.invariant.packets);
-      frames = c.after-position.ensures.frames;
+      is = record {
+        within = many;
+        frames = c.after-position.ensures.frames;
+        is = c.after-position.ensures.after ∙ ap (λ (p : Position). position_after step p packet) start
+            ∙ sym (position_more step first_position packets place packet here)
+            ∙ ap (λ (n : ℕ). position_over step first_position (take n packets)) index;
+      };
+      packets = omega (arith, next, met.packets);
     }

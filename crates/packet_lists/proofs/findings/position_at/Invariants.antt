@@ -1,11 +1,9 @@
-use Rattle.std.proofs.Common.{◌≡◌, ◌≤◌, take}
-use Rattle.packet_edits.specs.Saved.{packets_of}
-use Rattle.stream_checks.specs.Packets.{first_position, position_over}
+use Rattle.std.proofs.Common.{◌≡◌}
+use Rattle.packet_lists.specs.Kept.{IsCheckedBy}
 use Rattle.packet_lists.proofs.findings.position_at.Given as goal
 
 abbrev pub invariant-loop-place : goal.invariant-loop-place
 invariant-loop-place l = record {
-  before : l.position ≡ position_over l.step first_position (take l.place (packets_of l.store.list));
+  is : IsCheckedBy l.step l.store.list l.position;
   packets : l.position.packets ≡ l.place;
-  frames : l.position.frames ≤ l.position.packets;
 }

@@ -1,4 +1,4 @@
-use Rattle.std.proofs.Common.{ℕ, ◌+◌, List, ◌++◌, drop, take, sym, ap, ◌∙◌}
+use Rattle.std.proofs.Common.{List, ◌++◌, drop, take, sym, ap, ◌∙◌}
 use Rattle.std.proofs.Math.Seq.{take-add}
 use Rattle.std.proofs.lemmas.Grind.{flat_map-append}
 use Rattle.packet_edits.specs.Saved.{packets_of}

@@ -1,4 +1,4 @@
-use Rattle.std.proofs.Common.{◌≡◌, ◌≤◌, sym, ap, ◌∙◌, arith}
+use Rattle.std.proofs.Common.{◌≡◌, ◌≤◌, length, sym, ap, ◌∙◌, arith}
 use Rattle.stream_files.specs.declared.packets.Packet.{Packet}
 use Rattle.stream_facts.specs.declared.facts.Position.{Position}
 use Rattle.stream_facts.specs.Facts.{position_after}
@@ -19,3 +19,9 @@ loop-place-preserved c =
     let packet : Packet = record { stamp = c.stamp.result; bytes = c.packet.result.now } in
     c.next_of-facts.ensures.after ∙ ap (λ (p : Position). position_after p packet) c.loop-place.invariant
     ∙ sym (position_next c.args.store.now.list c.loop-place.place packet (packet_here c.args.store.now.list.entries c.loop-place.place c.stamp.result c.packet.result.now c.stamp.ensures c.packet.ensures))
+
+pub returns-clause-packets : goal.returns-clause-packets
+returns-clause-packets c =
+    let end : c.loop-place.place ≡ c.args.at = omega (arith, c.nearest_before-position.ensures.before, c.packets-start.ensures) in
+    let within : c.loop-place.place ≤ length c.args.store.now.list.entries = omega (arith, end, c.requires.within) in
+    omega (arith, end, ap (λ (p : Position). p.packets) c.loop-place.invariant, packets_before c.args.store.now.list c.loop-place.place within)

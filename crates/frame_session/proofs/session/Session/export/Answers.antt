@@ -1,9 +1,8 @@
 use Rattle.std.proofs.Common.{◌≡◌, ℕ, List, None, length, map, refl, rules, arith, ap, subst, sym, ◌∙◌}
 use Rattle.lossless_cuts.specs.declared.targets.Target.{Target}
 use Rattle.lossless_cuts.specs.Plans.{exported}
-use Rattle.stream_files.specs.declared.ivf.Head.{Head}
 use Rattle.packet_times.specs.Stamps.{stamped}
-use Rattle.frame_session.specs.Exported.{HaveTargets, IsExport, export_head, streams_in, units_at}
+use Rattle.frame_session.specs.Exported.{HaveTargets, export_head, streams_in, units_at}
 use Rattle.frame_session.specs.Sessions.{SessionState, frame_count}
 use Rattle.frame_session.proofs.ExportedFrames.{export_is, packing_fault, stamped_length}
 use Rattle.frame_session.proofs.session.Session.export.Goals as goal

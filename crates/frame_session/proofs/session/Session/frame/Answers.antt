@@ -1,4 +1,4 @@
-use Rattle.std.proofs.Common.{◌≡◌, ◌∙◌, ℕ, List, true, Some, slice_set, rules, ap, subst, sym}
+use Rattle.std.proofs.Common.{◌≡◌, ◌∙◌, ℕ, List, true, false, Some, slice_set, rules, ap, subst, sym}
 use Rattle.state_cache.specs.Costs.{Costs}
 use Rattle.state_cache.specs.Reaching.{OthersDrop}
 use Rattle.state_cache.specs.Walks.{IsWalk}
@@ -6,7 +6,7 @@ use Rattle.script_nodes.specs.Frames.{traced}
 use Rattle.script_nodes.specs.Scripts.{origin_of}
 use Rattle.frame_session.specs.Cached.{SessionValue, store_at}
 use Rattle.frame_session.specs.Sessions.{fits}
-use Rattle.frame_session.proofs.Given.{frame_costs, frame_given}
+use Rattle.frame_session.proofs.Given.{frame_costs, frame_given, frame_refused}
 use Rattle.frame_session.proofs.session.Session.frame.Goals as goal
 
 pub returns-clause-returned : goal.returns-clause-returned
@@ -18,6 +18,16 @@ returns-clause-returned c =
     let fit : F c.args.self.now = search rules in
     frame_given c.args.self.now.state c.args.n c.shown_counts-counts.result.items c.in-Some.source c.in-Some.frame c.in-Some-shown_place.place c.in-Some.trace c.in_ok-picture.picture made c.shown_counts-counts.ensures.value from c.in-Some-shown_place.ensures.place c.in_ok-picture.ensures.returned
     c.in-Ok.ensures.shown fit c.width.ensures.whole
+
+pub returns-then-not-fits-clause-returned : goal.returns-then-not-fits-clause-returned
+returns-then-not-fits-clause-returned c =
+    let made = c.in-Ok.made in
+    let T : SessionValue → Type 0 = λ v. traced c.shown_counts-counts.result.items v.state.script c.args.n ≡ Some (origin_of c.in-Some.source c.in-Some.frame c.in-Some.trace) in
+    let F : SessionValue → Type 0 = λ v. fits v.state.size (record { width = made.width; height = made.height }) ≡ false in
+    let from : T c.args.self.now = subst T c.self.view_is (ap (λ (k : List ℕ). traced k c.self.inside.script c.args.n) (sym c.deref.ensures.0) ∙ c.in-Some.ensures.some) in
+    let unfit : F c.args.self.now = search rules in
+    frame_refused c.args.self.now.state c.args.n c.shown_counts-counts.result.items c.in-Some.source c.in-Some.frame c.in-Some-shown_place.place c.in-Some.trace c.in_ok-picture.picture made c.shown_counts-counts.ensures.value from c.in-Some-shown_place.ensures.place c.in_ok-picture.ensures.returned
+    c.in-Ok.ensures.shown unfit
 
 pub returns-clause-costs : goal.returns-clause-costs
 returns-clause-costs c =

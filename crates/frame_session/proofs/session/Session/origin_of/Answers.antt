@@ -1,4 +1,4 @@
-use Rattle.std.proofs.Common.{◌≡◌, ◌∙◌, Bool, false, true, not, ℕ, List, None, Ok, Some, slice_get, ap, subst, sym, refl}
+use Rattle.std.proofs.Common.{◌≡◌, ◌∙◌, false, true, not, ℕ, List, Ok, Some, slice_get, ap, subst, sym, refl}
 use Rattle.std.specs.Prelude.{is_some}
 use Rattle.lossless_cuts.specs.declared.targets.Target.{Target}
 use Rattle.script_nodes.specs.Frames.{traced}

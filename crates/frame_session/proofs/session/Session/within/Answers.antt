@@ -11,7 +11,10 @@ use Rattle.frame_session.proofs.Stores.{begun_lists}
 use Rattle.frame_session.proofs.session.Session.within.Goals as goal
 
 pub invariant_of-result : goal.invariant_of-result
-invariant_of-result c = begun_session c.args.tables c.args.files.items c.in_ok-stores.stores.items c.in-Ok.cache c.in_ok-stores.ensures c.requires.sources (ap (λ (cache : CacheValue). cache.entries) c.in-Ok.ensures)
+invariant_of-result c = record {
+  session = begun_session c.args.tables c.args.files.items c.in_ok-stores.stores.items c.in-Ok.cache c.in_ok-stores.ensures c.requires.sources (ap (λ (cache : CacheValue). cache.entries) c.in-Ok.ensures);
+  kept = c.new-2.ensures c.args.tables _;
+}
 
 pub returns : goal.returns
 returns c =

@@ -9,7 +9,7 @@ returns-clause-wrote g c =
     let list = c.args.store.now.list in
     let whole = list_replied list c.args.first c.args.count _ (omega arith) (omega arith) in
     subst (λ (t : List ℕ). Appends (g.W.Write.contents c.args.w.now) (g.W.Write.contents c.write_lines.new.w) t) (sym whole)
-    (Appends-trans _ _ _ _ _ c.in_ok-write_lines_line.ensures c.in_ok-write_lines.ensures)
+    (Appends-trans _ _ _ _ _ c.in_ok-write_lines_line.ensures c.in_ok-write_lines.ensures.written)
 
 pub returns-clause-told : goal.returns-clause-told
-returns-clause-told g c = (_, Appends-trans _ _ _ _ _ c.in_ok-write_lines_line.ensures c.in_ok-write_lines.ensures, refl)
+returns-clause-told g c = (_, Appends-trans _ _ _ _ _ c.in_ok-write_lines_line.ensures c.in_ok-write_lines.ensures.written, refl)

@@ -11,12 +11,12 @@ use Rattle.stream_facts.specs.Json.{object_of}
 use Rattle.packet_lists.specs.Lines.{lines_from, lines_of}
 use Rattle.packet_lists.specs.Places.{position_at}
 use Rattle.packet_lists.proofs.Steps.{frames_few, line_here, lines_more, packet_here, packets_before, position_next}
-use Rattle.packet_lists.proofs.lines.write_lines.Goals as goal
+use Rattle.packet_lists.proofs.lines.write_from.Goals as goal
 
 pub next_of-facts-requires-clause-room : goal.next_of-facts-requires-clause-room
 next_of-facts-requires-clause-room g c =
-    let few : c.loop-at.at ≤ 1048576 = omega (arith, c.prove_few.ensures.few, c.requires) in
-    let at : c.loop-at.position.packets ≡ c.loop-at.at = ap (λ (p : Position). p.packets) c.loop-at.invariant.position ∙ packets_before c.args.store.now.list c.loop-at.at (omega (arith, c.requires)) in
+    let few : c.loop-at.at ≤ 1048576 = omega (arith, c.prove_few.ensures.few, c.requires.within) in
+    let at : c.loop-at.position.packets ≡ c.loop-at.at = ap (λ (p : Position). p.packets) c.loop-at.invariant.position ∙ packets_before c.args.store.now.list c.loop-at.at (omega (arith, c.requires.within)) in
     omega (arith, few, at)
 
 pub next_of-facts-requires-clause-frames : goal.next_of-facts-requires-clause-frames

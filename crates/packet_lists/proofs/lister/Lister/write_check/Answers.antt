@@ -1,11 +1,11 @@
-use Rattle.std.proofs.Common.{◌≡◌, ℕ, List, ap, drop, take}
+use Rattle.std.proofs.Common.{◌≡◌, List, ap, drop, take}
 use Rattle.stream_checks.specs.declared.finding.Finding.{Finding}
 use Rattle.stream_checks.specs.Checks.{each_after}
 use Rattle.stream_checks.specs.Packets.{joined}
 use Rattle.packet_edits.specs.Saved.{packets_of}
 use Rattle.packet_lists.specs.Findings.{findings_from}
 use Rattle.packet_lists.proofs.Found.{check_counted, check_said}
-use Rattle.packet_lists.proofs.findings.write_check.Goals as goal
+use Rattle.packet_lists.proofs.lister.Lister.write_check.Goals as goal
 
 pub returns-in-Ok-write_tally-clause-written : goal.returns-in-Ok-write_tally-clause-written
 returns-in-Ok-write_tally-clause-written g c =

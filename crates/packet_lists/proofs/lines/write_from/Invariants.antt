@@ -3,7 +3,7 @@ use Rattle.std.specs.List.{concat}
 use Rattle.std.specs.Io.KnownBytes.{Appends}
 use Rattle.packet_lists.specs.Lines.{lines_from}
 use Rattle.packet_lists.specs.Places.{position_at}
-use Rattle.packet_lists.proofs.lines.write_lines.Given as goal
+use Rattle.packet_lists.proofs.lines.write_from.Given as goal
 
 abbrev pub invariant-loop-at : goal.invariant-loop-at
 invariant-loop-at g l = record {
