@@ -1,5 +1,5 @@
 -- Which command lines are accepted.
-use Rattle.std.specs.Prelude.{◌≡◌, ◌≢◌, ◌⊎◌, ℕ, ◌<◌, ◌≤◌, ◌==◌, Bool, true, false, ◌&&◌, is_none, nat_eq, List, [], ◌∷◌, ◌++◌, length, map, All, Contains, Option, Some, None, option_map, codes, if◌then◌else◌}
+use Rattle.std.specs.Prelude.{◌≡◌, ◌≢◌, ◌⊎◌, ℕ, ◌<◌, ◌≤◌, ◌==◌, Bool, true, false, ◌&&◌, is_none, nat_eq, List, [], ◌∷◌, ◌++◌, length, map, All, Contains, IsSome, Option, Some, None, option_map, codes, if◌then◌else◌}
 use Rattle.std.specs.Cmp.Lexicographic.{pointwise}
 use Rattle.std.specs.Borrow.{Bor}
 use Rattle.std.specs.List.{slice_split, starts_with}
@@ -165,17 +165,18 @@ source_names line = line.words.stream.now ∷ names_of line.more.items
 abbrev pub tables_name : Accepted → Option (List ℕ)
 tables_name line = option_map (λ path. path.now) line.words.tables
 
--- the values of the arguments have this mistake
-abbrev pub HasMistake : Words → Mistake → Type 0
-HasMistake words mistakes.Arguments = ⊥
-HasMistake words mistakes.Cache = capacity_asked words ≡ None
-HasMistake words mistakes.Pad = pads_nothing words ≡ true
-HasMistake words mistakes.Restamp = restamps_nothing words ≡ true
-HasMistake words mistakes.Sources = AreNoPaths (more_paths words)
+-- this is the first mistake that the values of the arguments have: of the cache, then of `--pad`, of `--restamp` and of the sources
+abbrev pub IsFirstMistake : Words → Mistake → Type 0
+IsFirstMistake words mistakes.Arguments = ⊥
+IsFirstMistake words mistakes.Cache = capacity_asked words ≡ None
+IsFirstMistake words mistakes.Pad = IsSome (capacity_asked words) × (pads_nothing words ≡ true)
+IsFirstMistake words mistakes.Restamp = IsSome (capacity_asked words) × (pads_nothing words ≡ false) × (restamps_nothing words ≡ true)
+IsFirstMistake words mistakes.Sources =
+    IsSome (capacity_asked words) × (pads_nothing words ≡ false) × (restamps_nothing words ≡ false) × AreNoPaths (more_paths words)
 
 -- why the command line is not accepted
 abbrev pub IsMistake : Words → Fault → Type 0
-IsMistake words (faults.CommandLine mistake) = HasMistake words mistake
+IsMistake words (faults.CommandLine mistake) = IsFirstMistake words mistake
 IsMistake words (faults.NamedTwice same) = IsNamedTwice words (read_files words (more_paths words)) same
 IsMistake words faults.NoMemory = Unit {0}
 IsMistake words _ = ⊥
