@@ -4,7 +4,8 @@
 `list` in ranges, put together, is what vp8list --json prints of the file that --save writes at that place; so is `check` what it prints with --check --json
 of packets, and the last line of each reply counts its findings. `header` and `macroblocks` of some packets are what it prints of that file with these options. `origins` is what a model says here:
 the script's nodes frame by frame, and the packets that `list` reports as shown. A session without the questions has the same other replies and
-the same frames. It prints what differs and ends with 1, or prints nothing and ends with 0.
+the same frames. Questions in any order, with edits between them, have the replies that each has in a session in which nothing was asked before: what a session
+keeps from one question to the next is that of its packets. It prints what differs and ends with 1, or prints nothing and ends with 0.
 """
 
 import json
@@ -243,6 +244,48 @@ def one_list(dice, folder, streams):
     expect(list(map(json.loads, found)), list(Script(text, [sum(facts["show"] == "shown" for facts in source) for source in objects]).origins(objects)), "origins")
 
 
+def random_question(dice, count):
+    word = dice.choice("list list check check header macroblocks".split())
+    number = dice.randint(0, count)
+    return f"{word} {number} {dice.randint(0, count // 2)}" if word in ("list", "check") else f"{word} {number}"
+
+
+def replies_of(text):
+    """The replies of a run, each with its lines."""
+    lines, found = iter(text.splitlines()), []
+    for first in lines:
+        count = int(first.removeprefix("lines ")) if first.startswith("lines ") else 0
+        found.append([first, *(next(lines) for _ in range(count))])
+    return found
+
+
+def in_any_order(dice, folder, streams):
+    """Compares questions between edits with the same ones in sessions of their own."""
+    paths, packets = [], []
+    for number in range(2):
+        data = dice.choice(streams).read_bytes()
+        few = list(packets_of(data))[: dice.randint(1, MOST_PACKETS)]
+        path = folder / f"{number}.ivf"
+        path.write_bytes(data[: 32 + sum(12 + len(packet) for packet in few)])
+        paths.append(path)
+        packets += few
+    counts, current, lines, questions = [MOST_PACKETS // 2] * 2, 0, [], []
+    for _ in range(dice.randint(8, 24)):
+        if dice.random() < 0.2:
+            current = dice.randrange(2)
+            lines.append(f"use {current}")
+        elif dice.random() < 0.3:
+            lines.append(random_edit(dice, counts, current, packets))
+        else:
+            questions.append(len(lines))
+            lines.append(random_question(dice, counts[current]))
+    session = lambda some: replies_of(ran(SERVE, paths[0], "-", "-", "--sources", paths[1], lines="".join(f"{line}\n" for line in some)))  # noqa: E731
+    together = session(lines)
+    for at in questions:
+        alone = session([line for number, line in enumerate(lines[: at + 1]) if number == at or number not in questions])
+        expect(together[at], alone[-1], (lines[: at + 1], "after other questions"))
+
+
 def main(count=LISTS, seed=SEED):
     streams = real_streams()
     for number in range(seed, seed + count):
@@ -250,6 +293,7 @@ def main(count=LISTS, seed=SEED):
         with tempfile.TemporaryDirectory() as folder:
             try:
                 one_list(dice, pathlib.Path(folder), streams)
+                in_any_order(dice, pathlib.Path(folder), streams)
             except (AssertionError, subprocess.SubprocessError, StopIteration, ValueError) as error:
                 print(f"list {number}: {error!r:.400}")
                 return 1
