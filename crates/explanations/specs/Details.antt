@@ -1,6 +1,7 @@
 -- The numbers that explain a refusal: they are those of the request, of the session and of the refusal.
 use Rattle.std.specs.Prelude.{◌≡◌, ◌≤◌, ℕ, Bool, ◌&&◌, nat_lt, nat_le, if◌then◌else◌, List, Option, Some, None}
 use Rattle.packet_edits.specs.Nearest.{IsLast}
+use Rattle.pixel_planes.specs.Pictures.{is_side}
 use Rattle.packet_edits.specs.Shown.{stream_of}
 use Rattle.packet_edits.specs.Sizes.{key_tag_at}
 use Rattle.frame_session.specs.declared.refusal.Refusal.{Refusal}
@@ -81,10 +82,6 @@ bytes_detail (Some count) = Bytes count
 abbrev pub bit_detail : SessionState → Line → Detail
 bit_detail now (lines.Edit (edits.ShowBit at shown)) = bytes_detail (packet_len now now.current at)
 bit_detail now line = Nothing
-
--- whether a frame can have this width or height
-abbrev pub is_side : ℕ → Bool
-is_side side = nat_lt 0 side && nat_le side 16383
 
 -- which side is not allowed
 abbrev pub side_detail : ℕ → ℕ → Detail

@@ -2,9 +2,10 @@
 ghost use Rattle.std.specs.Prelude.{◌≡◌, ◌≤◌};
 ghost use Rattle.frame_session.specs.Sessions.{packet_count};
 ghost use Rattle.request_lines.specs.Requests.{asked_by};
-ghost use Rattle.explanations.specs.Details.{IsDetail, IsSizeDetail, IsUnsized, bit_detail, bytes_detail, copy_detail, edit_detail, frame_detail, is_side, no_packet_of, past_end_of, place_detail, question_detail, side_detail, sizes_detail, sizes_of};
+ghost use Rattle.explanations.specs.Details.{IsDetail, IsSizeDetail, IsUnsized, bit_detail, bytes_detail, copy_detail, edit_detail, frame_detail, no_packet_of, past_end_of, place_detail, question_detail, side_detail, sizes_detail, sizes_of};
 
 use frame_session::{Refusal, Session, Size};
+use pixel_planes::is_side;
 use request_lines::{Edit, Hex, Line, Question, read_line};
 
 /// The numbers that explain a refusal, if it has such numbers.
@@ -150,13 +151,6 @@ fn sizes_detail(session: &Session, line: &Line<'_>) -> Detail
         Line::Frame(n) => sizes_of(session.stated_size(*n), session.first_size()),
         _ => Detail::Nothing,
     }
-}
-
-/// Whether a frame can have this width or height.
-fn is_side(side: u64) -> bool
-    ensures { result ≡ is_side side }
-{
-    0 < side && side <= 16_383
 }
 
 /// Which side is not allowed.

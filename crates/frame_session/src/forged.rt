@@ -2,7 +2,7 @@
 ghost use Rattle.std.specs.Prelude.{◌≡◌, List, Ok, IfOk, IfErr};
 ghost use Rattle.packet_edits.specs.Edits.{Listing};
 ghost use Rattle.packet_forge.specs.Faults.{ForgeRefuses};
-ghost use Rattle.packet_forge.specs.Packets.{blank_of, is_side};
+ghost use Rattle.packet_forge.specs.Packets.{blank_of};
 ghost use Rattle.frame_session.specs.Edits.{after_edit, edit_of, hold_bytes, stamp_before};
 ghost use Rattle.frame_session.specs.Cached.{marks_after};
 ghost use Rattle.frame_session.specs.IsOrNoMemory.{IsOrNoMemory};
@@ -12,6 +12,7 @@ use crate::edit::insert;
 use crate::refusal::Refusal;
 use packet_edits::Store;
 use packet_forge::{ForgeFault, blank, hold};
+use pixel_planes::is_side;
 use std::alloc::Global;
 use stream_files::Bytes;
 use vp8_tables::Tables;
@@ -27,13 +28,6 @@ fn stamp_before(list: &Store, at: u64) -> u64
         return 0;
     }
     list.stamp((at - 1) as usize)
-}
-
-/// Whether a frame can have this width or height.
-fn is_side(side: u64) -> bool
-    ensures { result ≡ is_side side }
-{
-    0 < side && side <= 16_383
 }
 
 /// A blank packet of any size: width and height may be any numbers.

@@ -24,4 +24,4 @@ pub use edge_limits::Limits;
 pub use four_samples::simple;
 pub use frames::{RowFilter, frame};
 pub use levels::level;
-pub use strengths::limits;
+pub use strengths::{has_subblock_modes, limits};

@@ -87,8 +87,8 @@ pub(crate) fn limits_of_levels(sharpness: u8, is_key: bool) -> [Limits; 64]
     all
 }
 
-/// Whether a macroblock is split into blocks with modes or vectors of their own.
-fn has_subblock_modes(mode: YMode) -> bool
+/// Whether a macroblock is split into blocks with modes or vectors of their own (RFC 6386, section 15.1).
+pub fn has_subblock_modes(mode: YMode) -> bool
     ensures { result ≡ has_subblock_modes mode }
 {
     match mode {

@@ -30,6 +30,17 @@ impl Model for Modes {
 }
 
 impl Modes {
+    /// Of these records, with this segment map after them, and so many bits left.
+    pub(crate) fn new(records: Records, segment_map: Vec<u8>, left: u128) -> Modes
+        ensures { result ≡ record { records = records; segment_map = segment_map.items; left = left } }
+    {
+        Modes {
+            records,
+            segment_map,
+            left,
+        }
+    }
+
     /// One record for each macroblock, in raster order.
     pub fn records(&self) -> &Records
         ensures { result.now ≡ self.now.records }
@@ -81,9 +92,5 @@ pub fn read_modes(
 {
     let (records, left) = read_records(alloc, tables, header, columns, rows, map)?;
     let segment_map = map_after(alloc, header, columns * rows, map, &records)?;
-    Ok(Modes {
-        records,
-        segment_map,
-        left,
-    })
+    Ok(Modes::new(records, segment_map, left))
 }

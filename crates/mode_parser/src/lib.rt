@@ -23,7 +23,7 @@ mod vectors;
 pub use chroma_vectors::chroma_vector;
 pub use frame_modes::{Modes, read_modes};
 pub use nearby::{MbPosition, Near, near_vectors};
-pub use record_facts::{RecordFacts, read_record_facts};
+pub use record_facts::{RecordFacts, read_modes_with_facts};
 pub use record_list::{Record, Records};
 pub use records::{MbMode, Split, VectorMode, YMode};
 pub use vectors::Vector;

@@ -1,11 +1,13 @@
-//! The bits that the record of each macroblock takes, and how the macroblock is split. The records
-//! are read once more for it, so decoding does no work for it.
+//! The modes of a frame with what they take: the bits of each record, and how its macroblock is split.
+//! Decoding reads modes without this.
 
 ghost use Rattle.std.specs.Prelude.{◌≡◌, ◌<◌, ◌≤◌, ◌*◌, false, length, IfOk, IsSomeAnd};
 ghost use Rattle.std.specs.Option.{option_copied};
 ghost use Rattle.mode_parser.specs.FrameModes.{place_of, record_above as record_above_of, record_left as record_left_of, record_above_left as record_above_left_of};
+ghost use Rattle.mode_parser.specs.FrameModes.{first_modes, modes_of};
 ghost use Rattle.mode_parser.specs.RecordFacts.{facts_of, inter_split, referenced_split, split_at, split_by, which_split};
 
+use crate::frame_modes::Modes;
 use crate::frame_records::push_mode;
 use crate::inter_modes::{read_reference, read_vector_mode};
 use crate::key_modes::read_skip;
@@ -13,7 +15,7 @@ use crate::nearby::{MbPosition, candidates_beside};
 use crate::places::{next_place, record_above, record_above_left, record_left};
 use crate::record_list::Records;
 use crate::records::{Split, VectorMode};
-use crate::segments::read_segment;
+use crate::segments::{map_after, read_segment};
 use bool_coder::{Decoder, NoMemory};
 use frame_header::Header;
 use std::alloc::Global;
@@ -123,21 +125,31 @@ fn next_split(
     }
 }
 
-/// Reads the records of a frame that has `columns` by `rows` macroblocks, each 1 to 1,024, as
-/// `read_modes` does: the facts of each of them, in raster order. `NoMemory` if memory for the
-/// records or for the facts is refused.
-pub fn read_record_facts(
+/// The records of a frame with their facts.
+#[derive(Drop)]
+struct RecordsWithFacts {
+    records: Records,
+    facts: Vec<RecordFacts>,
+    /// The number of bits that their reader has left.
+    left: u128,
+}
+
+/// The records of a frame of 1 to 1,024 macroblocks each way, which follow its header, with the facts of each; `map` is the segment
+/// map before it.
+fn read_records(
     alloc: Global,
     tables: &Tables,
     header: &Header,
     columns: usize,
     rows: usize,
     map: Option<&[u8]>,
-) -> Result<Vec<RecordFacts>, NoMemory>
+) -> Result<RecordsWithFacts, NoMemory>
     requires wide { (1 ≤ columns) × (columns ≤ 1024) }
     requires high { (1 ≤ rows) × (rows ≤ 1024) }
-    requires map { header.now.is_key ≡ false → IsSomeAnd (option_copied map) (λ before. length before ≡ columns * rows) }
-    ensures { IfOk result (λ facts. facts.items ≡ facts_of tables.now header.now columns rows (option_copied map.entry)) }
+    ensures records { IfOk result (λ read. read.records ≡ (first_modes (columns * rows) tables.now header.now columns rows (option_copied map.entry) header.now.reader).0) }
+    ensures left { IfOk result (λ read. read.left ≡ length (first_modes (columns * rows) tables.now header.now columns rows (option_copied map.entry) header.now.reader).1.rest) }
+    ensures count { IfOk result (λ read. length read.records ≡ columns * rows) }
+    ensures facts { IfOk result (λ read. read.facts.items ≡ facts_of tables.now header.now columns rows (option_copied map.entry)) }
 {
     let mut reader = header.reader.copied();
     let mut records = Records::with_capacity(alloc, columns * rows)?;
@@ -156,5 +168,36 @@ pub fn read_record_facts(
         facts.push(RecordFacts { bits, split })?;
         place = next_place(place);
     }
-    Ok(facts)
+    Ok(RecordsWithFacts {
+        records,
+        facts,
+        left: reader.left(),
+    })
+}
+
+/// Reads the modes of a frame that has `columns` by `rows` macroblocks, each 1 to 1,024, as `read_modes` does, and in the same pass the
+/// facts of each record, in raster order. `map` is the segment map before the frame; a key frame does not read it. `NoMemory` if memory
+/// for the records, the facts or the map is refused.
+pub fn read_modes_with_facts(
+    alloc: Global,
+    tables: &Tables,
+    header: &Header,
+    columns: usize,
+    rows: usize,
+    map: Option<&[u8]>,
+) -> Result<(Modes, Vec<RecordFacts>), NoMemory>
+    requires wide { (1 ≤ columns) × (columns ≤ 1024) }
+    requires high { (1 ≤ rows) × (rows ≤ 1024) }
+    requires map { header.now.is_key ≡ false → IsSomeAnd (option_copied map) (λ before. length before ≡ columns * rows) }
+    ensures modes { IfOk result (λ read. read.0 ≡ modes_of tables.now header.now columns rows (option_copied map.entry)) }
+    ensures segments { IfOk result (λ read. length read.0.segment_map ≡ columns * rows) }
+    ensures facts { IfOk result (λ read. read.1.items ≡ facts_of tables.now header.now columns rows (option_copied map.entry)) }
+{
+    let RecordsWithFacts {
+        records,
+        facts,
+        left,
+    } = read_records(alloc, tables, header, columns, rows, map)?;
+    let segment_map = map_after(alloc, header, columns * rows, map, &records)?;
+    Ok((Modes::new(records, segment_map, left), facts))
 }

@@ -28,7 +28,8 @@ use Rattle.reference_frames.specs.Unfiltered.{unfiltered}
 use Rattle.reference_frames.specs.declared.references.References.{References}
 use Rattle.reference_frames.specs.declared.states.State.{State}
 use Rattle.packet_forge.specs.Pairs.{zeros, zeros_at, byte_pairs, skip_pairs, blank_header, blank_macroblock, macroblock_pairs, blank_pairs}
-use Rattle.packet_forge.specs.Packets.{tag_bytes, key_start, blank_partition, blank_packet, forged, is_side}
+use Rattle.packet_forge.specs.Packets.{tag_bytes, key_start, blank_partition, blank_packet, forged}
+use Rattle.pixel_planes.specs.Pictures.{is_side}
 use Rattle.packet_forge.specs.Laws.{grey_picture, BlankIsGrey}
 use Rattle.packet_forge.specs.declared.faults.ForgeFault.{ForgeFault}
 use Rattle.packet_forge.specs.declared.faults.ForgeFault.TheVariants.{Size, TooLarge}

@@ -2,7 +2,7 @@
 use Rattle.std.specs.Prelude.{ℕ, ◌+◌, ◌*◌, ◌/◌, ◌%◌, nat_le, nat_lt, ◌&&◌, Bool, not, if◌then◌else◌, List, [], ◌∷◌, ◌++◌, length, Result, Ok, Err}
 use Rattle.bool_coder.specs.CodeText.{code_text}
 use Rattle.vp8_tables.specs.Tables.{TableEntries}
-use Rattle.pixel_planes.specs.Pictures.{macroblocks}
+use Rattle.pixel_planes.specs.Pictures.{is_side, macroblocks}
 use Rattle.packet_forge.specs.Pairs.{blank_pairs, hold_pairs}
 use Rattle.packet_forge.specs.declared.faults.ForgeFault.{ForgeFault}
 use Rattle.packet_forge.specs.declared.faults.ForgeFault.TheVariants.{Size, TooLarge}
@@ -35,10 +35,6 @@ abbrev pub hold_packet : TableEntries → ℕ → ℕ → List ℕ
 hold_packet tables width height =
     let first = hold_partition tables width height in
     tag_bytes 1 (length first) ++ first
-
--- a size that a key frame can have
-abbrev pub is_side : ℕ → Bool
-is_side side = nat_lt 0 side && nat_le side 16383
 
 -- a packet, unless its size is not one of a frame or its first partition has more bytes than its tag can give
 abbrev pub forged : ℕ → ℕ → List ℕ → List ℕ → Result (List ℕ) ForgeFault

@@ -1,35 +1,19 @@
 // Forged packets.
 ghost use Rattle.std.specs.Prelude.{◌≡◌, ◌<◌, ◌≤◌, ◌++◌, length, Ok, IfOk, IfErr, IsTrue};
-ghost use Rattle.pixel_planes.specs.Pictures.{macroblocks as macroblocks_of};
 ghost use Rattle.packet_forge.specs.Faults.{ForgeRefuses, PartitionRefuses};
-ghost use Rattle.packet_forge.specs.Packets.{blank_of, blank_partition, hold_of, hold_partition, is_side, key_start as key_start_of, tag_bytes};
+ghost use Rattle.packet_forge.specs.Packets.{blank_of, blank_partition, hold_of, hold_partition, key_start as key_start_of, tag_bytes};
 
 use crate::faults::ForgeFault;
 use crate::pairs::{
     write_blank_header, write_blank_macroblocks, write_hold_header, write_hold_macroblocks,
 };
 use bool_coder::{Encoder, NoMemory};
+use pixel_planes::{is_side, macroblocks};
 use std::alloc::Global;
 use vp8_tables::Tables;
 
 /// The most bytes of a first partition: its size has 19 bits.
 const MAX_PARTITION: usize = 524_287;
-
-/// Whether a frame can have this width or height.
-fn is_side(side: u16) -> bool
-    ensures { result ≡ is_side side }
-{
-    0 < side && side <= 16_383
-}
-
-/// The number of macroblocks that cover a width or height.
-fn macroblocks(side: u16) -> usize
-    requires { side ≤ 16383 }
-    ensures value { result ≡ macroblocks_of side }
-    ensures few { result ≤ 1024 }
-{
-    (usize::from(side) + 15) / 16
-}
 
 /// The first partition of a blank frame.
 #[tactic(auto, unfolding(crate::specs::Packets::blank_partition))]
@@ -122,7 +106,7 @@ pub fn blank(alloc: Global, tables: &Tables, width: u16, height: u16) -> Result<
     ensures bytes { IfOk result (λ packet. blank_of tables.now width height ≡ Ok packet.items) }
     ensures refused { IfErr result (ForgeRefuses (blank_of tables.now width height)) }
 {
-    if !is_side(width) || !is_side(height) {
+    if !is_side(u64::from(width)) || !is_side(u64::from(height)) {
         return Err(ForgeFault::Size);
     }
     let Ok(first) = write_blank(alloc, tables, width, height) else {
@@ -143,7 +127,7 @@ pub fn hold(alloc: Global, tables: &Tables, width: u16, height: u16) -> Result<V
     ensures bytes { IfOk result (λ packet. hold_of tables.now width height ≡ Ok packet.items) }
     ensures refused { IfErr result (ForgeRefuses (hold_of tables.now width height)) }
 {
-    if !is_side(width) || !is_side(height) {
+    if !is_side(u64::from(width)) || !is_side(u64::from(height)) {
         return Err(ForgeFault::Size);
     }
     let Ok(first) = write_hold(alloc, tables, width, height) else {

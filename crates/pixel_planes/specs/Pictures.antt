@@ -1,5 +1,5 @@
 -- The model of a picture: its shown size and its three planes.
-use Rattle.std.specs.Prelude.{◌≡◌, ℕ, zero, suc, ◌+◌, ◌*◌, ◌/◌, ◌<◌, ◌≤◌, List, [], ◌++◌, take}
+use Rattle.std.specs.Prelude.{◌≡◌, ℕ, zero, suc, ◌+◌, ◌*◌, ◌/◌, ◌<◌, ◌≤◌, ◌&&◌, nat_le, nat_lt, Bool, List, [], ◌++◌, take}
 use Rattle.pixel_planes.specs.Samples.{Samples, IsWhole, row_of}
 use Rattle.pixel_planes.specs.declared.pictures.Component.{Component}
 use Rattle.pixel_planes.specs.declared.pictures.Component.TheVariants.{Luma, Cb, Cr}
@@ -15,6 +15,10 @@ pub record PictureSamples : Type 0 where
 -- the side of a chroma plane that goes with a luma side: half of it, rounded up
 abbrev pub half_side : ℕ → ℕ
 half_side n = (n + 1) / 2
+
+-- whether a frame can have this width or height: each has 14 bits (RFC 6386, section 9.1)
+abbrev pub is_side : ℕ → Bool
+is_side side = nat_lt 0 side && nat_le side 16383
 
 -- the number of macroblocks of 16 samples that cover a shown side
 abbrev pub macroblocks : ℕ → ℕ

@@ -33,8 +33,9 @@ fn partition_of(row: usize, count: usize) -> usize
     }
 }
 
-/// The readers of the token partitions, each from its start.
-fn partition_readers<'a>(
+/// The readers of the token partitions of a packet, each from its start. `NoMemory` if memory for them
+/// is refused.
+pub fn partition_readers<'a>(
     alloc: Global,
     packet: &'a [u8],
     partitions: &[Place],

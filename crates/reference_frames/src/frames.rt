@@ -20,7 +20,7 @@ use crate::references::References;
 use frame_header::Header;
 use loop_filter::RowFilter;
 use mode_parser::{Modes, Records};
-use pixel_planes::{NoMemory, Picture, Planes};
+use pixel_planes::{NoMemory, Picture, Planes, macroblocks};
 use std::alloc::Global;
 
 /// The macroblocks of a frame in raster order: their records, for so many columns and rows.
@@ -102,16 +102,6 @@ fn decode_rows(
         }
     }
     Ok(())
-}
-
-/// How many macroblocks cover a shown side of at most 16,383 samples.
-pub(crate) fn macroblocks(side: u16) -> usize
-    requires { side ≤ 16383 }
-    ensures value { result ≡ macroblocks_of side }
-    ensures bound { result ≤ 1024 }
-    ensures some { 0 < side → 0 < result }
-{
-    usize::from(side).div_ceil(16)
 }
 
 /// The planes of a frame before its first macroblock is predicted, and its shown size. The planes of

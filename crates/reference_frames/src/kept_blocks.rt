@@ -24,7 +24,7 @@ use transforms::{
 
 /// Whether a macroblock has a block Y2, of the first coefficients of its luma (RFC 6386, section 13).
 #[inline]
-fn has_y2(mode: YMode) -> bool
+pub fn has_y2(mode: YMode) -> bool
     ensures { result ≡ has_y2_of mode }
 {
     match mode {

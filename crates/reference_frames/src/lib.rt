@@ -16,6 +16,8 @@ mod states;
 mod step_fault;
 mod steps;
 
+pub use frame_tokens::partition_readers;
+pub use kept_blocks::has_y2;
 pub use references::References;
 pub use states::{State, same_state};
 pub use step_fault::StepFault;

@@ -5,13 +5,13 @@ ghost use Rattle.reference_frames.specs.States.{HasMap, HaveOneSize};
 ghost use Rattle.reference_frames.specs.Unfiltered.{empty_planes};
 ghost use Rattle.pixel_planes.specs.PlaneSamples.{AreWhole, shown_of};
 
-use crate::frames::{Blank, decoded_picture, macroblocks};
+use crate::frames::{Blank, decoded_picture};
 use crate::references::References;
 use crate::states::State;
 use crate::step_fault::StepFault;
 use frame_header::{Cause, Header, read_header};
 use mode_parser::read_modes;
-use pixel_planes::{NoMemory, Picture, Planes, Recycled};
+use pixel_planes::{NoMemory, Picture, Planes, Recycled, macroblocks};
 use std::alloc::Global;
 use vp8_tables::Tables;
 

@@ -109,10 +109,6 @@ is_number n = nat_lt n (2 ^ 32)
 abbrev pub is_place : ℕ → Bool
 is_place n = is_number n && n % 2 == 0
 
--- whether a number is the width or height of a picture
-abbrev pub is_side : ℕ → Bool
-is_side n = nat_lt 0 n && nat_le n 16383
-
 -- whether a number is a weight in 256ths
 abbrev pub is_weight : ℕ → Bool
 is_weight n = nat_le n 256

@@ -1,13 +1,12 @@
 ghost use Rattle.std.specs.Prelude.{◌≡◌, ℕ, ◌≤◌, true, length, slice_index};
-ghost use Rattle.script_nodes.specs.Nodes.{uses_below, has_source, has_numbers, is_place, is_side, is_area, is_ramp};
+ghost use Rattle.script_nodes.specs.Nodes.{uses_below, has_source, has_numbers, is_place, is_area, is_ramp};
 ghost use Rattle.script_nodes.specs.Lengths.{node_length};
 ghost use Rattle.script_nodes.specs.Frames.{weight_at};
 
+use pixel_planes::is_side;
+
 /// The largest number in a script.
 const MOST_NUMBER: u64 = 4_294_967_295;
-
-/// The largest width or height of a picture.
-const MOST_SIDE: u64 = 16_383;
 
 /// The weight of a picture that is not faded.
 pub(crate) const WHOLE: u64 = 256;
@@ -97,12 +96,6 @@ fn is_place(n: u64) -> bool
     ensures { result ≡ is_place n }
 {
     n <= MOST_NUMBER && n % 2 == 0
-}
-
-fn is_side(n: u64) -> bool
-    ensures { result ≡ is_side n }
-{
-    0 < n && n <= MOST_SIDE
 }
 
 impl Ramp {

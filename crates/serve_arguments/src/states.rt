@@ -1,7 +1,6 @@
 // What a cached picture takes.
 ghost use Rattle.std.specs.Prelude.{◌≡◌, ◌<◌, ◌≤◌, ◌^◌, IfErr, IfOk, OnOk};
 ghost use Rattle.std.specs.Io.KnownBytes.{Appends};
-ghost use Rattle.pixel_planes.specs.Pictures.{macroblocks};
 ghost use Rattle.stream_files.specs.Ivf.{IsIvf};
 ghost use Rattle.stream_files.specs.declared.ivf.Ivf.{Ivf};
 ghost use Rattle.stream_facts.specs.Facts.{first_key_size};
@@ -10,6 +9,7 @@ ghost use Rattle.state_cache.specs.Bytes.{plane_bytes};
 
 use crate::capacities::Capacity;
 use crate::fault::Fault;
+use pixel_planes::macroblocks;
 use std::alloc::Global;
 use std::io::{self, ErrorKind, Write};
 use stream_facts::first_key_size;
@@ -37,20 +37,12 @@ fn planes_bytes(columns: u64, rows: u64) -> u64
     plane_bytes(16 * columns, 16 * rows) + 2 * plane_bytes(8 * columns, 8 * rows)
 }
 
-/// The number of macroblocks that cover a shown side.
-fn macroblocks(side: u16) -> u64
-    ensures value { result ≡ macroblocks side }
-    ensures few { result ≤ 4096 }
-{
-    (u64::from(side) + 15) / 16
-}
-
 /// The bytes of a picture of this shown width and height: three planes of whole macroblocks, each with a border of 32 samples.
 fn picture_bytes(size: (u16, u16)) -> u64
     ensures value { result ≡ picture_bytes size }
     ensures some { 0 < result }
 {
-    planes_bytes(macroblocks(size.0), macroblocks(size.1))
+    planes_bytes(macroblocks(size.0) as u64, macroblocks(size.1) as u64)
 }
 
 /// The size of the first key packet of a file that has one. `None` too if the bytes are not an IVF file; `NoMemory`.

@@ -126,6 +126,14 @@ impl Tables {
         &self.updates
     }
 
+    /// All key frame sub mode probabilities in index order: mode above by mode to the left by node
+    /// (RFC 6386, section 11.5).
+    pub fn key_subs(&self) -> &[u8; 900]
+        ensures { result.now ≡ self.now.key_subs }
+    {
+        &self.key_subs
+    }
+
     /// The 9 probabilities of the sub mode tree in a key frame, one for each node: `above` and
     /// `left`, the modes there, below 10 (RFC 6386, section 11.5).
     #[inline]

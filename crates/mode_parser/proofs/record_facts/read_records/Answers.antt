@@ -2,7 +2,7 @@ use Rattle.std.proofs.Common.{ap, arith, refl, length, ◌∙◌}
 use Rattle.mode_parser.proofs.Steps.{first_modes-none, first_modes-more, one_more-length}
 use Rattle.mode_parser.proofs.PlaceLemmas.{place-start}
 use Rattle.mode_parser.proofs.FactLemmas.{facts-more}
-use Rattle.mode_parser.proofs.record_facts.read_record_facts.Goals as goal
+use Rattle.mode_parser.proofs.record_facts.read_records.Goals as goal
 
 pub loop-number-init : goal.loop-number-init
 loop-number-init c = record {

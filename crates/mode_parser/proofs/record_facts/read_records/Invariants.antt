@@ -3,7 +3,7 @@ use Rattle.std.specs.List.{range_with_len}
 use Rattle.std.specs.Option.{option_copied}
 use Rattle.mode_parser.specs.FrameModes.{place_of, first_modes}
 use Rattle.mode_parser.specs.RecordFacts.{facts_at}
-use Rattle.mode_parser.proofs.record_facts.read_record_facts.Given as goal
+use Rattle.mode_parser.proofs.record_facts.read_records.Given as goal
 
 abbrev pub invariant-loop-number : goal.invariant-loop-number
 invariant-loop-number l = record {
