@@ -7,3 +7,14 @@ pub mod MarkedPartitions
 pub mod Loops
 pub mod PacketLemmas
 pub mod Progress
+pub mod Gives
+pub mod FirstChains
+pub mod CountedEnds
+pub mod FirstRead
+pub mod ContextBytes
+pub mod TokenChains
+pub mod PlacesInside
+pub mod TokenEnds
+pub mod KeyEnds
+pub mod ModeBits
+pub mod TokenBits

@@ -15,3 +15,8 @@ pub mod FilterLaws
 pub mod Fronts
 pub mod Frames
 pub mod Texts
+pub mod ChainEnds
+pub mod FirstChains
+pub mod TokenChains
+pub mod ModeBits
+pub mod TokenBits

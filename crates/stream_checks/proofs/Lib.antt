@@ -8,14 +8,3 @@ mod HashAligned
 mod HashHeads
 mod HashLengths
 mod HashTexts
-pub mod Gives
-pub mod FirstChains
-pub mod CountedEnds
-pub mod FirstRead
-pub mod ContextBytes
-pub mod TokenChains
-pub mod PlacesInside
-pub mod TokenEnds
-pub mod KeyEnds
-pub mod ModeBits
-pub mod TokenBits

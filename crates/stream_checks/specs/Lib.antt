@@ -14,8 +14,3 @@ pub mod HashLines
 pub mod Frames
 pub mod TimeBases
 pub mod Hashes
-pub mod ChainEnds
-pub mod FirstChains
-pub mod TokenChains
-pub mod ModeBits
-pub mod TokenBits

@@ -2,7 +2,8 @@ use bool_coder::Encoder;
 use frame_header::{Header, Reference, read_header};
 use intra_predict::{SubMode, WholeMode};
 use mode_parser::{
-    MbMode, Records, Split, Vector, VectorMode, YMode, chroma_vector, read_modes, read_modes_with_facts,
+    MbMode, Records, Split, Vector, VectorMode, YMode, chroma_vector, read_modes,
+    read_modes_with_facts,
 };
 use std::alloc::{AllocError, Global};
 use std::process::Abort;
@@ -171,8 +172,7 @@ fn expect_splits<R: Abort>(
     assert!(rt; 1 <= rows && columns * rows <= 16);
     let map = [3; 16];
     let map = &map[..columns * rows];
-    let (modes, facts) =
-        read_modes_with_facts(alloc, &tables, &header, columns, rows, Some(map))?;
+    let (modes, facts) = read_modes_with_facts(alloc, &tables, &header, columns, rows, Some(map))?;
     let alone = read_modes(alloc, &tables, &header, columns, rows, Some(map))?;
     assert_eq!(rt; modes.segment_map(), alone.segment_map());
     assert_eq!(rt; modes.left(), alone.left());

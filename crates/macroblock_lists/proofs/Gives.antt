@@ -16,7 +16,7 @@ use Rattle.frame_header.specs.Fields.{adjustment, colors, fields, filter, map_pr
 use Rattle.frame_header.specs.InterFields.{reference_probabilities, no_reference_probabilities, y_modes, uv_modes, vector_probability, vectors, inter_fields}
 use Rattle.frame_header.specs.TrailingFields.{after_skip, quantizers, skip_probability, trailing_fields, updated}
 use Rattle.frame_header.specs.References.{refreshes}
-use Rattle.stream_checks.specs.FirstChains.{AreBytes}
+use Rattle.macroblock_lists.specs.FirstChains.{AreBytes}
 use Rattle.frame_header.specs.Updates.{first_updated}
 
 -- each value that a reading returns has this property

@@ -17,8 +17,8 @@ use Rattle.frame_header.specs.Header.{header_in}
 use Rattle.frame_header.specs.TrailingFields.{trailing_fields}
 use Rattle.mode_parser.specs.Chains.{AreRows, FramesAreChains, HaveProbabilities, IsProbability}
 use Rattle.macroblock_lists.specs.Known.{Known}
-use Rattle.stream_checks.specs.FirstChains.{AreBytes, FirstIsChain, columns_of, context_in, header_reading, records_reading, rows_of}
-use Rattle.stream_checks.proofs.Gives.{Gives, fields-bytes, gives-give, gives-next, trailing-bytes}
+use Rattle.macroblock_lists.specs.FirstChains.{AreBytes, FirstIsChain, columns_of, context_in, header_reading, records_reading, rows_of}
+use Rattle.macroblock_lists.proofs.Gives.{Gives, fields-bytes, gives-give, gives-next, trailing-bytes}
 
 -- readings that return the same
 pub same-chain : {A : Type 0} {one other : Reading A} → ((r : Reader) → other r ≡ one r) → IsChain one → IsChain other

@@ -21,7 +21,7 @@ use Rattle.pixel_planes.specs.Pictures.{macroblocks}
 use Rattle.macroblock_lists.specs.PartitionEnds.{zeros_for}
 use Rattle.macroblock_lists.specs.Known.{frame_modes, height_of, known_before, width_of}
 use Rattle.macroblock_lists.specs.Known.{Known}
-use Rattle.stream_checks.specs.ChainEnds.{end_by, text_of}
+use Rattle.macroblock_lists.specs.ChainEnds.{end_by, text_of}
 use Rattle.macroblock_lists.specs.PartitionEnds.{ends_before}
 
 -- the header of a frame after this context: its fields in order (RFC 6386, sections 9.2 to 9.11 and 19.2). What a header has from

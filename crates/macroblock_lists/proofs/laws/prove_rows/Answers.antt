@@ -2,7 +2,7 @@ use Rattle.std.proofs.Common.{◌≡◌, ℕ, zero, suc, List, [], length, get_o
 use Rattle.std.proofs.lemmas.List.{get_or_past}
 use Rattle.bool_coder.specs.Chains.{AreProbabilities}
 use Rattle.mode_parser.specs.Chains.{AreRows}
-use Rattle.stream_checks.proofs.laws.prove_rows.Goals as goal
+use Rattle.macroblock_lists.proofs.laws.prove_rows.Goals as goal
 
 none : AreProbabilities []
 none k = omega arith

@@ -12,8 +12,8 @@ use Rattle.mode_parser.specs.declared.records.MbMode.{MbMode}
 use Rattle.token_parser.specs.Blocks.{macroblock, skipped}
 use Rattle.token_parser.specs.declared.tokens.Tokens.{Tokens}
 use Rattle.reference_frames.specs.FrameTokens.{TokenState, flags_at, has_y2, partition_of, state_after, state_with, token_state, tokens_at}
-use Rattle.stream_checks.specs.TokenChains.{TokensAreChains, TokensAreReadSo, reader_in, token_reading, with_reader, without_reader}
-use Rattle.stream_checks.proofs.FirstChains.{same-chain}
+use Rattle.macroblock_lists.specs.TokenChains.{TokensAreChains, TokensAreReadSo, reader_in, token_reading, with_reader, without_reader}
+use Rattle.macroblock_lists.proofs.FirstChains.{same-chain}
 
 -- the tokens of one macroblock, as a reading of its row's partition
 abbrev pub mode_tokens : List ℕ → Tokens → MbMode → Reading Tokens

@@ -18,14 +18,14 @@ use Rattle.macroblock_lists.specs.declared.partition_ends.PartitionEnd.{Partitio
 use Rattle.macroblock_lists.specs.Known.{Known}
 use Rattle.macroblock_lists.specs.Known.{frame_modes, known_before}
 use Rattle.vp8_tables.specs.Tables.{TableEntries}
-use Rattle.stream_checks.specs.ChainEnds.{end_by, text_of}
-use Rattle.stream_checks.specs.FirstChains.{columns_of, context_in, zeros_of}
-use Rattle.stream_checks.specs.TokenChains.{OthersEnd, TokenEndsAreOfChains, TokensAreChains, reader_in, token_reading, with_reader, without_reader}
-use Rattle.stream_checks.proofs.KeyEnds.{ends_after_state}
-use Rattle.stream_checks.proofs.CountedEnds.{end-counted}
-use Rattle.stream_checks.proofs.FirstRead.{length-text, same_or_none}
-use Rattle.stream_checks.proofs.PlacesInside.{AreInside, places_inside}
-use Rattle.stream_checks.proofs.TokenChains.{tokens_are_read_so}
+use Rattle.macroblock_lists.specs.ChainEnds.{end_by, text_of}
+use Rattle.macroblock_lists.specs.FirstChains.{columns_of, context_in, zeros_of}
+use Rattle.macroblock_lists.specs.TokenChains.{OthersEnd, TokenEndsAreOfChains, TokensAreChains, reader_in, token_reading, with_reader, without_reader}
+use Rattle.macroblock_lists.proofs.KeyEnds.{ends_after_state}
+use Rattle.macroblock_lists.proofs.CountedEnds.{end-counted}
+use Rattle.macroblock_lists.proofs.FirstRead.{length-text, same_or_none}
+use Rattle.macroblock_lists.proofs.PlacesInside.{AreInside, places_inside}
+use Rattle.macroblock_lists.proofs.TokenChains.{tokens_are_read_so}
 
 -- another text in a partition in which bits are left changes no other reader
 exchanged : (header : Header) (columns : ℕ) (modes : List MbMode) (n : ℕ) (state : TokenState) (j blanks : ℕ) (text : List ℕ) → TokensAreChains header → j < length state.readers

@@ -1,8 +1,8 @@
-use Rattle.stream_checks.specs.TokenChains.{TokensAreChains}
-use Rattle.stream_checks.proofs.TokenChains.{token-chain, tokens_are_read_so}
-use Rattle.stream_checks.proofs.TokenBits.{token_bits_are_of_chains}
-use Rattle.stream_checks.proofs.TokenEnds.{token_ends_are_of_chains}
-use Rattle.stream_checks.proofs.laws.token_partitions_are_chains.Goals as goal
+use Rattle.macroblock_lists.specs.TokenChains.{TokensAreChains}
+use Rattle.macroblock_lists.proofs.TokenChains.{token-chain, tokens_are_read_so}
+use Rattle.macroblock_lists.proofs.TokenBits.{token_bits_are_of_chains}
+use Rattle.macroblock_lists.proofs.TokenEnds.{token_ends_are_of_chains}
+use Rattle.macroblock_lists.proofs.laws.token_partitions_are_chains.Goals as goal
 
 pub returns : goal.returns
 returns c =

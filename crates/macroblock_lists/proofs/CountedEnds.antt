@@ -9,7 +9,7 @@ use Rattle.bool_coder.specs.Reading.{Reading}
 use Rattle.bool_coder.specs.Taken.{marked, taken_from}
 use Rattle.bool_coder.proofs.Marks.{marks-left}
 use Rattle.macroblock_lists.specs.PartitionEnds.{end_of}
-use Rattle.stream_checks.specs.ChainEnds.{end_by}
+use Rattle.macroblock_lists.specs.ChainEnds.{end_by}
 
 -- by numbers alone
 past-same : (taken blanks size : ℕ) → 8 ≤ taken

@@ -12,8 +12,8 @@ use Rattle.macroblock_lists.specs.PartitionEnds.{no_end, no_place}
 use Rattle.macroblock_lists.specs.Known.{frame_modes, known_before}
 use Rattle.macroblock_lists.specs.declared.partition_ends.PartitionEnd.{PartitionEnd}
 use Rattle.macroblock_lists.specs.Known.{Known}
-use Rattle.stream_checks.specs.ChainEnds.{end_by, text_of}
-use Rattle.stream_checks.specs.FirstChains.{columns_of, context_in, zeros_of}
+use Rattle.macroblock_lists.specs.ChainEnds.{end_by, text_of}
+use Rattle.macroblock_lists.specs.FirstChains.{columns_of, context_in, zeros_of}
 use Rattle.macroblock_lists.specs.PartitionEnds.{ends_before}
 
 -- a state between macroblocks with another reader of token partition k, and with none

@@ -15,12 +15,12 @@ use Rattle.macroblock_lists.specs.Macroblocks.{bits_at}
 use Rattle.macroblock_lists.specs.PartitionEnds.{marked_start, marked_text, no_place}
 use Rattle.macroblock_lists.specs.Known.{Known}
 use Rattle.vp8_tables.specs.Tables.{TableEntries}
-use Rattle.stream_checks.specs.ChainEnds.{text_of}
-use Rattle.stream_checks.specs.FirstChains.{columns_of, zeros_of}
-use Rattle.stream_checks.specs.TokenBits.{TokenBitsAreOfChains, records_of}
-use Rattle.stream_checks.specs.TokenChains.{TokensAreChains, reader_in, token_reading, with_reader}
-use Rattle.stream_checks.proofs.TokenChains.{length-kept}
-use Rattle.stream_checks.proofs.TokenEnds.{mixed-all, mixed-first}
+use Rattle.macroblock_lists.specs.ChainEnds.{text_of}
+use Rattle.macroblock_lists.specs.FirstChains.{columns_of, zeros_of}
+use Rattle.macroblock_lists.specs.TokenBits.{TokenBitsAreOfChains, records_of}
+use Rattle.macroblock_lists.specs.TokenChains.{TokensAreChains, reader_in, token_reading, with_reader}
+use Rattle.macroblock_lists.proofs.TokenChains.{length-kept}
+use Rattle.macroblock_lists.proofs.TokenEnds.{mixed-all, mixed-first}
 
 -- the bits that are left of a marked partition after n macroblocks, by the chain over its own text
 left-by-chain : (header : Header) (columns : ℕ) (modes : List MbMode) (n blanks : ℕ) (packet : List ℕ) (k : ℕ) → TokensAreChains header → k < length header.partitions.items

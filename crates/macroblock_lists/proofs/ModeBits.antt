@@ -21,12 +21,12 @@ use Rattle.pixel_planes.specs.Pictures.{macroblocks}
 use Rattle.macroblock_lists.specs.Known.{Known, height_of, known_before, width_of}
 use Rattle.macroblock_lists.specs.PartitionEnds.{marked_text}
 use Rattle.macroblock_lists.specs.Records.{combined, facts_in, frame_facts, marked_facts, no_facts, own_facts}
-use Rattle.stream_checks.specs.ChainEnds.{text_of}
-use Rattle.stream_checks.specs.FirstChains.{AreBytes, columns_of, context_in, rows_of, zeros_of}
-use Rattle.stream_checks.specs.ModeBits.{ModeBitsAreOfChains, RecordsAreChains, frame_records}
-use Rattle.stream_checks.proofs.FirstChains.{records_reading-chain}
-use Rattle.stream_checks.proofs.FirstRead.{AreChains, first-known}
-use Rattle.stream_checks.proofs.KeyEnds.{begun-key, first-key, none-before}
+use Rattle.macroblock_lists.specs.ChainEnds.{text_of}
+use Rattle.macroblock_lists.specs.FirstChains.{AreBytes, columns_of, context_in, rows_of, zeros_of}
+use Rattle.macroblock_lists.specs.ModeBits.{ModeBitsAreOfChains, RecordsAreChains, frame_records}
+use Rattle.macroblock_lists.proofs.FirstChains.{records_reading-chain}
+use Rattle.macroblock_lists.proofs.FirstRead.{AreChains, first-known}
+use Rattle.macroblock_lists.proofs.KeyEnds.{begun-key, first-key, none-before}
 
 pub records_are_chains : (tables : TableEntries) (known : Option Known) → AreChains tables → ((packet : List ℕ) → AreBytes (first_context tables (has_key_tag packet) (context_in known)).probabilities) → RecordsAreChains tables known
 records_are_chains tables known chains bytes packet header n =

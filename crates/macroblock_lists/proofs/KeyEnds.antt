@@ -17,7 +17,7 @@ use Rattle.macroblock_lists.specs.Known.{known_before}
 use Rattle.macroblock_lists.specs.declared.partition_ends.PartitionEnd.{PartitionEnd}
 use Rattle.macroblock_lists.specs.declared.partition_ends.PartitionEnds.{PartitionEnds}
 use Rattle.macroblock_lists.specs.Known.{Known}
-use Rattle.stream_checks.specs.FirstChains.{context_in}
+use Rattle.macroblock_lists.specs.FirstChains.{context_in}
 use Rattle.macroblock_lists.specs.PartitionEnds.{ends_before}
 
 start-by : (before : Option Context) (packet : List ℕ) (tag : _) → tag_of packet ≡ tag → option_map_or (λ t. t.key) tag false ≡ true

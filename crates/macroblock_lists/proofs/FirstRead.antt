@@ -36,12 +36,12 @@ use Rattle.macroblock_lists.specs.Records.{facts_by, facts_in, facts_over, no_fa
 use Rattle.mode_parser.specs.declared.record_facts.RecordFacts.{RecordFacts}
 use Rattle.mode_parser.specs.RecordFacts.{facts_at, left_after}
 use Rattle.std.proofs.lemmas.List.FromFn.{get_or-map-range_with_len}
-use Rattle.stream_checks.specs.ModeBits.{frame_records}
-use Rattle.stream_checks.specs.ChainEnds.{text_of}
-use Rattle.stream_checks.specs.FirstChains.{AreBytes, FirstEndIsOfChain, FirstIsReadSo, context_in, first_reading, header_reading, packet_reading, records_reading, zeros_of}
-use Rattle.stream_checks.proofs.FirstChains.{header-gives}
-use Rattle.stream_checks.proofs.KeyEnds.{ends_after_state}
-use Rattle.stream_checks.proofs.CountedEnds.{chain-none, end-counted}
+use Rattle.macroblock_lists.specs.ModeBits.{frame_records}
+use Rattle.macroblock_lists.specs.ChainEnds.{text_of}
+use Rattle.macroblock_lists.specs.FirstChains.{AreBytes, FirstEndIsOfChain, FirstIsReadSo, context_in, first_reading, header_reading, packet_reading, records_reading, zeros_of}
+use Rattle.macroblock_lists.proofs.FirstChains.{header-gives}
+use Rattle.macroblock_lists.proofs.KeyEnds.{ends_after_state}
+use Rattle.macroblock_lists.proofs.CountedEnds.{chain-none, end-counted}
 
 -- the records do not depend on the token partitions, nor on the reader in the header
 pub modes-alike : (n : ℕ) (tables : TableEntries) (header : Header) (partitions : ArrayVec Place) (reader : Reader) (columns rows : ℕ) (map : Option (List ℕ))

@@ -2,12 +2,12 @@ use Rattle.std.specs.Prelude.{ℕ, List}
 use Rattle.std.specs.Option.{option_copied}
 use Rattle.frame_header.specs.Contexts.{first_context}
 use Rattle.frame_header.specs.Tags.{has_key_tag}
-use Rattle.stream_checks.specs.FirstChains.{AreBytes, context_in}
-use Rattle.stream_checks.proofs.ContextBytes.{first_bytes}
-use Rattle.stream_checks.proofs.FirstChains.{first_is_chain}
-use Rattle.stream_checks.proofs.FirstRead.{AreChains, first_is_read_so, first_end_is_of_chain}
-use Rattle.stream_checks.proofs.ModeBits.{mode_bits_are_of_chains, records_are_chains}
-use Rattle.stream_checks.proofs.laws.first_partitions_are_chains.Goals as goal
+use Rattle.macroblock_lists.specs.FirstChains.{AreBytes, context_in}
+use Rattle.macroblock_lists.proofs.ContextBytes.{first_bytes}
+use Rattle.macroblock_lists.proofs.FirstChains.{first_is_chain}
+use Rattle.macroblock_lists.proofs.FirstRead.{AreChains, first_is_read_so, first_end_is_of_chain}
+use Rattle.macroblock_lists.proofs.ModeBits.{mode_bits_are_of_chains, records_are_chains}
+use Rattle.macroblock_lists.proofs.laws.first_partitions_are_chains.Goals as goal
 
 pub returns : goal.returns
 returns c =
@@ -15,7 +15,7 @@ returns c =
       first = c.headers_are_chains.ensures.first;
       trailing = rw c.updates.ensures at c.headers_are_chains.ensures.trailing;
       frames = c.records_are_chains.ensures.all;
-      key_subs = c.requires.bytes;
+      key_subs = rw c.key_subs.ensures at c.prove_bytes.ensures;
       own = c.headers_are_over_their_own.ensures;
     } in
     let bytes : (packet : List ℕ) → AreBytes (first_context c.args.tables.now (has_key_tag packet) (context_in (option_copied c.args.known))).probabilities =

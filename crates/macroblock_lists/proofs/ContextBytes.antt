@@ -8,7 +8,7 @@ use Rattle.vp8_tables.specs.declared.vectors.TheConstants.{DEFAULT_VECTOR_PROBAB
 use Rattle.frame_header.specs.Contexts.{default_probabilities, first_context}
 use Rattle.mode_parser.specs.Chains.{AreRows}
 use Rattle.macroblock_lists.specs.Known.{Known}
-use Rattle.stream_checks.specs.FirstChains.{AreBytes, context_in}
+use Rattle.macroblock_lists.specs.FirstChains.{AreBytes, context_in}
 
 default_rows : AreRows DEFAULT_VECTOR_PROBABILITIES
 unfolding are_bytes

@@ -17,8 +17,8 @@ use Rattle.pixel_planes.specs.Pictures.{macroblocks}
 use Rattle.macroblock_lists.specs.Known.{Known, height_of, known_before, width_of}
 use Rattle.macroblock_lists.specs.PartitionEnds.{marked_text}
 use Rattle.macroblock_lists.specs.Records.{facts_in, frame_facts}
-use Rattle.stream_checks.specs.ChainEnds.{text_of}
-use Rattle.stream_checks.specs.FirstChains.{columns_of, context_in, records_reading, rows_of, zeros_of}
+use Rattle.macroblock_lists.specs.ChainEnds.{text_of}
+use Rattle.macroblock_lists.specs.FirstChains.{columns_of, context_in, records_reading, rows_of, zeros_of}
 
 -- what decoding reads of a first partition, of a frame with this header, up to the record of macroblock n: before it, and after it with n + 1
 abbrev pub frame_records : TableEntries → Header → Context → Option Known → ℕ → Reading (Header × List MbMode)

@@ -12,9 +12,9 @@ use Rattle.reference_frames.specs.FrameTokens.{TokenState, token_state, tokens_s
 use Rattle.macroblock_lists.specs.Macroblocks.{macroblock_of}
 use Rattle.macroblock_lists.specs.PartitionEnds.{marked_start, no_place}
 use Rattle.macroblock_lists.specs.Known.{Known, frame_modes, known_before}
-use Rattle.stream_checks.specs.ChainEnds.{text_of}
-use Rattle.stream_checks.specs.FirstChains.{columns_of, context_in, zeros_of}
-use Rattle.stream_checks.specs.TokenChains.{reader_in, token_reading}
+use Rattle.macroblock_lists.specs.ChainEnds.{text_of}
+use Rattle.macroblock_lists.specs.FirstChains.{columns_of, context_in, zeros_of}
+use Rattle.macroblock_lists.specs.TokenChains.{reader_in, token_reading}
 
 -- the records of the frame of a packet, and what decoding reads of its token partition k for the first n of them: `packet_tokens` for all
 abbrev pub records_of : TableEntries → Option Known → List ℕ → Header → List MbMode
