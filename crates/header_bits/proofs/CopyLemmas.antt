@@ -2,7 +2,7 @@
 use Rattle.std.proofs.Common.{◌≡◌, ℕ, ◌+◌, ◌-◌, Bool, true, false, List, length, nat_lt, Option, if◌then◌else◌, refl}
 use Rattle.vp8_tables.specs.Tables.{TableEntries}
 use Rattle.bool_coder.specs.Reader.{Reader, started}
-use Rattle.bool_coder.specs.Reading.{flag}
+use Rattle.bool_coder.specs.Reading.{flag, literal, more_bits}
 use Rattle.frame_header.specs.Contexts.{first_context}
 use Rattle.frame_header.specs.Fields.{fields}
 use Rattle.frame_header.specs.Header.{first_end, header_of}
@@ -15,8 +15,8 @@ use Rattle.frame_header.specs.declared.context.Context.{Context}
 use Rattle.frame_header.specs.declared.context.SignBiases.{SignBiases}
 use Rattle.frame_header.specs.declared.header.Header.{Header}
 use Rattle.frame_header.proofs.KeyLemmas.{IfOk-then, IfOk-following}
-use Rattle.header_bits.specs.Bits.{first_text}
-use Rattle.header_bits.specs.Copies.{AreNamed, CopiesAreNamed, altref_source, copies_in, copy_number, copy_numbers, golden_source, inter_copies, no_copies}
+use Rattle.header_bits.specs.Bits.{first_bits, first_text, quantizer_bits, reference_bits, skip}
+use Rattle.header_bits.specs.Copies.{AreNamed, CopiesAreNamed, altref_source, copies_in, copy_number, copy_numbers, golden_source, inter_copies, no_copies, reference_copies}
 use Rattle.header_bits.proofs.GroupLemmas.{fields-ends, quantizers-ends}
 use Rattle.header_bits.proofs.PacketLemmas.{end_known, start_known}
 
@@ -71,3 +71,22 @@ copies_are_named tables before packet =
     IfOk-following _ P (start_of before packet) _ (start_known before packet)
     (λ start known. IfOk-following (λ (e : ℕ). e ≡ start.place + start.tag.first_partition) P (first_end start packet) _ (end_known packet (nat_lt (length packet - start.place) start.tag.first_partition) _)
     (λ end is. IfOk-then P (token_ranges packet end _) _ (λ partitions. rw is (named_there tables before packet start.tag.key _ known.0 known.1))))
+
+-- the numbers that are read on the way through the fields before them, and where the fields of references end
+number-ends : (is_refreshed : Bool) (s : Reader) → (copy_number is_refreshed s).1 ≡ (skip (if is_refreshed then 0 else 2) s).1
+unfolding copy_number literal more_bits skip
+number-ends true s = refl
+number-ends false s = refl
+
+pub references-end : (s : Reader) → (skip 4 (inter_copies s).1).1 ≡ (reference_bits false s).1
+unfolding inter_copies reference_bits
+references-end s =
+    let golden : Bool = (flag s).0 in
+    let altref : Bool = (flag (flag s).1).0 in
+    let after : Reader = (flag (flag s).1).1 in
+    rw (number-ends golden after, number-ends altref (skip (if golden then 0 else 2) after).1) refl
+
+pub copies-at : (is_key : Bool) (s one two : Reader) (first : _) (indexes : _) → first_bits is_key s ≡ (first, one) → quantizer_bits one ≡ (indexes, two) → (copies_in is_key s).0 ≡ reference_copies is_key two
+unfolding copies_in
+copies-at true s one two first indexes a b = refl
+copies-at false s one two first indexes a b = rw (a, b) refl

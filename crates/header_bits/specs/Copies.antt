@@ -1,7 +1,7 @@
 -- The numbers of copy_buffer_to_golden and copy_buffer_to_arf as they are coded (RFC 6386, sections 9.7 and 19.2).
 use Rattle.std.specs.Prelude.{◌≡◌, ℕ, Bool, ◌==◌, if◌then◌else◌, List, Option, Some, None, IfOk}
 use Rattle.vp8_tables.specs.Tables.{TableEntries}
-use Rattle.bool_coder.specs.Reader.{started}
+use Rattle.bool_coder.specs.Reader.{Reader, started}
 use Rattle.bool_coder.specs.Reading.{Reading, ◌>>=◌, give, flag, literal}
 use Rattle.frame_header.specs.Header.{header_of}
 use Rattle.frame_header.specs.Tags.{has_key_tag}
@@ -28,6 +28,10 @@ inter_copies = do
 -- a key frame has none
 abbrev pub no_copies : CopyNumbers
 no_copies = record { golden = 0; altref = 0 }
+
+-- at the first field of references
+abbrev pub reference_copies : Bool → Reader → CopyNumbers
+reference_copies is_key reader = if is_key then no_copies else (inter_copies reader).0
 
 -- after the fields before them
 unfoldable pub copies_in : Bool → Reading CopyNumbers

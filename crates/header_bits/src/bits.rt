@@ -1,8 +1,10 @@
 //! The optional fields of a header.
 
 ghost use Rattle.std.specs.Prelude.{◌≡◌, ◌≤◌};
+ghost use Rattle.header_bits.specs.Copies.{copies_in, copy_numbers, reference_copies};
 ghost use Rattle.header_bits.specs.Bits.{all_bits, data_bits, delta_bits, delta_update_bits, first_bits, first_text, header_bits, inter_bits, map_bits, no_delta_bits, no_inter_bits, no_segment_bits, quantizer_bits, reference_bits, segment_bits, segment_update_bits};
 
+use crate::copies::{CopyNumbers, read_inter_copies};
 use crate::reading::{
     four_optional, read_component, read_optional, read_updates, skip, three_optional,
 };
@@ -167,18 +169,19 @@ pub(crate) fn read_quantizers(reader: &mut Decoder) -> [u8; 5]
     [first, rest[0], rest[1], rest[2], rest[3]]
 }
 
+/// Reads the fields of references, and returns the numbers of the copies.
 #[tactic(auto, unfolding(crate::specs::Bits::reference_bits))]
-fn read_references(reader: &mut Decoder, is_key: bool) -> u32
-    ensures { reference_bits is_key reader.old ≡ (result, reader.new) }
+fn read_references(reader: &mut Decoder, is_key: bool) -> CopyNumbers
+    ensures after { reader.new ≡ (reference_bits is_key reader.old).1 }
+    ensures copies { result ≡ reference_copies is_key reader.old }
 {
     if is_key {
-        return skip(reader, 1);
+        skip(reader, 1);
+        return CopyNumbers::none();
     }
-    let golden = reader.flag();
-    let altref = reader.flag();
-    let to_golden = skip(reader, if golden { 0 } else { 2 });
-    let to_altref = skip(reader, if altref { 0 } else { 2 });
-    2 + to_golden + to_altref + skip(reader, 4)
+    let copies = read_inter_copies(reader);
+    skip(reader, 4);
+    copies
 }
 
 fn no_inter_bits() -> InterBits
@@ -222,23 +225,26 @@ pub(crate) fn read_first(reader: &mut Decoder, is_key: bool) -> (SegmentBits, De
     (segments, deltas)
 }
 
+/// The bits of the optional fields of a header, and the numbers of the copies among them.
 #[tactic(auto, unfolding(crate::specs::Bits::all_bits))]
-fn read_all(reader: &mut Decoder, is_key: bool, updates: &[u8; 1056]) -> HeaderBits
-    ensures { all_bits is_key updates.now reader.old ≡ (result, reader.new) }
+fn read_all(reader: &mut Decoder, is_key: bool, updates: &[u8; 1056]) -> (HeaderBits, CopyNumbers)
+    ensures bits { all_bits is_key updates.now reader.old ≡ (result.0, reader.new) }
+    ensures copies { result.1 ≡ (copies_in is_key reader.old).0 }
 {
     let (segments, deltas) = read_first(reader, is_key);
     let quantizers = read_quantizers(reader);
-    read_references(reader, is_key);
+    let copies = read_references(reader, is_key);
     let coefficients = read_updates(reader, 8, updates);
     read_optional(reader, 8);
     let inter = read_inter(reader, is_key);
-    HeaderBits {
+    let bits = HeaderBits {
         segments,
         deltas,
         quantizers,
         coefficients,
         inter,
-    }
+    };
+    (bits, copies)
 }
 
 /// The text of the first partition of a packet, as far as the packet has it.
@@ -260,9 +266,18 @@ pub(crate) fn first_text(packet: &[u8]) -> &[u8]
 /// The bits of the optional fields of the header of a packet that `frame_header::read_header` accepts: how many booleans of
 /// the first partition each takes. Of any other packet they are those of a first partition with zeros after the end of
 /// the packet.
-#[tactic(auto, unfolding(crate::specs::Bits::header_bits))]
 pub fn read_header_bits(tables: &Tables, packet: &[u8]) -> HeaderBits
     ensures { result ≡ header_bits tables.now packet.now }
+{
+    let (bits, _copies) = read_bits_and_copies(tables, packet);
+    bits
+}
+
+/// The bits of the optional fields of a header, and the numbers of its copies, by one reading.
+#[tactic(auto, unfolding(crate::specs::Bits::header_bits, crate::specs::Copies::copy_numbers))]
+pub(crate) fn read_bits_and_copies(tables: &Tables, packet: &[u8]) -> (HeaderBits, CopyNumbers)
+    ensures bits { result.0 ≡ header_bits tables.now packet.now }
+    ensures copies { result.1 ≡ copy_numbers packet.now }
 {
     let mut reader = Decoder::new(first_text(packet));
     read_all(&mut reader, has_key_tag(packet), tables.updates())

@@ -3,8 +3,8 @@
 ghost use Rattle.std.specs.Prelude.{◌≡◌};
 ghost use Rattle.header_bits.specs.Coded.{coded_in, first_size, scales_of};
 
-use crate::bits::{HeaderBits, read_header_bits};
-use crate::copies::{CopyNumbers, copy_numbers};
+use crate::bits::{HeaderBits, read_bits_and_copies};
+use crate::copies::CopyNumbers;
 use frame_header::{key_scales, tag};
 use vp8_tables::Tables;
 
@@ -39,13 +39,14 @@ fn scales(packet: &[u8]) -> (u8, u8)
     }
 }
 
-/// Reads what the text of a packet's header has besides the decoder's header.
+/// Reads what the text of a packet's header has besides the decoder's header, in one pass over its fields.
 pub fn read_coded(tables: &Tables, packet: &[u8]) -> Coded
     ensures { result ≡ coded_in tables.now packet.now }
 {
+    let (bits, copies) = read_bits_and_copies(tables, packet);
     Coded {
-        bits: read_header_bits(tables, packet),
-        copies: copy_numbers(packet),
+        bits,
+        copies,
         first_size: first_size(packet),
         scales: scales(packet),
     }

@@ -17,6 +17,18 @@ pub struct CopyNumbers {
     pub altref: u8,
 }
 
+impl CopyNumbers {
+    /// Those of a header that has none.
+    pub(crate) fn none() -> CopyNumbers
+        ensures { result ≡ no_copies }
+    {
+        CopyNumbers {
+            golden: 0,
+            altref: 0,
+        }
+    }
+}
+
 #[tactic(auto, unfolding(crate::specs::Copies::copy_number))]
 fn read_number(reader: &mut Decoder, is_refreshed: bool) -> u8
     ensures { copy_number is_refreshed reader.old ≡ (result, reader.new) }
@@ -29,7 +41,7 @@ fn read_number(reader: &mut Decoder, is_refreshed: bool) -> u8
 }
 
 #[tactic(auto, unfolding(crate::specs::Copies::inter_copies))]
-fn read_inter(reader: &mut Decoder) -> CopyNumbers
+pub(crate) fn read_inter_copies(reader: &mut Decoder) -> CopyNumbers
     ensures { inter_copies reader.old ≡ (result, reader.new) }
 {
     let refreshes_golden = reader.flag();
@@ -46,12 +58,9 @@ fn read_copies(reader: &mut Decoder, is_key: bool) -> CopyNumbers
     let _first = read_first(reader, is_key);
     let _quantizers = read_quantizers(reader);
     if is_key {
-        CopyNumbers {
-            golden: 0,
-            altref: 0,
-        }
+        CopyNumbers::none()
     } else {
-        read_inter(reader)
+        read_inter_copies(reader)
     }
 }
 
