@@ -8,16 +8,14 @@ ghost use Rattle.reference_frames.specs.FrameTokens.{token_state};
 ghost use Rattle.macroblock_lists.specs.Known.{frame_modes, header_after, known_before, known_by, left_at, progress_after, step_of};
 ghost use Rattle.macroblock_lists.specs.PartitionEnds.{bytes_past, bytes_unread, end_of, ends_before, first_partition_end as first_partition_end_of, frame_ends, frame_token_ends, no_ends, partition_ends_of, token_ends, zeros_for};
 
-use crate::known::{
-    Known, Progress, context_of, frame_modes, known_after, macroblocks, size_of, step,
-};
+use crate::known::{Known, Progress, context_of, frame_modes, known_after, size_of, step};
 use crate::tokens::{FrameTokens, marked, marked_texts};
 use arrayvec::ArrayVec;
 use frame_header::{
     Context, Header, Place, first_partition, has_key_tag, read_header, read_header_over,
 };
 use mode_parser::Records;
-use pixel_planes::NoMemory;
+use pixel_planes::{NoMemory, macroblocks};
 use state_cache::Broken;
 use std::alloc::Global;
 use token_parser::Rows;
