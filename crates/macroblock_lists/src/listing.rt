@@ -6,11 +6,12 @@ ghost use Rattle.std.specs.Io.KnownBytes.{Appends};
 ghost use Rattle.frame_header.specs.Tags.{has_key_tag};
 ghost use Rattle.macroblock_lists.specs.Fronts.{IsListEnd, memory_fault, writer_fault};
 ghost use Rattle.macroblock_lists.specs.Known.{progress_over};
+ghost use Rattle.macroblock_lists.specs.ProofsOnly.{IsEnough};
 ghost use Rattle.macroblock_lists.specs.Texts.{head_of, list_text, progress_before, text_at};
 
 use crate::known::{Progress, progress_after};
 use crate::layouts::{Form, Target, What};
-use crate::texts::write_packet;
+use crate::packet_texts::{write_packet, write_step};
 use frame_header::has_key_tag;
 use pixel_planes::NoMemory;
 use std::alloc::Global;
@@ -129,7 +130,91 @@ fn progress_before(
     progress_over(alloc, tables, start, &packets[start..place])
 }
 
-/// Writes packets, the first of which has the index `wanted.first`; `progress` is before it.
+/// The progress that is needed before the packet at an index: nothing of one with a key tag.
+fn progress_for(
+    alloc: Global,
+    tables: &Tables,
+    packets: &[Packet],
+    place: usize,
+) -> Result<Progress, NoMemory>
+    requires { place ≤ length packets.now }
+    ensures { IfOk result (IsEnough tables.now packets.now place) }
+{
+    if place < packets.len() && has_key_tag(packets[place].bytes.as_slice()) {
+        return Ok(Ok(None));
+    }
+    progress_before(alloc, tables, packets, place)
+}
+
+/// Writes the packet at an index; `progress` is enough before it.
+fn write_last<W: Write>(
+    w: &mut W,
+    alloc: Global,
+    tables: &Tables,
+    target: Target,
+    progress: &Progress,
+    packets: &[Packet],
+) -> Result<(), ListFault>
+    requires inside { target.place < length packets.now }
+    requires before { IsEnough tables.now packets.now target.place progress.now }
+    ensures written { OnOk result (Appends (W.contents w.old) (W.contents w.new) (text_at target.what target.form tables.now packets.now target.place)) }
+    ensures early { IfErr result (IsListEnd (text_at target.what target.form tables.now packets.now target.place) (W.contents w.old) (W.contents w.new)) }
+{
+    let packet = packets[target.place].bytes.as_slice();
+    write_packet(w, alloc, tables, target, progress, packet)
+}
+
+/// Writes the packet at an index; `progress` is enough before it, and what is returned is known after it.
+fn write_next<W: Write>(
+    w: &mut W,
+    alloc: Global,
+    tables: &Tables,
+    target: Target,
+    progress: Progress,
+    packets: &[Packet],
+) -> Result<Progress, ListFault>
+    requires inside { target.place < length packets.now }
+    requires before { IsEnough tables.now packets.now target.place progress }
+    ensures written { OnOk result (Appends (W.contents w.old) (W.contents w.new) (text_at target.what target.form tables.now packets.now target.place)) }
+    ensures early { IfErr result (IsListEnd (text_at target.what target.form tables.now packets.now target.place) (W.contents w.old) (W.contents w.new)) }
+    ensures after { IfOk result (IsEnough tables.now packets.now (target.place + 1)) }
+{
+    let packet = packets[target.place].bytes.as_slice();
+    write_step(w, alloc, tables, target, progress, packet)
+}
+
+/// Writes packets but the last one of those that are wanted, of which there is one; `progress` is enough before the first. What is
+/// returned is known before the last.
+fn write_all_but_last<W: Write>(
+    w: &mut W,
+    alloc: Global,
+    tables: &Tables,
+    wanted: Wanted,
+    progress: Progress,
+    packets: &[Packet],
+) -> Result<Progress, ListFault>
+    requires some { 0 < wanted.count }
+    requires inside { wanted.first + wanted.count ≤ length packets.now }
+    requires before { IsEnough tables.now packets.now wanted.first progress }
+    ensures written { OnOk result (Appends (W.contents w.old) (W.contents w.new) (flat_map (text_at wanted.what wanted.form tables.now packets.now) (range_with_len wanted.first (wanted.count - 1)))) }
+    ensures early { IfErr result (IsListEnd (flat_map (text_at wanted.what wanted.form tables.now packets.now) (range_with_len wanted.first (wanted.count - 1))) (W.contents w.old) (W.contents w.new)) }
+    ensures after { IfOk result (IsEnough tables.now packets.now (wanted.first + (wanted.count - 1))) }
+{
+    let Wanted {
+        what,
+        form,
+        first,
+        count,
+    } = wanted;
+    let mut progress = progress;
+    for place in first..first + (count - 1) {
+        let target = Target { what, form, place };
+        progress = write_next(w, alloc, tables, target, progress, packets)?;
+    }
+    Ok(progress)
+}
+
+/// Writes packets, the first of which has the index `wanted.first`; `progress` is enough before it.
 fn write_packets<W: Write>(
     w: &mut W,
     alloc: Global,
@@ -139,24 +224,22 @@ fn write_packets<W: Write>(
     packets: &[Packet],
 ) -> Result<(), ListFault>
     requires inside { wanted.first + wanted.count ≤ length packets.now }
-    requires before { progress ≡ progress_before tables.now packets.now wanted.first }
+    requires before { IsEnough tables.now packets.now wanted.first progress }
     ensures written { OnOk result (Appends (W.contents w.old) (W.contents w.new) (flat_map (text_at wanted.what wanted.form tables.now packets.now) (range_with_len wanted.first wanted.count))) }
     ensures early { IfErr result (IsListEnd (flat_map (text_at wanted.what wanted.form tables.now packets.now) (range_with_len wanted.first wanted.count)) (W.contents w.old) (W.contents w.new)) }
 {
+    if wanted.count == 0 {
+        return Ok(());
+    }
     let Wanted {
         what,
         form,
         first,
         count,
     } = wanted;
-    let mut progress = progress;
-    for place in first..first + count {
-        let packet = packets[place].bytes.as_slice();
-        let target = Target { what, form, place };
-        write_packet(w, alloc, tables, target, &progress, packet)?;
-        progress = progress_after(alloc, tables, place, progress, packet)?;
-    }
-    Ok(())
+    let progress = write_all_but_last(w, alloc, tables, wanted, progress, packets)?;
+    let place = first + (count - 1);
+    write_last(w, alloc, tables, Target { what, form, place }, &progress, packets)
 }
 
 /// Writes the macroblocks of packets, each after a comment with its header, or the headers alone.
@@ -176,7 +259,7 @@ pub fn write_list<W: Write>(
     ensures written { OnOk result (Appends (W.contents w.old) (W.contents w.new) (list_text wanted.what wanted.form tables.now packets.now wanted.first wanted.count)) }
     ensures early { IfErr result (IsListEnd (list_text wanted.what wanted.form tables.now packets.now wanted.first wanted.count) (W.contents w.old) (W.contents w.new)) }
 {
-    let progress = progress_before(alloc, tables, packets, wanted.first)?;
+    let progress = progress_for(alloc, tables, packets, wanted.first)?;
     write_text(w, head_of(wanted.what, wanted.form))?;
     write_packets(w, alloc, tables, wanted, progress, packets)
 }

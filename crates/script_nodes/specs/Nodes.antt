@@ -2,6 +2,7 @@
 use Rattle.std.specs.Prelude.{ℕ, ◌+◌, ◌^◌, ◌%◌, Bool, true, false, List, [], ◌∷◌, Option, None, Some, Result, Ok, Err, ◌&&◌, ◌==◌, not, nat_lt, nat_le, if◌then◌else◌, length, codes}
 use Rattle.std.specs.List.{list_all, slice_split}
 use Rattle.std.specs.Str.{bytes_eq}
+use Rattle.pixel_planes.specs.Pictures.{is_side}
 use Rattle.script_nodes.specs.declared.nodes.Area.{Area}
 use Rattle.script_nodes.specs.declared.nodes.Ramp.{Ramp}
 use Rattle.script_nodes.specs.declared.nodes.Node.{Node}
