@@ -18,3 +18,4 @@ pub mod TokenEnds
 pub mod KeyEnds
 pub mod ModeBits
 pub mod TokenBits
+pub mod ReadTexts

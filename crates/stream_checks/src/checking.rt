@@ -5,6 +5,7 @@ ghost use Rattle.std.specs.Io.KnownBytes.{Appends};
 ghost use Rattle.stream_files.specs.Ivf.{IsIvf};
 ghost use Rattle.stream_checks.specs.Files.{findings};
 ghost use Rattle.stream_checks.specs.Checks.{IsBegun, IsChecked, IsEarlyEnd, IsPacketEnd, findings_after, text_of_check};
+ghost use Rattle.stream_checks.specs.Lines.{frames_of};
 ghost use Rattle.stream_checks.specs.Severity.{tally_of};
 ghost use Rattle.stream_checks.specs.Texts.{texts_of};
 
@@ -12,7 +13,7 @@ use crate::checker::Checker;
 use crate::fault::CheckFault;
 use crate::file::{write_cut, write_head};
 use crate::finding::Tally;
-use crate::packets::{Position, ahead_of, frames_of};
+use crate::packets::{Position, ahead_of};
 use crate::progress::Progress;
 use crate::stamps::pace_of;
 use crate::texts::write_end;
@@ -22,20 +23,27 @@ use std::io::Write;
 use stream_files::{Ivf, Packet};
 use vp8_tables::Tables;
 
-/// Reads the packets after a checker's position and writes their findings, and returns their tally.
+/// What a check of packets counts: what is found at them, and the frames that are shown up to the last one.
+struct Checked {
+    tally: Tally,
+    frames: usize,
+}
+
+/// Reads the packets after a checker's position and writes their findings, and returns their tally and the number of frames after them.
 fn write_packets<W: Write, G: Progress>(
     w: &mut W,
     tables: &Tables,
     checker: Checker,
     packets: &[Packet],
     progress: &mut G,
-) -> Result<Tally, CheckFault>
+) -> Result<Checked, CheckFault>
     requires few { checker.position.packets + length packets.now ≤ 1048576 }
     requires frames { checker.position.frames ≤ checker.position.packets }
     requires step { 1 ≤ checker.pace.step }
     ensures written { OnOk result (Appends (W.contents w.old) (W.contents w.new) (texts_of checker.form (findings_after tables.now checker packets.now))) }
-    ensures counted { IfOk result (λ tally. tally ≡ tally_of (findings_after tables.now checker packets.now)) }
-    ensures few { IfOk result (λ tally. tally.damage + tally.notes ≤ 17825792) }
+    ensures counted { IfOk result (λ checked. checked.tally ≡ tally_of (findings_after tables.now checker packets.now)) }
+    ensures few { IfOk result (λ checked. checked.tally.damage + checked.tally.notes ≤ 17825792) }
+    ensures frames { IfOk result (λ checked. checked.frames ≡ checker.position.frames + frames_of packets.now) }
     ensures early { IfErr result (IsPacketEnd checker.form (findings_after tables.now checker packets.now) (W.contents w.old) (W.contents w.new)) }
 {
     let mut checker = checker;
@@ -52,7 +60,10 @@ fn write_packets<W: Write, G: Progress>(
         before = Some(ahead);
         rest = following;
     }
-    Ok(tally)
+    Ok(Checked {
+        tally,
+        frames: checker.position.frames,
+    })
 }
 
 /// Checks an IVF file: reads the headers, modes and tokens of its packets, writes what it finds, as lines or as objects, and
@@ -83,15 +94,15 @@ pub fn check<W: Write, G: Progress>(
         return Err(CheckFault::Write);
     };
     let checker = Checker::new(alloc, form, pace, Position::first(), Ok(None));
-    let at_packets = match write_packets(w, tables, checker, packets, progress) {
-        Ok(tally) => tally,
+    let checked = match write_packets(w, tables, checker, packets, progress) {
+        Ok(checked) => checked,
         Err(fault) => return Err(fault),
     };
     let Ok(at_end) = write_cut(w, form, bytes, file) else {
         return Err(CheckFault::Write);
     };
-    let found = at_head.plus(at_packets).plus(at_end);
-    match write_end(w, form, packets.len(), frames_of(packets), found) {
+    let found = at_head.plus(checked.tally).plus(at_end);
+    match write_end(w, form, packets.len(), checked.frames, found) {
         Ok(()) => Ok(found),
         Err(_) => Err(CheckFault::Write),
     }

@@ -3,7 +3,6 @@
 ghost use Rattle.std.specs.Prelude.{◌≡◌, ◌+◌, ◌<◌, ◌≤◌, ◌^◌, ◌∷◌};
 ghost use Rattle.stream_checks.specs.Checks.{TellsAhead};
 ghost use Rattle.stream_checks.specs.Packets.{ahead_of, emptiness, first_position, found_at, is_repeated, is_same, is_unshown, lost_after, never_shown, newer, position_after, refusal, repetition, size_change, spot_of, undefined_copy};
-ghost use Rattle.stream_checks.specs.Lines.{frames_of};
 
 use crate::finding::{Spot, Trouble};
 use crate::stamps::{Pace, Stamps, stamp_trouble, stamps_after};
@@ -276,14 +275,4 @@ impl Position {
             hidden: never_shown(packet, ahead.is_unshown),
         }
     }
-}
-
-/// The number of shown packets.
-pub(crate) fn frames_of(packets: &[Packet]) -> usize
-    ensures { result ≡ frames_of packets.now }
-{
-    packets
-        .iter()
-        .filter(|packet| is_shown(packet.bytes.as_slice()))
-        .count()
 }

@@ -50,16 +50,18 @@ returns-in-Ok-write_end-clause-checked g c =
     let total : Tally = c.plus-found.result in
     let written : Appends w1 w2 (texts_of form (packet_findings tables packets)) =
     subst (λ (checker : Checker). Appends w1 w2 (texts_of checker.form (findings_after tables checker packets))) first made.written in
-    let counted : c.in-Ok-write_packets.tally ≡ tally_of (packet_findings tables packets) =
-    subst (λ (checker : Checker). c.in-Ok-write_packets.tally ≡ tally_of (findings_after tables checker packets)) first made.counted in
+    let counted : c.in-Ok-write_packets.checked.tally ≡ tally_of (packet_findings tables packets) =
+    subst (λ (checker : Checker). c.in-Ok-write_packets.checked.tally ≡ tally_of (findings_after tables checker packets)) first made.counted in
+    let frames : c.in-Ok-write_packets.checked.frames ≡ frames_of packets =
+    subst (λ (checker : Checker). c.in-Ok-write_packets.checked.frames ≡ checker.position.frames + frames_of packets) first made.frames in
     let ended : Appends w3 w4 (end_of form (length packets) (frames_of packets) total) =
-    subst (λ (frames : ℕ). Appends w3 w4 (end_of form (length packets) frames total)) c.frames_of.ensures c.in-Ok-write_end.ensures in
-    checked_whole form tables c.args.bytes.now file _ w1 w2 w3 w4 c.in-Ok-write_head.at_head c.in-Ok-write_packets.tally c.in-Ok-write_cut.at_end total
+    subst (λ (frames : ℕ). Appends w3 w4 (end_of form (length packets) frames total)) frames c.in-Ok-write_end.ensures in
+    checked_whole form tables c.args.bytes.now file _ w1 w2 w3 w4 c.in-Ok-write_head.at_head c.in-Ok-write_packets.checked.tally c.in-Ok-write_cut.at_end total
     c.in-Ok-write_head.ensures.written
     (subst (λ (ps : List Packet). Appends w1 w2 (texts_of form (packet_findings tables ps))) same written)
     c.in-Ok-write_cut.ensures.written
     c.in-Ok-write_head.ensures.counted
-    (subst (λ (ps : List Packet). c.in-Ok-write_packets.tally ≡ tally_of (packet_findings tables ps)) same counted)
+    (subst (λ (ps : List Packet). c.in-Ok-write_packets.checked.tally ≡ tally_of (packet_findings tables ps)) same counted)
     c.in-Ok-write_cut.ensures.counted
     (c.plus-found.ensures ∙ ap (λ (tally : Tally). plus tally c.in-Ok-write_cut.at_end) c.plus.ensures)
     (subst (λ (ps : List Packet). Appends w3 w4 (end_of form (length ps) (frames_of ps) total)) same ended)

@@ -1,4 +1,6 @@
-use Rattle.std.proofs.Common.{rules, ◌≡◌, ◌+◌, ℕ, List, [], ◌∷◌, ◌++◌, length, ap, sym, subst, ◌∙◌, arith, append_assoc, ◌≤◌}
+use Rattle.std.proofs.Common.{rules, ◌≡◌, ◌+◌, ℕ, List, [], ◌∷◌, ◌++◌, length, ap, refl, sym, subst, ◌∙◌, arith, append_assoc, ◌≤◌}
+use Rattle.std.specs.Int.{from_bool}
+use Rattle.frame_header.specs.Tags.{is_shown}
 use Rattle.std.proofs.KnownBytes.{Appends-nil, Appends-trans}
 use Rattle.std.proofs.lemmas.Grind.{flat_map-append}
 use Rattle.std.specs.Io.KnownBytes.{Appends}
@@ -11,6 +13,7 @@ use Rattle.stream_checks.specs.declared.packets.Position.{Position}
 use Rattle.stream_checks.specs.declared.stamps.Pace.{Pace}
 use Rattle.macroblock_lists.specs.declared.layouts.Form.{Form}
 use Rattle.stream_checks.specs.Checks.{findings_after, findings_next}
+use Rattle.stream_checks.specs.Lines.{frames_of}
 use Rattle.stream_checks.specs.Packets.{ahead_of}
 use Rattle.stream_checks.specs.Severity.{plus, tally_of}
 use Rattle.stream_checks.specs.Texts.{text_of, texts_of}
@@ -27,6 +30,7 @@ loop-packet-init g c = record {
   few = search rules;
   packets = search rules;
   frames = search rules;
+  shown = refl;
   form = search rules;
   step = search rules;
   answers = search rules;
@@ -49,6 +53,8 @@ loop-packet-preserved g c =
     let shorter : length following + 1 ≡ length c.loop-packet.rest.now = c.in-Some.ensures.cases.1 in
     let made = c.in-Ok.ensures in
     let next : after.position.packets ≡ before.position.packets + 1 = ap (λ (p : Position). p.packets) made.position in
+    let shown : after.position.frames ≡ before.position.frames + from_bool (is_shown packet.bytes) = ap (λ (p : Position). p.frames) made.position in
+    let rest : frames_of c.loop-packet.rest.now ≡ from_bool (is_shown packet.bytes) + frames_of following = ap frames_of at in
     let W : Form → Type 0 = λ form. Appends (g.W.Write.contents c.loop-packet.w) (g.W.Write.contents c.next.new.w) (texts_of form found) in
     let added : W c.args.checker.form = subst W met.form made.written in
     record {
@@ -62,6 +68,7 @@ loop-packet-preserved g c =
       few = omega (arith, met.few, made.few, ap (λ (tally : Tally). tally.damage) c.plus-tally.ensures, ap (λ (tally : Tally). tally.notes) c.plus-tally.ensures, shorter);
       packets = omega (arith, met.packets, shorter, next);
       frames = made.frames;
+      shown = omega (arith, met.shown, shown, rest);
       form = made.form ∙ met.form;
       step = subst (λ (p : Pace). 1 ≤ p.step) (sym made.pace) met.step;
       answers = (ap (λ (a : Ahead). a.lost) is, ap (λ (a : Ahead). a.is_unshown) is);

@@ -1,6 +1,7 @@
 use Rattle.std.proofs.Common.{◌≡◌, ◌+◌, ◌*◌, ◌≤◌, ◌++◌, List, length}
 use Rattle.std.specs.Io.KnownBytes.{Appends}
 use Rattle.stream_checks.specs.declared.finding.Finding.{Finding}
+use Rattle.stream_checks.specs.Lines.{frames_of}
 use Rattle.stream_checks.specs.Severity.{tally_of}
 use Rattle.stream_checks.specs.Texts.{texts_of}
 use Rattle.stream_checks.specs.Checks.{TellsAhead, findings_after}
@@ -15,6 +16,7 @@ invariant-loop-packet g l = record {
   few : l.tally.damage + l.tally.notes + 17 * length l.rest ≤ 17825792;
   packets : l.checker.position.packets + length l.rest ≤ 1048576;
   frames : l.checker.position.frames ≤ l.checker.position.packets;
+  shown : l.checker.position.frames + frames_of l.rest ≡ l.initial.checker.position.frames + frames_of l.packets;
   form : l.checker.form ≡ l.initial.checker.form;
   step : 1 ≤ l.checker.pace.step;
   answers : TellsAhead l.before l.rest;
