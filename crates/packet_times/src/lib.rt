@@ -7,5 +7,5 @@ mod medians;
 mod stamps;
 
 pub use durations::{Duration, durations_of};
-pub use medians::{median_step, usual_duration};
+pub use medians::{median_of, median_step, usual_duration};
 pub use stamps::{stamp_after, stamped};

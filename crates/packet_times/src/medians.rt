@@ -55,14 +55,20 @@ fn middle_of(steps: &[u64]) -> u64
     }
 }
 
-/// The median of the steps between the time stamps of shown packets that go forward, the lower one of two, and at
-/// least 1.
+/// The median of steps, the lower one of two, and at least 1. `NoMemory` if memory to sort them is refused.
+pub fn median_of(steps: Vec<u64>) -> Result<u64, NoMemory>
+    ensures { IfOk result (λ step. step ≡ median_of steps.items) }
+{
+    let mut steps = steps;
+    steps.sort()?;
+    Ok(middle_of(&steps).max(1))
+}
+
+/// The median of the steps between the time stamps of shown packets that go forward.
 pub fn median_step(alloc: Global, packets: &[Packet]) -> Result<u64, NoMemory>
     ensures { IfOk result (λ step. step ≡ median_of (steps_of packets.now)) }
 {
-    let mut steps = steps_of(alloc, packets)?;
-    steps.sort()?;
-    Ok(middle_of(&steps).max(1))
+    median_of(steps_of(alloc, packets)?)
 }
 
 /// The duration of a packet of a file that has none of its own: the median step, in the units of the file's head.

@@ -1,11 +1,11 @@
 //! Time stamps: the step between frames, and stamps that do not go on by it.
 
-ghost use Rattle.std.specs.Prelude.{◌≡◌, ◌-◌, ◌/◌, ◌≤◌, ◌++◌, IfOk, OnOk, length, slice_index_or};
-ghost use Rattle.packet_times.specs.Medians.{median_of};
+ghost use Rattle.std.specs.Prelude.{◌≡◌, ◌≤◌, ◌++◌, IfOk, OnOk};
 ghost use Rattle.stream_checks.specs.Stamps.{are_even, are_even_after_two, first_stamps, goes_on, is_break, is_constant, is_expected, is_one_place, is_step, odd_stamp, odd_steps, pace_of, pace_over, shown_stamp, shown_stamps, shown_trouble, stamp_trouble, stamp_trouble_in, stamps_after, stamps_by, step_to, steps_of};
 
 use crate::finding::Trouble;
 use frame_header::{has_key_tag, is_shown};
+use packet_times::median_of;
 use pixel_planes::NoMemory;
 use std::alloc::Global;
 use stream_files::Packet;
@@ -74,25 +74,6 @@ fn steps_of(alloc: Global, stamps: &[u64]) -> Result<Vec<u64>, NoMemory>
         before = *stamp;
     }
     Ok(steps)
-}
-
-/// The number in the middle of a list in ascending order, the lower one of two; 0 if there is none.
-fn middle_of(steps: &[u64]) -> u64
-    ensures { result ≡ slice_index_or steps.now ((length steps.now - 1) / 2) 0 }
-{
-    match steps.get(steps.len().saturating_sub(1) / 2) {
-        Some(step) => *step,
-        None => 0,
-    }
-}
-
-/// The median of the steps between time stamps, and at least 1.
-fn median_step(alloc: Global, stamps: &[u64]) -> Result<u64, NoMemory>
-    ensures { IfOk result (λ step. step ≡ median_of (steps_of stamps.now)) }
-{
-    let mut steps = steps_of(alloc, stamps)?;
-    steps.sort()?;
-    Ok(middle_of(&steps).max(1))
 }
 
 /// Whether a time stamp is one step above another.
@@ -165,7 +146,7 @@ pub fn pace_over(alloc: Global, stamps: &[u64]) -> Result<Pace, NoMemory>
     ensures pace { IfOk result (λ pace. pace ≡ pace_over stamps.now) }
     ensures positive { IfOk result (λ pace. 1 ≤ pace.step) }
 {
-    let step = median_step(alloc, stamps)?;
+    let step = median_of(steps_of(alloc, stamps)?)?;
     let odd = odd_steps(alloc, step, stamps)?;
     let is_constant = is_constant(odd.as_slice());
     Ok(Pace { step, is_constant })
