@@ -1,8 +1,8 @@
 -- The shown list: its laws, and how an index finds it.
-use Rattle.std.proofs.Common.{◌≡◌, ℕ, suc, zero, ◌+◌, ◌<◌, List, [], ◌∷◌, Bool, true, false, cond, Option, Some, None, IfSome, map, length, slice_get, refl, sym, ap, ◌∙◌, arith, add-zero, zero-add}
+use Rattle.std.proofs.Common.{◌≡◌, ℕ, suc, zero, ◌+◌, ◌<◌, List, [], ◌∷◌, Bool, true, false, cond, min, Option, Some, None, IfSome, map, length, slice_get, take, refl, sym, ap, ◌∙◌, arith, add-zero, zero-add}
 use Rattle.frame_header.specs.Tags.{is_shown}
 use Rattle.packet_edits.specs.declared.entry.Entry.{Entry}
-use Rattle.packet_edits.specs.FlagCounts.{indexes_from}
+use Rattle.packet_edits.specs.FlagCounts.{count_with, flagged_before, indexes_from}
 use Rattle.packet_edits.specs.Shown.{shown_from, shown_indexes}
 
 -- an index in the shown list of packets whose first has the index `start`, and its packet
@@ -92,3 +92,17 @@ place_within es n place e =
 pub answer_within : (es : List Entry) (n : ℕ) (answer : Option ℕ) → answer ≡ slice_get (shown_indexes (map (λ e. e.bytes) es)) n → IfSome answer (λ place. place < length es)
 answer_within es n None reported = tt
 answer_within es n (Some place) reported = place_within es n place (sym reported)
+
+counted_if : (start count : ℕ) (places : List ℕ) (shown : Bool) → length places ≡ count → length (cond shown (start ∷ places) places) ≡ count_with count shown
+counted_if start count places true same = omega (arith, same)
+counted_if start count places false same = same
+
+-- as many packets are shown before an index as are flagged
+pub shown_are_flagged : (start : ℕ) (es : List Entry) (at end : ℕ) → end ≡ min at (length es)
+    → length (shown_from start (take at (map (λ e. e.bytes) es))) ≡ flagged_before end (map (λ e. is_shown e.bytes) es)
+shown_are_flagged start es zero zero is = refl
+shown_are_flagged start es zero (suc end) is = absurd (omega (arith, is))
+shown_are_flagged start [] (suc at) zero is = refl
+shown_are_flagged start [] (suc at) (suc end) is = absurd (omega (arith, is))
+shown_are_flagged start (e ∷ es) (suc at) zero is = absurd (omega (arith, is))
+shown_are_flagged start (e ∷ es) (suc at) (suc end) is = counted_if start _ _ (is_shown e.bytes) (shown_are_flagged (start + 1) es at end (omega (arith, is)))

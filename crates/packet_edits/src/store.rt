@@ -1,4 +1,4 @@
-ghost use Rattle.std.specs.Prelude.{◌≡◌, ◌+◌, ◌^◌, ◌++◌, ◌<◌, ◌≤◌, [], Err, IfErr, IfOk, IfSome, None, OnOk, Some, is_ok, if◌then◌else◌, length, option_map, slice_get};
+ghost use Rattle.std.specs.Prelude.{◌≡◌, ◌+◌, ◌^◌, ◌++◌, ◌<◌, ◌≤◌, [], Err, IfErr, IfOk, IfSome, None, OnOk, Some, is_ok, if◌then◌else◌, length, option_map, slice_get, take};
 ghost use Rattle.std.specs.Io.KnownBytes.{Appends};
 ghost use Rattle.packet_edits.specs.Edits.{numbered};
 ghost use Rattle.packet_edits.specs.Faults.{IsFirstOrNoMemory, unless_refused};
@@ -484,6 +484,15 @@ impl Store {
         ensures within { IfSome result (λ place. place < length self.now.list.entries) }
     {
         self.index.shown.place(n)
+    }
+
+    /// The number of shown packets before index `at`, which may be any number: all of them, 1,048,576 at most, if it is after the
+    /// last packet. No packet is read, and the flags of at most 1,023 are.
+    pub fn shown_before(&self, at: usize) -> usize
+        ensures { result ≡ length (shown_indexes (take at (stream_of self.now.list))) }
+    {
+        let end = at.min(self.entries.len());
+        self.index.shown.count_before(end) as usize
     }
 
     /// The number of shown packets.

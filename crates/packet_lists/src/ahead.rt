@@ -4,7 +4,6 @@ ghost use Rattle.stream_files.specs.declared.packets.Packet.{Packet};
 ghost use Rattle.packet_edits.specs.Saved.{packets_of};
 ghost use Rattle.stream_checks.specs.Packets.{ahead_of, is_repeated, is_unshown, lost_after};
 
-use crate::places::shown_before;
 use packet_edits::Store;
 use stream_checks::{Ahead, is_same};
 
@@ -24,10 +23,7 @@ fn is_unshown(store: &Store, from: usize, key: usize) -> bool
     requires { key ≡ from + lost_after (drop from (packets_of store.now.list)) }
     ensures { result ≡ is_unshown (drop from (packets_of store.now.list)) }
 {
-    match store.shown(shown_before(store, from) as u64) {
-        Some(place) => key <= place,
-        None => true,
-    }
+    store.shown_before(from) == store.shown_before(key)
 }
 
 /// Whether the packet after the one at index `at` has its time stamp and its bytes.

@@ -71,8 +71,8 @@ fn position_at(store: &Store, known: Option<Position>, step: u64, at: usize) -> 
     position
 }
 
-/// Whether decoding starts anew at the first of `count` packets: it has a key tag.
-fn starts_anew(store: &Store, first: usize, count: usize) -> bool
+/// Whether decoding can start at the first of `count` packets: it has a key tag.
+fn starts_at(store: &Store, first: usize, count: usize) -> bool
     requires { first + count ≤ length store.now.list.entries }
     ensures some { result ≡ true → 1 ≤ count }
     ensures key { result ≡ true → key_tag_at (stream_of store.now.list) first ≡ true }
@@ -138,7 +138,7 @@ impl Lister {
         ensures kept { IfSome self.new.reached (IsReached tables.now store.now.list) }
         ensures rest { self.new ≡ record self.old { reached = self.new.reached } }
     {
-        if starts_anew(store, first, count) {
+        if starts_at(store, first, count) {
             return Ok(Ok(None));
         }
         let Reached { progress, .. } = self.reach(tables, store, first)?;

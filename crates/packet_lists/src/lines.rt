@@ -38,7 +38,8 @@ fn write_from<W: Write>(
 impl Lister {
     /// Writes a line for each of `count` packets, the first of which has the index `first`: a JSON object with its facts, as `vp8list
     /// --json` writes it of the file to which the packets are saved. Only headers are read: those of these packets, and those from the
-    /// last accepted key packet before them on, or from the packet on with which the last question for lines began, if that is nearer.
+    /// last accepted key packet before them on, or from the packet on with which the last question for lines began, if that is nearer or
+    /// sooner done.
     ///
     /// `Write` if the writer returns an error; part of the lines may have been written.
     pub fn write_lines<W: Write>(

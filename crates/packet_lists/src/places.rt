@@ -1,6 +1,6 @@
 // The position before a packet, from the last key packet before it.
-ghost use Rattle.std.specs.Prelude.{◌≡◌, ℕ, ◌+◌, ◌≤◌, ◌<◌, IfSome, Some, length, slice_get, take, true, false};
-ghost use Rattle.packet_edits.specs.Shown.{shown_indexes, stream_of};
+ghost use Rattle.std.specs.Prelude.{◌≡◌, ◌≤◌, IfSome, length};
+ghost use Rattle.packet_edits.specs.Shown.{stream_of};
 ghost use Rattle.packet_lists.specs.Kept.{IsListed};
 ghost use Rattle.packet_lists.specs.Places.{IsAfterKey, position_at};
 
@@ -11,34 +11,9 @@ use stream_facts::{Position, end_of_record};
 /// The byte at which the first record of a saved file begins.
 const FIRST_RECORD: usize = 32;
 
-/// Whether shown packet `n`, which exists, comes before index `at`.
-fn is_before(store: &Store, n: usize, at: usize) -> bool
-    ensures before { result ≡ true → (place : ℕ) → slice_get (shown_indexes (stream_of store.now.list)) n ≡ Some place → place < at }
-    ensures after { result ≡ false → (place : ℕ) → slice_get (shown_indexes (stream_of store.now.list)) n ≡ Some place → at ≤ place }
-{
-    match store.shown(n as u64) {
-        Some(place) => place < at,
-        None => false,
-    }
-}
-
-/// The number of shown packets before index `at`.
-pub(crate) fn shown_before(store: &Store, at: usize) -> usize
-    ensures { result ≡ length (shown_indexes (take at (stream_of store.now.list))) }
-{
-    store.prove_few();
-    let mut low = 0;
-    let mut high = store.frames();
-    'search: while low < high {
-        let middle = low + (high - low) / 2;
-        if is_before(store, middle, at) {
-            low = middle + 1;
-        } else {
-            high = middle;
-        }
-    }
-    low
-}
+/// How many lengths are added in the time in which a header is read. A position after a key packet costs the lengths of all packets
+/// before it; a known one costs only headers.
+const LENGTHS_PER_HEADER: usize = 20;
 
 /// The byte at which the record of the packet at index `at` begins in a saved file.
 fn begins_before(store: &Store, at: usize) -> usize
@@ -77,12 +52,12 @@ fn position_after_key(store: &Store, at: usize) -> Position
     if at == 0 {
         Position::first(FIRST_RECORD)
     } else {
-        Position::after_key(at, shown_before(store, at), begins_before(store, at))
+        Position::after_key(at, store.shown_before(at), begins_before(store, at))
     }
 }
 
 /// The position from which headers are read for index `at`: after the last accepted key packet before it, or the known one, if that is
-/// nearer.
+/// nearer, or if the headers from it up to that key packet are read sooner than the lengths before the key packet are added.
 fn nearest_before(store: &Store, known: Option<Position>, at: usize) -> Position
     requires within { at ≤ length store.now.list.entries }
     requires known { IfSome known (IsListed store.now.list) }
@@ -91,7 +66,8 @@ fn nearest_before(store: &Store, known: Option<Position>, at: usize) -> Position
 {
     let start = after_key_before(store, at);
     if let Some(known) = known {
-        if start <= known.packets() && known.packets() <= at {
+        let more = start.saturating_sub(known.packets());
+        if known.packets() <= at && more <= start / LENGTHS_PER_HEADER {
             return known;
         }
     }

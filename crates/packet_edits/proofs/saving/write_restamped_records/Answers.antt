@@ -1,11 +1,10 @@
 use Rattle.std.proofs.Common.{◌≡◌, ◌<◌, ◌+◌, List, ℕ, length, rules, arith, ap, subst, sym, ◌∙◌}
-use Rattle.std.proofs.lemmas.Result.{on_ok_weaker}
 use Rattle.std.specs.Io.KnownBytes.{Appends}
 use Rattle.stream_files.specs.Texts.{record_text}
 use Rattle.packet_times.specs.Stamps.{stamp_after}
 use Rattle.packet_edits.specs.Saved.{padded_if}
 use Rattle.packet_edits.proofs.Records.{element_is}
-use Rattle.packet_edits.proofs.Restamped.{IsPart, next, part_all, part_more, part_none}
+use Rattle.packet_edits.proofs.Restamped.{IsPart, next, part_more, part_none}
 use Rattle.packet_edits.proofs.saving.write_restamped_records.Goals as goal
 
 pub loop-i-init : goal.loop-i-init

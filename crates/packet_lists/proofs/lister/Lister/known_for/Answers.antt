@@ -4,12 +4,12 @@ use Rattle.packet_edits.specs.Saved.{packets_of}
 use Rattle.packet_lists.proofs.Progressed.{key_leads, key_tagged, known_leads}
 use Rattle.packet_lists.proofs.lister.Lister.known_for.Goals as goal
 
-pub returns-then-starts_anew-clause-known : goal.returns-then-starts_anew-clause-known
-returns-then-starts_anew-clause-known c =
+pub returns-then-starts_at-clause-known : goal.returns-then-starts_at-clause-known
+returns-then-starts_at-clause-known c =
     let list = c.args.store.now.list in
     let first = c.args.first in
-    let key = c.starts_anew.ensures.key c.if-starts_anew.true in
-    let some : first < first + c.args.count = omega (arith, c.starts_anew.ensures.some c.if-starts_anew.true) in
+    let key = c.starts_at.ensures.key c.if-starts_at.true in
+    let some : first < first + c.args.count = omega (arith, c.starts_at.ensures.some c.if-starts_at.true) in
     let within : first ≤ first + c.args.count = omega arith in
     record {
       known = inr key;
