@@ -9,7 +9,6 @@ use Rattle.script_nodes.specs.declared.nodes.Node.{Node}
 use Rattle.script_nodes.specs.declared.nodes.Node.TheVariants.{Source, Trim, Splice, Crop, Fade}
 use Rattle.script_nodes.specs.declared.faults.ScriptFault.{ScriptFault}
 use Rattle.script_nodes.specs.declared.faults.ScriptFault.TheVariants.{Syntax, Nodes, Reference, Number}
-use Rattle.pixel_planes.specs.Pictures.{is_side}
 use Rattle.text_words.specs.Words.{words_of, number_of, with_word, at_end}
 
 -- ---- the text of a node
