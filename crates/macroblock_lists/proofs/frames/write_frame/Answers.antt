@@ -1,12 +1,26 @@
-use Rattle.std.proofs.Common.{◌≡◌, List, map, ap, subst, ◌∙◌, replicate}
+use Rattle.std.proofs.Common.{◌≡◌, List, map, ap, subst, sym, ◌∙◌, replicate}
 use Rattle.std.specs.Io.KnownBytes.{Appends}
 use Rattle.bool_coder.specs.Reader.{Reader, started}
 use Rattle.frame_header.specs.declared.places.Place.{Place}
 use Rattle.reference_frames.specs.FrameTokens.{TokenState, outside, tokens_start}
 use Rattle.macroblock_lists.specs.PartitionEnds.{marked_start, marked_text, zeros_for}
+use Rattle.macroblock_lists.specs.Walks.{AreAlike}
 use Rattle.macroblock_lists.proofs.MarkedPartitions.{marked_readers}
+use Rattle.macroblock_lists.proofs.Walks.{starts-alike}
 use Rattle.macroblock_lists.specs.Frames.{texts_of}
 use Rattle.macroblock_lists.proofs.frames.write_frame.Goals as goal
+
+pub write_macroblocks-requires-clause-alike : goal.write_macroblocks-requires-clause-alike
+write_macroblocks-requires-clause-alike g c =
+    let places : List Place = c.as_slice-partitions.result.now in
+    let columns = c.args.frame.now.columns in
+    let zeros = c.zeros_for.result in
+    let readers : map (λ text. started text.items) c.deref.result.now ≡ map (λ place. started (marked_text zeros c.args.packet.now place)) places =
+    ap (λ texts. map (λ text. started text.items) texts) c.deref.ensures.value ∙ marked_readers (λ text. text.items) zeros c.args.packet.now c.in_ok-texts.texts.items places c.in_ok-texts.ensures in
+    let state : List Reader → TokenState = λ rs. record { readers = rs; above = replicate columns outside; left = outside } in
+    let marked_are : c.in_ok-marked.marked ≡ marked_start zeros places c.args.packet.now columns = c.in_ok-marked.ensures ∙ ap state readers in
+    subst (λ (b : TokenState). AreAlike b c.in_ok-own.own) (sym marked_are)
+    (subst (λ (a : TokenState). AreAlike (marked_start zeros places c.args.packet.now columns) a) (sym c.in_ok-own.ensures) (starts-alike zeros places c.args.packet.now columns))
 
 pub returns-clause-written : goal.returns-clause-written
 returns-clause-written g c =
@@ -15,8 +29,8 @@ returns-clause-written g c =
     let columns = c.args.frame.now.columns in
     let zeros = c.zeros_for.result in
     let are : places ≡ own = c.as_slice-partitions.ensures.value in
-    let tokens_are : c.in_ok-tokens.tokens ≡ tokens_start own c.args.packet.now columns =
-    c.in_ok-tokens.ensures ∙ ap (λ (ps : List Place). tokens_start ps c.args.packet.now columns) are in
+    let own_is : c.in_ok-own.own ≡ tokens_start own c.args.packet.now columns =
+    c.in_ok-own.ensures ∙ ap (λ (ps : List Place). tokens_start ps c.args.packet.now columns) are in
     let readers : map (λ text. started text.items) c.deref.result.now ≡ map (λ place. started (marked_text zeros c.args.packet.now place)) places =
     ap (λ texts. map (λ text. started text.items) texts) c.deref.ensures.value ∙ marked_readers (λ text. text.items) zeros c.args.packet.now c.in_ok-texts.texts.items places c.in_ok-texts.ensures in
     let state : List Reader → TokenState = λ rs. record { readers = rs; above = replicate columns outside; left = outside } in
@@ -25,4 +39,4 @@ returns-clause-written g c =
     ∙ ap (λ n. marked_start n own c.args.packet.now columns) c.zeros_for.ensures.value in
     let Written : TokenState → TokenState → Type 0 = λ a b. Appends (g.W.Write.contents c.args.w.now) (g.W.Write.contents c.write_macroblocks.new.w) (texts_of c.args.target.form c.args.target.place c.args.frame.now.header.now columns a b c.args.frame.now.records.now.modes.records c.args.frame.now.records.now.facts.items) in
     subst (λ (b : TokenState). Written (tokens_start own c.args.packet.now columns) b) marked_are
-    (subst (λ (a : TokenState). Written a c.in_ok-marked.marked) tokens_are c.in_ok-write_macroblocks.ensures)
+    (subst (λ (a : TokenState). Written a c.in_ok-marked.marked) own_is c.in_ok-write_macroblocks.ensures)
