@@ -2,7 +2,7 @@
 use Rattle.std.proofs.Common.{◌≡◌, ℕ, ◌+◌, ◌<◌, Bool, List, [], length, map, refl, sym, subst, ap, ◌∙◌, add-one, arith, inl, inr, Some}
 use Rattle.std.specs.Prelude.{◌%◌, ◌/◌, slice_get, slice_index_or, slice_set}
 use Rattle.std.proofs.lemmas.Bool.Decides.{eqb_tells}
-use Rattle.std.proofs.lemmas.List.{get_or-map, get_or-set_other, get_or-set_same, length-map, length-set}
+use Rattle.std.proofs.lemmas.List.{get_or-map, get_or-set_other, get_or-set_same, length-map, length-replicate, length-set}
 use Rattle.std.proofs.lemmas.Nat.{mod_below}
 use Rattle.bool_coder.specs.Chains.{IsChain}
 use Rattle.bool_coder.specs.Reader.{Reader, started}
@@ -14,10 +14,11 @@ use Rattle.frame_header.specs.declared.places.Place.{Place}
 use Rattle.mode_parser.specs.declared.records.MbMode.{MbMode}
 use Rattle.token_parser.specs.Blocks.{macroblock}
 use Rattle.token_parser.specs.declared.tokens.Tokens.{Tokens}
-use Rattle.reference_frames.specs.FrameTokens.{TokenState, flags_at, reader_of, state_after, state_with, token_state, tokens_at, tokens_start}
+use Rattle.reference_frames.specs.FrameTokens.{TokenState, flags_at, outside, reader_of, state_after, state_with, token_state, tokens_at, tokens_start}
+use Rattle.macroblock_lists.specs.declared.frames.Walk.{Walk}
 use Rattle.macroblock_lists.specs.Macroblocks.{left_at}
 use Rattle.macroblock_lists.specs.PartitionEnds.{marked_start, marked_text, no_place}
-use Rattle.macroblock_lists.specs.Walks.{AreAlike, IsReadAlike}
+use Rattle.macroblock_lists.specs.Walks.{AreAlike, IsAfter, IsReadAlike}
 use Rattle.macroblock_lists.proofs.FirstRead.{same_or_none}
 use Rattle.macroblock_lists.proofs.TokenChains.{length-kept, mode_tokens, mode_tokens-chain, tokens-are}
 
@@ -143,3 +144,17 @@ kept-alike header columns n modes start marks new mode chains alike found some n
       subst (λ (state : TokenState). AreAlike state (token_state header columns start modes (n + 1))) (sym new_is)
           (subst (λ (state : TokenState). AreAlike (state_after header columns marks n (Some mode)) state) (state-next header columns start own (state_after header columns own n (Some mode)) modes n mode found refl refl) both.1),
     )
+
+-- a walk before the first macroblock
+pub walk-start : (header : Header) (columns zeros : ℕ) (modes : List MbMode) (places : List Place) (packet : List ℕ) (walk : Walk) → 0 < length places
+    → walk.odds ≡ header.context.probabilities.coefficients → walk.marked ≡ marked_start zeros places packet columns → walk.own ≡ tokens_start places packet columns
+    → IsAfter header columns modes 0 walk
+unfolding token_state
+walk-start header columns zeros modes places packet walk some odds marked_is own_is = record {
+  odds = odds;
+  marked_readers = rw (marked_is, length-map places (λ (place : Place). started (marked_text zeros packet place))) some;
+  marked_above = rw marked_is (length-replicate columns outside);
+  readers = rw (own_is, length-map places (reader_of packet)) some;
+  above = rw own_is (length-replicate columns outside);
+  alike = λ start. rw (marked_is, own_is) (starts-alike zeros places packet columns);
+}

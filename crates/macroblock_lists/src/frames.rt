@@ -2,12 +2,12 @@
 
 ghost use Rattle.std.specs.Prelude.{◌≡◌, ◌<◌, ◌≤◌, ◌+◌, ◌*◌, ◌/◌, ◌%◌, false, true, length, slice_get, All, Err, OnOk, Some};
 ghost use Rattle.std.specs.Io.KnownBytes.{Appends};
-ghost use Rattle.reference_frames.specs.FrameTokens.{state_after, token_state, tokens_at, tokens_start};
+ghost use Rattle.reference_frames.specs.FrameTokens.{state_after, tokens_at, tokens_start};
 ghost use Rattle.macroblock_lists.specs.PartitionEnds.{marked_start, zeros_for};
 ghost use Rattle.macroblock_lists.specs.Frames.{macroblock_text, texts_of};
 ghost use Rattle.macroblock_lists.specs.Macroblocks.{macroblock_of};
 ghost use Rattle.macroblock_lists.specs.Records.{facts_in as facts_in_of};
-ghost use Rattle.macroblock_lists.specs.Walks.{AreAlike, own_after};
+ghost use Rattle.macroblock_lists.specs.Walks.{IsAfter, own_after};
 
 use crate::layouts::{Form, Target};
 use crate::lines::write_line;
@@ -52,7 +52,7 @@ impl<'a, 'b> Walk<'a, 'b> {
         requires some { 0 < length self.old.own.readers }
         requires above { length self.old.own.above ≡ frame.now.columns }
         requires inside { n ≤ length frame.now.records.now.modes.records }
-        ensures own { self.new.own ≡ own_after frame.now.header.now frame.now.columns frame.now.records.now.modes.records n self.old.reads_own self.old.own }
+        ensures own { self.new.own ≡ own_after frame.now.header.now frame.now.columns frame.now.records.now.modes.records n self.old }
         ensures some { 0 < length self.new.own.readers }
         ensures above { length self.new.own.above ≡ frame.now.columns }
         ensures reads_own { self.new.reads_own ≡ true }
@@ -69,20 +69,12 @@ impl<'a, 'b> Walk<'a, 'b> {
     /// Reads the tokens of macroblock `n`, which is next, with this record.
     fn read(&mut self, frame: &Frame<'_, '_>, n: usize, mode: &MbMode) -> Tokens
         requires columns { 0 < frame.now.columns }
-        requires odds { self.old.odds ≡ frame.now.header.now.context.probabilities.coefficients }
-        requires some { 0 < length self.old.marked.readers }
-        requires above { length self.old.marked.above ≡ frame.now.columns }
-        requires own_some { 0 < length self.old.own.readers }
-        requires own_above { length self.old.own.above ≡ frame.now.columns }
-        requires alike { self.old.reads_own ≡ false → AreAlike self.old.marked (token_state frame.now.header.now frame.now.columns self.old.own frame.now.records.now.modes.records n) }
+        requires before { IsAfter frame.now.header.now frame.now.columns frame.now.records.now.modes.records n self.old }
         requires mode { slice_get frame.now.records.now.modes.records n ≡ Some mode.now }
-        ensures value { result ≡ (tokens_at frame.now.header.now.context.probabilities.coefficients (own_after frame.now.header.now frame.now.columns frame.now.records.now.modes.records n self.old.reads_own self.old.own) (n % frame.now.columns) (n / frame.now.columns) mode.now).0 }
-        ensures odds { self.new.odds ≡ self.old.odds }
+        ensures value { result ≡ (tokens_at frame.now.header.now.context.probabilities.coefficients (own_after frame.now.header.now frame.now.columns frame.now.records.now.modes.records n self.old) (n % frame.now.columns) (n / frame.now.columns) mode.now).0 }
         ensures marked { self.new.marked ≡ state_after frame.now.header.now frame.now.columns self.old.marked n (Some mode.now) }
-        ensures own { own_after frame.now.header.now frame.now.columns frame.now.records.now.modes.records (n + 1) self.new.reads_own self.new.own ≡ state_after frame.now.header.now frame.now.columns (own_after frame.now.header.now frame.now.columns frame.now.records.now.modes.records n self.old.reads_own self.old.own) n (Some mode.now) }
-        ensures own_some { 0 < length self.new.own.readers }
-        ensures own_above { length self.new.own.above ≡ frame.now.columns }
-        ensures alike { self.new.reads_own ≡ false → AreAlike self.new.marked (token_state frame.now.header.now frame.now.columns self.new.own frame.now.records.now.modes.records (n + 1)) }
+        ensures own { own_after frame.now.header.now frame.now.columns frame.now.records.now.modes.records (n + 1) self.new ≡ state_after frame.now.header.now frame.now.columns (own_after frame.now.header.now frame.now.columns frame.now.records.now.modes.records n self.old) n (Some mode.now) }
+        ensures after { IsAfter frame.now.header.now frame.now.columns frame.now.records.now.modes.records (n + 1) self.new }
     {
         tokens_are_chains(&frame.header.context.probabilities.coefficients);
         let mx = n % frame.columns;
@@ -99,20 +91,12 @@ impl<'a, 'b> Walk<'a, 'b> {
     /// Reads macroblock `n`, which is next, with this record.
     fn next(&mut self, frame: &Frame<'_, '_>, n: usize, mode: &MbMode) -> Macroblock
         requires columns { 0 < frame.now.columns }
-        requires odds { self.old.odds ≡ frame.now.header.now.context.probabilities.coefficients }
-        requires some { 0 < length self.old.marked.readers }
-        requires above { length self.old.marked.above ≡ frame.now.columns }
-        requires own_some { 0 < length self.old.own.readers }
-        requires own_above { length self.old.own.above ≡ frame.now.columns }
-        requires alike { self.old.reads_own ≡ false → AreAlike self.old.marked (token_state frame.now.header.now frame.now.columns self.old.own frame.now.records.now.modes.records n) }
+        requires before { IsAfter frame.now.header.now frame.now.columns frame.now.records.now.modes.records n self.old }
         requires mode { slice_get frame.now.records.now.modes.records n ≡ Some mode.now }
-        ensures value { result ≡ macroblock_of frame.now.header.now (n % frame.now.columns) (n / frame.now.columns) (own_after frame.now.header.now frame.now.columns frame.now.records.now.modes.records n self.old.reads_own self.old.own) self.old.marked mode.now (facts_in_of frame.now.records.now.facts.items n) }
-        ensures odds { self.new.odds ≡ self.old.odds }
+        ensures value { result ≡ macroblock_of frame.now.header.now (n % frame.now.columns) (n / frame.now.columns) (own_after frame.now.header.now frame.now.columns frame.now.records.now.modes.records n self.old) self.old.marked mode.now (facts_in_of frame.now.records.now.facts.items n) }
         ensures marked { self.new.marked ≡ state_after frame.now.header.now frame.now.columns self.old.marked n (Some mode.now) }
-        ensures own { own_after frame.now.header.now frame.now.columns frame.now.records.now.modes.records (n + 1) self.new.reads_own self.new.own ≡ state_after frame.now.header.now frame.now.columns (own_after frame.now.header.now frame.now.columns frame.now.records.now.modes.records n self.old.reads_own self.old.own) n (Some mode.now) }
-        ensures own_some { 0 < length self.new.own.readers }
-        ensures own_above { length self.new.own.above ≡ frame.now.columns }
-        ensures alike { self.new.reads_own ≡ false → AreAlike self.new.marked (token_state frame.now.header.now frame.now.columns self.new.own frame.now.records.now.modes.records (n + 1)) }
+        ensures own { own_after frame.now.header.now frame.now.columns frame.now.records.now.modes.records (n + 1) self.new ≡ state_after frame.now.header.now frame.now.columns (own_after frame.now.header.now frame.now.columns frame.now.records.now.modes.records n self.old) n (Some mode.now) }
+        ensures after { IsAfter frame.now.header.now frame.now.columns frame.now.records.now.modes.records (n + 1) self.new }
     {
         let header = frame.header;
         let row = n / frame.columns;
@@ -160,11 +144,8 @@ fn write_macroblocks<W: Write>(
     walk: &mut Walk,
 ) -> Result<(), WriteFault>
     requires columns { 0 < frame.now.columns }
-    requires odds { walk.old.odds ≡ frame.now.header.now.context.probabilities.coefficients }
-    requires some { 0 < length walk.old.own.readers }
-    requires above { length walk.old.own.above ≡ frame.now.columns }
-    requires alike { AreAlike walk.old.marked walk.old.own }
-    requires start { walk.old.reads_own ≡ false }
+    requires start { IsAfter frame.now.header.now frame.now.columns frame.now.records.now.modes.records 0 walk.old }
+    requires own { walk.old.reads_own ≡ false }
     ensures { OnOk result (Appends (W.contents w.old) (W.contents w.new) (texts_of target.form target.place frame.now.header.now frame.now.columns walk.old.own walk.old.marked frame.now.records.now.modes.records frame.now.records.now.facts.items)) }
 {
     let records = frame.records.modes.records();

@@ -1,26 +1,27 @@
-use Rattle.std.proofs.Common.{◌≡◌, List, map, ap, subst, sym, ◌∙◌, replicate}
+use Rattle.std.proofs.Common.{◌≡◌, ℕ, ◌<◌, List, length, map, ap, subst, ◌∙◌, replicate}
 use Rattle.std.specs.Io.KnownBytes.{Appends}
 use Rattle.bool_coder.specs.Reader.{Reader, started}
 use Rattle.frame_header.specs.declared.places.Place.{Place}
 use Rattle.reference_frames.specs.FrameTokens.{TokenState, outside, tokens_start}
 use Rattle.macroblock_lists.specs.PartitionEnds.{marked_start, marked_text, zeros_for}
-use Rattle.macroblock_lists.specs.Walks.{AreAlike}
 use Rattle.macroblock_lists.proofs.MarkedPartitions.{marked_readers}
-use Rattle.macroblock_lists.proofs.Walks.{starts-alike}
+use Rattle.macroblock_lists.proofs.Walks.{walk-start}
 use Rattle.macroblock_lists.specs.Frames.{texts_of}
 use Rattle.macroblock_lists.proofs.frames.write_frame.Goals as goal
 
-pub write_macroblocks-requires-clause-alike : goal.write_macroblocks-requires-clause-alike
-write_macroblocks-requires-clause-alike g c =
+pub write_macroblocks-requires-clause-start : goal.write_macroblocks-requires-clause-start
+write_macroblocks-requires-clause-start g c =
     let places : List Place = c.as_slice-partitions.result.now in
-    let columns = c.args.frame.now.columns in
-    let zeros = c.zeros_for.result in
-    let readers : map (λ text. started text.items) c.deref.result.now ≡ map (λ place. started (marked_text zeros c.args.packet.now place)) places =
-    ap (λ texts. map (λ text. started text.items) texts) c.deref.ensures.value ∙ marked_readers (λ text. text.items) zeros c.args.packet.now c.in_ok-texts.texts.items places c.in_ok-texts.ensures in
+    let packet : List ℕ = c.args.packet.now in
+    let columns : ℕ = c.args.frame.now.columns in
+    let zeros : ℕ = c.zeros_for.result in
+    let readers : map (λ text. started text.items) c.deref.result.now ≡ map (λ place. started (marked_text zeros packet place)) places =
+    ap (λ texts. map (λ text. started text.items) texts) c.deref.ensures.value ∙ marked_readers (λ text. text.items) zeros packet c.in_ok-texts.texts.items places c.in_ok-texts.ensures in
     let state : List Reader → TokenState = λ rs. record { readers = rs; above = replicate columns outside; left = outside } in
-    let marked_are : c.in_ok-marked.marked ≡ marked_start zeros places c.args.packet.now columns = c.in_ok-marked.ensures ∙ ap state readers in
-    subst (λ (b : TokenState). AreAlike b c.in_ok-own.own) (sym marked_are)
-    (subst (λ (a : TokenState). AreAlike (marked_start zeros places c.args.packet.now columns) a) (sym c.in_ok-own.ensures) (starts-alike zeros places c.args.packet.now columns))
+    let marked_is : c.in_ok-marked.marked ≡ marked_start zeros places packet columns = c.in_ok-marked.ensures ∙ ap state readers in
+    let own_is : c.in_ok-own.own ≡ tokens_start places packet columns = c.in_ok-own.ensures in
+    let some : 0 < length places = rw c.as_slice-partitions.ensures.value c.requires.some in
+    walk-start c.args.frame.now.header.now columns zeros c.args.frame.now.records.now.modes.records places packet _ some c.of.ensures marked_is own_is
 
 pub returns-clause-written : goal.returns-clause-written
 returns-clause-written g c =
