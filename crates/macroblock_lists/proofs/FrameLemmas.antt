@@ -1,6 +1,5 @@
 -- The macroblocks of a frame.
-use Rattle.std.proofs.Common.{◌≡◌, ℕ, ◌+◌, ◌*◌, ◌/◌, ◌%◌, ◌<◌, List, Some, slice_get, refl}
-use Rattle.std.proofs.lemmas.Nat.{div-mul-add, mod-mul-add}
+use Rattle.std.proofs.Common.{◌≡◌, ℕ, ◌/◌, ◌%◌, List, Some, slice_get, refl}
 use Rattle.frame_header.specs.declared.header.Header.{Header}
 use Rattle.mode_parser.specs.declared.records.MbMode.{MbMode}
 use Rattle.mode_parser.specs.declared.record_facts.RecordFacts.{RecordFacts}
@@ -11,12 +10,8 @@ use Rattle.macroblock_lists.specs.Macroblocks.{macroblock_of}
 use Rattle.macroblock_lists.specs.Records.{facts_in}
 
 -- the text of the macroblock after those before it
-pub text_here : (form : Form) (packet : ℕ) (header : Header) (columns mx my n : ℕ) (start marked old old_marked : TokenState) (modes : List MbMode) (facts : List RecordFacts) (mode : MbMode)
+pub text_here : (form : Form) (packet : ℕ) (header : Header) (columns n : ℕ) (start marked old old_marked : TokenState) (modes : List MbMode) (facts : List RecordFacts) (mode : MbMode)
     → slice_get modes n ≡ Some mode → old ≡ token_state header columns start modes n → old_marked ≡ token_state header columns marked modes n
-    → my * columns + mx ≡ n → mx < columns
-    → macroblock_text form packet (macroblock_of header mx my old old_marked mode (facts_in facts n)) ≡ text_at form packet header columns start marked modes facts n
+    → macroblock_text form packet (macroblock_of header (n % columns) (n / columns) old old_marked mode (facts_in facts n)) ≡ text_at form packet header columns start marked modes facts n
 unfolding text_at
-text_here form packet header columns mx my n start marked old old_marked modes facts mode found so_far marked_so_far place in_row =
-    let column : n % columns ≡ mx = rw (← place) (mod-mul-add my columns mx in_row) in
-    let row : n / columns ≡ my = rw (← place) (div-mul-add my columns mx in_row) in
-    rw (found, column, row, ← so_far, ← marked_so_far) refl
+text_here form packet header columns n start marked old old_marked modes facts mode found so_far marked_so_far = rw (found, ← so_far, ← marked_so_far) refl

@@ -5,6 +5,7 @@ pub mod Fronts
 pub mod KnownOfStates
 pub mod MarkedPartitions
 pub mod Loops
+pub mod Walks
 pub mod PacketLemmas
 pub mod Progress
 pub mod Gives

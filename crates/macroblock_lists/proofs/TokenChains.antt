@@ -23,11 +23,11 @@ by-skip : (is_skipped : Bool) (none : Tokens) (some : Reading Tokens) (r : Reade
 by-skip true none some r = refl
 by-skip false none some r = refl
 
-tokens-are : (probs : List ℕ) (state : TokenState) (column row : ℕ) (mode : MbMode) → tokens_at probs state column row mode ≡ mode_tokens probs (flags_at state column) mode (reader_in state (partition_of state row))
+pub tokens-are : (probs : List ℕ) (state : TokenState) (column row : ℕ) (mode : MbMode) → tokens_at probs state column row mode ≡ mode_tokens probs (flags_at state column) mode (reader_in state (partition_of state row))
 unfolding tokens_at
 tokens-are probs state column row mode = by-skip mode.is_skipped _ _ _
 
-mode_tokens-chain : (probs : List ℕ) → ((y2 : Bool) (flags : Tokens) → IsChain (macroblock probs y2 flags)) → (flags : Tokens) (mode : MbMode) → IsChain (mode_tokens probs flags mode)
+pub mode_tokens-chain : (probs : List ℕ) → ((y2 : Bool) (flags : Tokens) → IsChain (macroblock probs y2 flags)) → (flags : Tokens) (mode : MbMode) → IsChain (mode_tokens probs flags mode)
 mode_tokens-chain probs chains flags mode = if-chain mode.is_skipped (give-chain (skipped (has_y2 mode.y_mode) flags)) (chains (has_y2 mode.y_mode) flags)
 
 -- a reader set twice

@@ -15,6 +15,7 @@ pub mod FilterLaws
 pub mod Fronts
 pub mod Frames
 pub mod Texts
+pub mod Walks
 pub mod ChainEnds
 pub mod FirstChains
 pub mod TokenChains

@@ -4,7 +4,6 @@ ghost use Rattle.std.specs.Prelude.{◌≡◌, ◌+◌, ◌*◌, ◌<◌, ◌≤
 ghost use Rattle.std.specs.Option.{option_copied, option_map};
 ghost use Rattle.bool_coder.specs.Reader.{started};
 ghost use Rattle.frame_header.specs.Tags.{has_key_tag};
-ghost use Rattle.reference_frames.specs.FrameTokens.{token_state};
 ghost use Rattle.macroblock_lists.specs.Known.{frame_modes, header_after, known_before, known_by, left_at, progress_after, step_of};
 ghost use Rattle.macroblock_lists.specs.PartitionEnds.{bytes_past, bytes_unread, end_of, ends_before, first_partition_end as first_partition_end_of, frame_ends, frame_token_ends, no_ends, partition_ends_of, token_ends, zeros_for};
 
@@ -18,7 +17,6 @@ use mode_parser::Records;
 use pixel_planes::{NoMemory, macroblocks};
 use state_cache::Broken;
 use std::alloc::Global;
-use token_parser::Rows;
 use vp8_tables::Tables;
 
 /// Where decoding ends in a partition: past its end, or before it, or just at it.
@@ -111,28 +109,6 @@ fn end_of(zeros: usize, size: usize, left: u128) -> PartitionEnd
     }
 }
 
-/// Reads the tokens of the macroblocks with these records, in raster order.
-fn read_tokens(tokens: &mut FrameTokens, header: &Header, columns: usize, modes: &Records)
-    requires columns { 0 < columns }
-    requires some { 0 < length tokens.old.readers }
-    requires above { length tokens.old.above ≡ columns }
-    ensures value { tokens.new ≡ token_state header.now columns tokens.old modes.now (length modes.now) }
-    ensures count { length tokens.new.readers ≡ length tokens.old.readers }
-{
-    let odds = Rows::of(&header.context.probabilities.coefficients);
-    let mut mx = 0;
-    let mut my = 0;
-    for n in 0..modes.len() {
-        let mode = modes.at(n).mode();
-        tokens.read(&odds, mx, my, &mode);
-        mx += 1;
-        if mx == columns {
-            mx = 0;
-            my += 1;
-        }
-    }
-}
-
 /// Where reading ended in each token partition.
 fn token_ends(zeros: usize, partitions: &[Place], tokens: &FrameTokens) -> ArrayVec<PartitionEnd, 8>
     requires zeros { zeros ≤ 4194368 }
@@ -166,7 +142,7 @@ fn frame_token_ends(
     let partitions = header.partitions.as_slice();
     let texts = marked_texts(alloc, zeros, packet, partitions)?;
     let mut tokens = FrameTokens::over_texts(alloc, &texts, columns)?;
-    read_tokens(&mut tokens, header, columns, modes);
+    tokens.read_first(header, columns, modes, modes.len());
     Ok(token_ends(zeros, partitions, &tokens))
 }
 

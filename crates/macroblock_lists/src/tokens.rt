@@ -3,14 +3,15 @@
 ghost use Rattle.std.specs.Prelude.{◌≡◌, ◌+◌, ◌%◌, ◌<◌, ◌≤◌, [], length, map, replicate, slice_index_or, All, IfOk};
 ghost use Rattle.bool_coder.specs.Reader.{started};
 ghost use Rattle.bool_coder.specs.Taken.{marked};
-ghost use Rattle.reference_frames.specs.FrameTokens.{flag_with, has_y2 as has_y2_of, outside, partition_of, reader_of, state_with, tokens_at, tokens_start};
+ghost use Rattle.reference_frames.specs.FrameTokens.{flag_with, outside, partition_of, state_with, token_state, tokens_at, tokens_start};
 ghost use Rattle.macroblock_lists.specs.PartitionEnds.{marked_start, marked_text};
 ghost use Rattle.macroblock_lists.specs.Macroblocks.{left_at};
 
 use bool_coder::Decoder;
-use frame_header::Place;
-use mode_parser::{MbMode, VectorMode, YMode};
+use frame_header::{Header, Place};
+use mode_parser::{MbMode, Records};
 use pixel_planes::NoMemory;
+use reference_frames::{has_y2, partition_readers};
 use std::alloc::Global;
 use std::marker::Model;
 use token_parser::{Rows, Tokens, read_macroblock, skip_macroblock};
@@ -33,18 +34,6 @@ impl<'a> Model for FrameTokens<'a> {
     ghost view = { λ t. record { readers = t.readers.items; above = t.above.items; left = t.left } };
 }
 
-/// Whether a macroblock has a block Y2 (RFC 6386, section 13).
-fn has_y2(mode: &MbMode) -> bool
-    ensures { result ≡ has_y2_of mode.now.y_mode }
-{
-    match mode.y_mode {
-        YMode::Whole(_) => true,
-        YMode::B => false,
-        YMode::Inter(_, VectorMode::Split) => false,
-        YMode::Inter(..) => true,
-    }
-}
-
 /// Whether a block of a macroblock has a token.
 pub(crate) fn flag_with(mode: &MbMode, tokens: &Tokens) -> bool
     ensures { result ≡ flag_with mode.now tokens.now }
@@ -52,7 +41,7 @@ pub(crate) fn flag_with(mode: &MbMode, tokens: &Tokens) -> bool
     if mode.is_skipped {
         false
     } else {
-        tokens.has_tokens(has_y2(mode))
+        tokens.has_tokens(has_y2(mode.y_mode))
     }
 }
 
@@ -93,23 +82,6 @@ fn readers_of<'a>(alloc: Global, texts: &'a [Vec<u8>]) -> Result<Vec<Decoder<'a>
     let mut readers = Vec::with_capacity(alloc, texts.len())?;
     for text in texts {
         readers.push(Decoder::new(text.as_slice()))?;
-    }
-    Ok(readers)
-}
-
-/// The readers of the token partitions of a packet.
-fn partition_readers<'a>(
-    alloc: Global,
-    packet: &'a [u8],
-    partitions: &[Place],
-) -> Result<Vec<Decoder<'a>>, NoMemory>
-    requires { All (λ place. place.start + place.length ≤ length packet.now) partitions.now }
-    ensures { IfOk result (λ readers. readers.items ≡ map (reader_of packet.now) partitions.now) }
-{
-    let mut readers = Vec::with_capacity(alloc, partitions.len())?;
-    for place in partitions {
-        let end = place.start + place.length;
-        readers.push(Decoder::new(&packet[place.start..end]))?;
     }
     Ok(readers)
 }
@@ -185,7 +157,7 @@ impl<'a> FrameTokens<'a> {
         let mut tokens = Tokens::new();
         tokens.above = self.above[mx];
         tokens.left = if mx == 0 { [false; 9] } else { self.left };
-        let has_y2 = has_y2(mode);
+        let has_y2 = has_y2(mode.y_mode);
         if mode.is_skipped {
             skip_macroblock(has_y2, &mut tokens);
         } else {
@@ -194,5 +166,28 @@ impl<'a> FrameTokens<'a> {
         self.above[mx] = tokens.above;
         self.left = tokens.left;
         tokens
+    }
+
+    /// Reads the tokens of the first `count` of the macroblocks with these records, in raster order, in a frame of so many columns.
+    pub(crate) fn read_first(
+        &mut self,
+        header: &Header,
+        columns: usize,
+        records: &Records,
+        count: usize,
+    )
+        requires columns { 0 < columns }
+        requires some { 0 < length self.old.readers }
+        requires above { length self.old.above ≡ columns }
+        requires count { count ≤ length records.now }
+        ensures value { self.new ≡ token_state header.now columns self.old records.now count }
+        ensures readers { length self.new.readers ≡ length self.old.readers }
+        ensures above { length self.new.above ≡ columns }
+    {
+        let odds = Rows::of(&header.context.probabilities.coefficients);
+        for n in 0..count {
+            let mode = records.at(n).mode();
+            self.read(&odds, n % columns, n / columns, &mode);
+        }
     }
 }
