@@ -210,7 +210,8 @@ impl Session {
 
     /// Chooses the source on which edits act from now on, and returns the number of its packets.
     ///
-    /// Refused as `Source` if there is no such source: the current one remains then.
+    /// Refused as `Source` if there is no such source: the current one remains then. What questions found is kept up to the choice
+    /// of another source.
     pub fn choose(&mut self, source: u64) -> Result<u64, Refusal>
         ensures returned { result ≡ choice_answer self.old.state source }
         ensures after { self.new ≡ record self.old { state = now_after_choice source self.old.state } }
@@ -218,8 +219,10 @@ impl Session {
         if source >= self.stores.len() as u64 {
             return Err(Refusal::Source);
         }
-        self.current = source as usize;
-        self.lister = Lister::new(self.alloc);
+        if source as usize != self.current {
+            self.current = source as usize;
+            self.lister = Lister::new(self.alloc);
+        }
         Ok(self.stores[self.current].len() as u64)
     }
 

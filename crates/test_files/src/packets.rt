@@ -1,3 +1,4 @@
+use frame_header::is_shown;
 use packet_edits::{EditFault, Store};
 use packet_times::usual_duration;
 use pixel_planes::NoMemory;
@@ -121,6 +122,20 @@ fn shows(store: &Store, places: &[usize]) -> bool {
         && store.shown(LAST).is_none()
 }
 
+/// Whether the number of shown packets before each index is that of the packets whose bytes say so.
+fn counts_shown(store: &Store) -> bool {
+    let mut shown = 0_usize;
+    for at in 0..store.len() {
+        if store.shown_before(at) != shown {
+            return false;
+        }
+        if is_shown(store.packet(at)) {
+            shown = shown.saturating_add(1);
+        }
+    }
+    store.shown_before(store.len()) == shown && store.shown_before(usize::MAX) == shown
+}
+
 /// Makes an edit. Copies of other packets are those of `other`.
 fn make(alloc: Global, store: &mut Store, other: &Store, edit: Edit) -> Result<(), EditFault> {
     match edit {
@@ -185,6 +200,7 @@ fn expect_steps<R: Abort>(rt: &R, alloc: Global, store: &mut Store, other: &Stor
 fn expect_packets<R: Abort>(rt: &R, store: &Store, step: &Step) {
     assert!(rt; holds(store, step.rows), "packets after {:?}", step.edit);
     assert!(rt; shows(store, step.shown), "shown after {:?}", step.edit);
+    assert!(rt; counts_shown(store), "counts after {:?}", step.edit);
     assert!(rt; marks(store, step.marked), "marked after {:?}", step.edit);
 }
 
@@ -214,7 +230,7 @@ enum Check {
     Found(&'static [(Edit, &'static [usize])]),
     /// The number of packets, and exactly the marked ones.
     Left(usize, &'static [usize]),
-    /// How many packets are shown, and the index of the shown packet with each number.
+    /// How many packets are shown, and the index of the shown packet with each number up to that.
     Shown(usize, &'static [(u64, Option<usize>)]),
     /// The last packet with a key tag before each index.
     LastKeys(&'static [(usize, Option<usize>)]),
@@ -849,6 +865,8 @@ fn expect_shown<R: Abort>(rt: &R, store: &Store, count: usize, cases: &[(u64, Op
     assert!(rt; store.frames() == count);
     for (number, place) in cases {
         assert!(rt; store.shown(*number) == *place, "{number}");
+        let at = place.unwrap_or(usize::MAX);
+        assert!(rt; store.shown_before(at) as u64 == *number, "{number}");
     }
 }
 
