@@ -239,7 +239,14 @@ fn write_packets<W: Write>(
     } = wanted;
     let progress = write_all_but_last(w, alloc, tables, wanted, progress, packets)?;
     let place = first + (count - 1);
-    write_last(w, alloc, tables, Target { what, form, place }, &progress, packets)
+    write_last(
+        w,
+        alloc,
+        tables,
+        Target { what, form, place },
+        &progress,
+        packets,
+    )
 }
 
 /// Writes the macroblocks of packets, each after a comment with its header, or the headers alone.

@@ -106,7 +106,14 @@ fn write_own<W: Write>(
         }
     };
     let records = read_own(alloc, tables, &header, known, marked)?;
-    write_commented(w, alloc, tables, target, packet, &frame_of(&header, known, &records))?;
+    write_commented(
+        w,
+        alloc,
+        tables,
+        target,
+        packet,
+        &frame_of(&header, known, &records),
+    )?;
     Ok(Ok(known_after(&header, records.modes, known)))
 }
 
@@ -138,7 +145,14 @@ fn write_macroblocks<W: Write>(
         return write_own(w, alloc, tables, target, known, packet, &records.facts);
     }
     prove_read(tables, known);
-    write_commented(w, alloc, tables, target, packet, &frame_of(&header, known, &records))?;
+    write_commented(
+        w,
+        alloc,
+        tables,
+        target,
+        packet,
+        &frame_of(&header, known, &records),
+    )?;
     Ok(Ok(known_after(&header, records.modes, known)))
 }
 
