@@ -1,16 +1,18 @@
 -- For proofs only: what the contracts of private functions cite. No public contract depends on this file.
-use Rattle.std.specs.Prelude.{◌≡◌, ℕ, ◌<◌, List, map, unwrap_or, Option, Some, None, Ok}
+use Rattle.std.specs.Prelude.{◌≡◌, ℕ, ◌<◌, List, false, map, slice_get, unwrap_or, Option, Some, None, Ok}
 use Rattle.bool_coder.specs.Reader.{Reader}
 use Rattle.vp8_tables.specs.Tables.{TableEntries}
 use Rattle.frame_header.specs.Header.{first_partition, header_over}
-use Rattle.frame_header.specs.Tags.{key_size_of}
+use Rattle.frame_header.specs.Tags.{has_key_tag, key_size_of}
 use Rattle.frame_header.specs.declared.header.Header.{Header}
 use Rattle.frame_header.specs.declared.places.Place.{Place}
-use Rattle.macroblock_lists.specs.Known.{Known, frame_modes, header_after, known_before}
+use Rattle.macroblock_lists.specs.Known.{Known, Progress, frame_modes, header_after, known_before}
 use Rattle.pixel_planes.specs.Pictures.{macroblocks}
 use Rattle.macroblock_lists.specs.PartitionEnds.{marked_text, zeros_for}
 use Rattle.macroblock_lists.specs.Records.{own_facts}
 use Rattle.macroblock_lists.specs.FirstChains.{context_in}
+use Rattle.macroblock_lists.specs.Texts.{progress_before}
+use Rattle.stream_files.specs.declared.packets.Packet.{Packet}
 
 -- a header that was read over another text is that of the packet with another reader, and the records after both are the same
 pub record IsRead (tables : TableEntries) (known : Option Known) (packet : List ℕ) (over : Header) : Type 0 where
@@ -34,3 +36,7 @@ size_before packet (Some known) = (known.width, known.height)
 -- and how many zeros are put after its partitions
 abbrev pub zeros_before : List ℕ → Option Known → ℕ
 zeros_before packet before = zeros_for (macroblocks (size_before packet before).0) (macroblocks (size_before packet before).1)
+
+-- what is enough before the packet at an index: what is known there, or anything before a packet with a key tag
+abbrev pub IsEnough : TableEntries → List Packet → ℕ → Progress → Type 0
+IsEnough tables packets place progress = (packet : Packet) → slice_get packets place ≡ Some packet → has_key_tag packet.bytes ≡ false → progress ≡ progress_before tables packets place

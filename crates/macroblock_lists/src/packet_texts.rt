@@ -91,8 +91,8 @@ fn write_own<W: Write>(
     packet: &[u8],
     marked: &[RecordFacts],
 ) -> Result<Result<Known, Cause>, ListFault>
-    requires known { known_before packet.now (option_copied known.entry) ≡ option_copied known.entry }
-    requires marked { (header : Header) → header_after tables.now (option_copied known.entry) packet.now ≡ Ok header → marked.now ≡ marked_facts tables.now (zeros_of (option_copied known.entry) packet.now header) packet.now (option_copied known.entry) }
+    requires known { known_before packet.now (option_copied known) ≡ option_copied known }
+    requires marked { (header : Header) → header_after tables.now (option_copied known) packet.now ≡ Ok header → marked.now ≡ marked_facts tables.now (zeros_of (option_copied known) packet.now header) packet.now (option_copied known) }
     ensures written { OnOk result (Appends (W.contents w.old) (W.contents w.new) (text_by What.Macroblocks target.form target.place tables.now packet.now (option_copied known.entry) (header_after tables.now (option_copied known.entry) packet.now))) }
     ensures early { IfErr result (IsListEnd (text_by What.Macroblocks target.form target.place tables.now packet.now (option_copied known.entry) (header_after tables.now (option_copied known.entry) packet.now)) (W.contents w.old) (W.contents w.new)) }
     ensures after { IfOk result (λ after. after ≡ known_by tables.now (option_copied known.entry) (header_after tables.now (option_copied known.entry) packet.now)) }
@@ -130,7 +130,7 @@ fn write_macroblocks<W: Write>(
     known: Option<&Known>,
     packet: &[u8],
 ) -> Result<Result<Known, Cause>, ListFault>
-    requires known { known_before packet.now (option_copied known.entry) ≡ option_copied known.entry }
+    requires known { known_before packet.now (option_copied known) ≡ option_copied known }
     ensures written { OnOk result (Appends (W.contents w.old) (W.contents w.new) (text_by What.Macroblocks target.form target.place tables.now packet.now (option_copied known.entry) (header_after tables.now (option_copied known.entry) packet.now))) }
     ensures early { IfErr result (IsListEnd (text_by What.Macroblocks target.form target.place tables.now packet.now (option_copied known.entry) (header_after tables.now (option_copied known.entry) packet.now)) (W.contents w.old) (W.contents w.new)) }
     ensures after { IfOk result (λ after. after ≡ known_by tables.now (option_copied known.entry) (header_after tables.now (option_copied known.entry) packet.now)) }
@@ -165,12 +165,12 @@ fn write_whole_header<'p, W: Write>(
     known: Option<&Known>,
     packet: &'p [u8],
 ) -> Result<Result<Header<'p>, Cause>, WriteFault>
-    requires known { known_before packet.now (option_copied known.entry) ≡ option_copied known.entry }
+    requires known { known_before packet.now (option_copied known) ≡ option_copied known }
     ensures written { OnOk result (Appends (W.contents w.old) (W.contents w.new) (text_by What.Header target.form target.place tables.now packet.now (option_copied known.entry) (header_after tables.now (option_copied known.entry) packet.now))) }
     ensures header { IfOk result (λ read. read ≡ header_after tables.now (option_copied known.entry) packet.now) }
-    ensures following { IfOk result (IfOk (λ header. header.is_key ≡ false → IsSome known)) }
-    ensures wide { IfOk result (IfOk (λ header. IsTrue header.is_key → (1 ≤ header.width) × (header.width ≤ 16383))) }
-    ensures high { IfOk result (IfOk (λ header. IsTrue header.is_key → (1 ≤ header.height) × (header.height ≤ 16383))) }
+    ensures following { IfOk result (λ read. IfOk read (λ header. header.is_key ≡ false → IsSome (option_copied known.entry))) }
+    ensures wide { IfOk result (λ read. IfOk read (λ header. IsTrue header.is_key → (1 ≤ header.width) × (header.width ≤ 16383))) }
+    ensures high { IfOk result (λ read. IfOk read (λ header. IsTrue header.is_key → (1 ≤ header.height) × (header.height ≤ 16383))) }
 {
     let Target { form, place, .. } = target;
     let header = match read_header(tables, context_of(known), packet) {
@@ -195,16 +195,16 @@ fn write_coded<W: Write>(
     known: Option<&Known>,
     packet: &[u8],
 ) -> Result<(), ListFault>
-    requires known { known_before packet.now (option_copied known.entry) ≡ option_copied known.entry }
+    requires known { known_before packet.now (option_copied known) ≡ option_copied known }
     ensures written { OnOk result (Appends (W.contents w.old) (W.contents w.new) (text_by target.what target.form target.place tables.now packet.now (option_copied known.entry) (header_after tables.now (option_copied known.entry) packet.now))) }
     ensures early { IfErr result (IsListEnd (text_by target.what target.form target.place tables.now packet.now (option_copied known.entry) (header_after tables.now (option_copied known.entry) packet.now)) (W.contents w.old) (W.contents w.new)) }
 {
     match target.what {
         What::Macroblocks => {
-            write_macroblocks(w, alloc, tables, target, known, packet)?;
+            let _after = write_macroblocks(w, alloc, tables, target, known, packet)?;
         }
         What::Header => {
-            write_whole_header(w, tables, target, known, packet)?;
+            let _header = write_whole_header(w, tables, target, known, packet)?;
         }
     }
     Ok(())
@@ -220,7 +220,7 @@ fn write_coded_step<W: Write>(
     known: Option<&Known>,
     packet: &[u8],
 ) -> Result<Result<Known, Cause>, ListFault>
-    requires known { known_before packet.now (option_copied known.entry) ≡ option_copied known.entry }
+    requires known { known_before packet.now (option_copied known) ≡ option_copied known }
     ensures written { OnOk result (Appends (W.contents w.old) (W.contents w.new) (text_by target.what target.form target.place tables.now packet.now (option_copied known.entry) (header_after tables.now (option_copied known.entry) packet.now))) }
     ensures early { IfErr result (IsListEnd (text_by target.what target.form target.place tables.now packet.now (option_copied known.entry) (header_after tables.now (option_copied known.entry) packet.now)) (W.contents w.old) (W.contents w.new)) }
     ensures after { IfOk result (λ after. after ≡ known_by tables.now (option_copied known.entry) (header_after tables.now (option_copied known.entry) packet.now)) }
@@ -245,7 +245,7 @@ fn write_known<W: Write>(
     known: Option<&Known>,
     packet: &[u8],
 ) -> Result<(), ListFault>
-    requires known { known_before packet.now (option_copied known.entry) ≡ option_copied known.entry }
+    requires known { known_before packet.now (option_copied known) ≡ option_copied known }
     ensures written { OnOk result (Appends (W.contents w.old) (W.contents w.new) (known_text target.what target.form target.place tables.now (option_copied known.entry) packet.now)) }
     ensures early { IfErr result (IsListEnd (known_text target.what target.form target.place tables.now (option_copied known.entry) packet.now) (W.contents w.old) (W.contents w.new)) }
 {
