@@ -42,7 +42,7 @@ renewed-none (suc fuel) r none =
       | inr large ↦ rw (le-ltb r.range 128 large) none
     ]
 
-read-none : (prob : ℕ) (r : Reader) (bit : Bool) → nat_le (split_of prob r.range) r.d ≡ bit → r.rest ≡ [] → (read prob r).1.rest ≡ []
+pub read-none : (prob : ℕ) (r : Reader) (bit : Bool) → nat_le (split_of prob r.range) r.d ≡ bit → r.rest ≡ [] → (read prob r).1.rest ≡ []
 unfolding read
 read-none prob r true is none = rw is (renewed-none 7 (record r { d = r.d - split_of prob r.range; range = r.range - split_of prob r.range }) none)
 read-none prob r false is none = rw is (renewed-none 7 (record r { range = split_of prob r.range }) none)
@@ -58,7 +58,7 @@ run-none (ask prob zeros ones) r none =
     let here : (read prob r).1.rest ≡ [] = read-none prob r _ refl none in
     branch-none (read prob r).0 (run read zeros (read prob r).1) (run read ones (read prob r).1) (run-none zeros (read prob r).1 here) (run-none ones (read prob r).1 here)
 
-nothing : (rest : List ℕ) → length rest ≡ 0 → rest ≡ []
+pub nothing : (rest : List ℕ) → length rest ≡ 0 → rest ≡ []
 nothing [] is = refl
 nothing (bit ∷ rest) is = absurd (omega arith)
 

@@ -72,18 +72,18 @@ of_small (Some prob) is = ltb-true prob 256 is
 both : (a b : Bool) → a ≡ true → b ≡ true → a && b ≡ true
 both a b p q = rw (p, q) refl
 
-has_bytes : Header → Bool
+pub has_bytes : Header → Bool
 has_bytes header =
     are_bytes header.segmentation.map_probabilities && (is_small header.skip_probability && (nat_lt header.reference_probabilities.intra 256 && (nat_lt header.reference_probabilities.last 256
     && (nat_lt header.reference_probabilities.golden 256 && (are_bytes header.context.probabilities.y_modes && (are_bytes header.context.probabilities.uv_modes && are_rows header.context.probabilities.vectors))))))
 
-has_them : (tables : TableEntries) (header : Header) → HaveProbabilities tables header → has_bytes header ≡ true
+pub has_them : (tables : TableEntries) (header : Header) → HaveProbabilities tables header → has_bytes header ≡ true
 unfolding has_bytes
 has_them tables header have =
     both _ _ (bytes_are _ have.segments) (both _ _ (small_is _ have.skip) (both _ _ (lt-ltb _ _ have.intra) (both _ _ (lt-ltb _ _ have.last)
     (both _ _ (lt-ltb _ _ have.golden) (both _ _ (bytes_are _ have.y_modes) (both _ _ (bytes_are _ have.uv_modes) (rows_are _ have.vectors)))))))
 
-have_them : (tables : TableEntries) (header : Header) → AreProbabilities tables.key_subs → has_bytes header ≡ true → HaveProbabilities tables header
+pub have_them : (tables : TableEntries) (header : Header) → AreProbabilities tables.key_subs → has_bytes header ≡ true → HaveProbabilities tables header
 unfolding has_bytes
 have_them tables header key_subs has =
     let one = and_parts _ _ has in

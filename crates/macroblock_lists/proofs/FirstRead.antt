@@ -50,11 +50,11 @@ unfolding first_modes mode_at segment_at inter_mode referenced_mode
 modes-alike zero tables header partitions reader columns rows map = refl
 modes-alike (suc place) tables header partitions reader columns rows map = rw (modes-alike place tables header partitions reader columns rows map) refl
 
-width-alike : (before : Option Known) (one other : Header) → one.width ≡ other.width → width_of one before ≡ width_of other before
+pub width-alike : (before : Option Known) (one other : Header) → one.width ≡ other.width → width_of one before ≡ width_of other before
 width-alike None one other is = is
 width-alike (Some state) one other is = refl
 
-height-alike : (before : Option Known) (one other : Header) → one.height ≡ other.height → height_of one before ≡ height_of other before
+pub height-alike : (before : Option Known) (one other : Header) → one.height ≡ other.height → height_of one before ≡ height_of other before
 height-alike None one other is = is
 height-alike (Some state) one other is = refl
 
@@ -259,7 +259,7 @@ pub record IsKnown (tables : TableEntries) (earlier : Option Context) (before : 
       - length (frame_records tables header (first_context tables (has_key_tag packet) earlier) before (n + 1) (started (marked_text blanks packet place))).1.rest
 
 -- of a header that is read of the packet's own partition
-header_over-by : (tables : TableEntries) (earlier : Option Context) (packet text : List ℕ) (start : _) (end : ℕ) → start_of earlier packet ≡ Ok start → first_end start packet ≡ Ok end
+pub header_over-by : (tables : TableEntries) (earlier : Option Context) (packet text : List ℕ) (start : _) (end : ℕ) → start_of earlier packet ≡ Ok start → first_end start packet ≡ Ok end
     → header_over tables earlier packet text ≡ header_from tables (first_context tables (has_key_tag packet) earlier) packet start end text
 unfolding header_over
 header_over-by tables earlier packet text start end start_is end_is = rw (start_is, end_is) refl

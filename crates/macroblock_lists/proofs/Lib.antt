@@ -11,7 +11,11 @@ pub mod Progress
 pub mod Gives
 pub mod FirstChains
 pub mod CountedEnds
+pub mod NoneLeft
 pub mod FirstRead
+pub mod MarkedRead
+pub mod FrameSizes
+pub mod ReadOnce
 pub mod ContextBytes
 pub mod TokenChains
 pub mod PlacesInside

@@ -21,3 +21,4 @@ pub mod FirstChains
 pub mod TokenChains
 pub mod ModeBits
 pub mod TokenBits
+pub mod ProofsOnly

@@ -7,7 +7,7 @@ ghost use Rattle.macroblock_lists.specs.Known.{frame_modes, header_after, height
 
 use frame_header::{Cause, Context, Header, has_key_tag, read_header};
 use mode_parser::{Modes, read_modes};
-use pixel_planes::NoMemory;
+use pixel_planes::{NoMemory, macroblocks};
 use state_cache::Broken;
 use std::alloc::Global;
 use std::marker::Model;
@@ -40,20 +40,19 @@ impl Known {
     {
         &self.context
     }
+
+    /// The size of the frames.
+    pub(crate) fn size(&self) -> (u16, u16)
+        ensures value { result ≡ (self.now.width, self.now.height) }
+        ensures wide { (1 ≤ result.0) × (result.0 ≤ 16383) }
+        ensures high { (1 ≤ result.1) × (result.1 ≤ 16383) }
+    {
+        (self.width, self.height)
+    }
 }
 
 /// What is known before a packet, or where the stream is broken.
 pub type Progress = Result<Option<Known>, Broken>;
-
-/// How many macroblocks cover a shown side of at most 16,383 samples.
-pub(crate) fn macroblocks(side: u16) -> usize
-    requires { side ≤ 16383 }
-    ensures value { result ≡ macroblocks_of side }
-    ensures bound { result ≤ 1024 }
-    ensures some { 0 < side → 0 < result }
-{
-    usize::from(side).div_ceil(16)
-}
 
 /// The context before a packet.
 pub(crate) fn context_of(known: Option<&Known>) -> Option<&Context>
@@ -77,7 +76,7 @@ pub(crate) fn size_of(header: &Header, before: Option<&Known>) -> (u16, u16)
 {
     match before {
         None => (header.width, header.height),
-        Some(before) => (before.width, before.height),
+        Some(before) => before.size(),
     }
 }
 

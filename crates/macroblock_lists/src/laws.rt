@@ -80,7 +80,7 @@ pub fn worked_past_ends()
 {}
 
 /// Every number of a list of bytes is a byte.
-fn prove_bytes(bytes: &[u8])
+pub(crate) fn prove_bytes(bytes: &[u8])
     ensures { AreProbabilities bytes.now }
 {}
 
@@ -102,7 +102,7 @@ fn prove_probabilities(context: &Context)
 }
 
 /// And of the context that is known.
-fn prove_known(known: Option<&Known>)
+pub(crate) fn prove_known(known: Option<&Known>)
     ensures { IfSome (option_copied known.entry) (λ k. AreBytes k.context.probabilities) }
 {
     if let Some(known) = known {

@@ -16,6 +16,7 @@ mod names;
 mod objects;
 mod partition_ends;
 mod parts;
+mod readings;
 mod records;
 mod segment_fields;
 mod texts;

@@ -2,12 +2,11 @@
 
 ghost use Rattle.std.specs.Prelude.{◌≡◌, ◌≤◌, ◌<◌, ◌-◌, length, pos, ◌+ℤ◌, slice_index_or};
 ghost use Rattle.transforms.specs.Factors.{clamped_index, index_of};
-ghost use Rattle.loop_filter.specs.Frames.{has_subblock_modes};
 ghost use Rattle.macroblock_lists.specs.Macroblocks.{filters_inside, level_in_force, limits_in_force};
 
 use frame_header::Header;
-use loop_filter::{Limits, level, limits};
-use mode_parser::{MbMode, Split, VectorMode, YMode};
+use loop_filter::{Limits, has_subblock_modes, level, limits};
+use mode_parser::{MbMode, Split};
 
 /// What a macroblock is made of.
 #[derive(Clone, Copy)]
@@ -91,18 +90,6 @@ pub(crate) fn limits_in_force(header: &Header, level: u8) -> Option<Limits>
         None
     } else {
         Some(limits(level, header.filter.sharpness, header.is_key))
-    }
-}
-
-/// Whether a macroblock is split into blocks with modes or vectors of their own.
-fn has_subblock_modes(mode: YMode) -> bool
-    ensures { result ≡ has_subblock_modes mode }
-{
-    match mode {
-        YMode::Whole(_) => false,
-        YMode::B => true,
-        YMode::Inter(_, VectorMode::Split) => true,
-        YMode::Inter(..) => false,
     }
 }
 

@@ -6,12 +6,12 @@ ghost use Rattle.frame_header.specs.Tags.{has_key_tag};
 ghost use Rattle.macroblock_lists.specs.Known.{frame_modes as frame_modes_of};
 ghost use Rattle.macroblock_lists.specs.Records.{combined as combined_of, facts_in as facts_in_of, frame_facts, marked_facts as marked_facts_of, own_facts as own_facts_of};
 
-use crate::known::{Known, context_of, frame_modes, macroblocks, map_of, size_of};
+use crate::known::{Known, context_of, frame_modes, map_of, size_of};
 use crate::partition_ends::zeros_for;
 use crate::tokens::marked;
 use frame_header::{Header, first_partition, read_header_over};
-use mode_parser::{Modes, RecordFacts, read_record_facts};
-use pixel_planes::NoMemory;
+use mode_parser::{Modes, RecordFacts, read_modes_with_facts};
+use pixel_planes::{NoMemory, macroblocks};
 use std::alloc::Global;
 use vp8_tables::Tables;
 
@@ -39,7 +39,8 @@ fn own_facts(
     let map = map_of(before);
     let columns = macroblocks(width);
     let rows = macroblocks(height);
-    read_record_facts(alloc, tables, header, columns, rows, map)
+    let (_modes, facts) = read_modes_with_facts(alloc, tables, header, columns, rows, map)?;
+    Ok(facts)
 }
 
 /// The facts of records in the first partition with so many zero bytes and a mark after it.

@@ -16,7 +16,7 @@ ghost use Rattle.macroblock_lists.specs.Texts.{broken_text, comment_of, comment_
 use crate::changes::{probabilities_before, write_changes};
 use crate::fields::write_header_fields;
 use crate::frames::{Frame, write_frame};
-use crate::known::{Known, Progress, context_of, macroblocks, size_of};
+use crate::known::{Known, Progress, context_of, size_of};
 use crate::layouts::{Form, Layout, Target, What};
 use crate::listing::ListFault;
 use crate::records::read_records;

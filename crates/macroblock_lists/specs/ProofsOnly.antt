@@ -1,0 +1,41 @@
+-- For proofs only: what the contracts of private functions cite. No public contract depends on this file.
+use Rattle.std.specs.Prelude.{◌≡◌, ℕ, ◌<◌, List, map, unwrap_or, Option, Some, None, Ok}
+use Rattle.bool_coder.specs.Reader.{Reader}
+use Rattle.vp8_tables.specs.Tables.{TableEntries}
+use Rattle.frame_header.specs.Header.{first_partition, header_over}
+use Rattle.frame_header.specs.Tags.{key_size_of}
+use Rattle.frame_header.specs.declared.header.Header.{Header}
+use Rattle.frame_header.specs.declared.places.Place.{Place}
+use Rattle.macroblock_lists.specs.Known.{Known, frame_modes, header_after, height_of, known_before, width_of}
+use Rattle.macroblock_lists.specs.PartitionEnds.{first_partition_end, marked_text}
+use Rattle.macroblock_lists.specs.Records.{own_facts}
+use Rattle.macroblock_lists.specs.declared.partition_ends.PartitionEnd.{PartitionEnd}
+use Rattle.macroblock_lists.specs.FirstChains.{context_in, zeros_of}
+
+-- a header that was read over another text is that of the packet with another reader, and the records after both are the same
+pub record IsRead (tables : TableEntries) (known : Option Known) (packet : List ℕ) (over : Header) : Type 0 where
+  pub reader : Reader
+  pub header : header_after tables known packet ≡ Ok (record over { reader = reader })
+  pub records : (frame_modes tables (record over { reader = reader }) (known_before packet known)).records ≡ (frame_modes tables over (known_before packet known)).records
+  pub segment_map : (frame_modes tables (record over { reader = reader }) (known_before packet known)).segment_map ≡ (frame_modes tables over (known_before packet known)).segment_map
+  pub splits : map (λ facts. facts.split) (own_facts tables (record over { reader = reader }) (known_before packet known)) ≡ map (λ facts. facts.split) (own_facts tables over (known_before packet known))
+
+-- so it is over the first partition with zeros and a mark after it, if some of these bits are left after the records
+abbrev pub MarkedIsRead : TableEntries → Option Known → Type 0
+MarkedIsRead tables known =
+    (packet : List ℕ) (zeros : ℕ) (place : Place) (over : Header) → first_partition (context_in known) packet ≡ Ok place → header_over tables (context_in known) packet (marked_text zeros packet place) ≡ Ok over →
+    0 < (frame_modes tables over (known_before packet known)).left → IsRead tables known packet over
+
+-- the size of the frame of a packet, before which this is known or nothing, if decoding accepts the packet
+abbrev pub size_before : List ℕ → Option Known → ℕ × ℕ
+size_before packet None = unwrap_or (key_size_of packet) (0, 0)
+size_before packet (Some known) = (known.width, known.height)
+
+-- what is known after a frame with this header and this segment map
+abbrev pub known_with : Header → Option Known → List ℕ → Known
+known_with header before segment_map = record { context = header.context_after; segment_map = segment_map; width = width_of header before; height = height_of header before }
+
+-- where decoding ends in the first partition of a packet, if it accepts the packet
+abbrev pub IsFirstEnd : TableEntries → Option Known → List ℕ → PartitionEnd → Type 0
+IsFirstEnd tables known packet end =
+    (header : Header) → header_after tables known packet ≡ Ok header → first_partition_end tables (zeros_of known packet header) packet (context_in known) (known_before packet known) ≡ end
