@@ -15,6 +15,7 @@ pub mod NoneLeft
 pub mod FirstRead
 pub mod MarkedRead
 pub mod FrameSizes
+pub mod ReadOnce
 pub mod ContextBytes
 pub mod TokenChains
 pub mod PlacesInside

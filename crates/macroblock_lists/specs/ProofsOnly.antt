@@ -6,13 +6,13 @@ use Rattle.frame_header.specs.Header.{first_partition, header_over}
 use Rattle.frame_header.specs.Tags.{has_key_tag, key_size_of}
 use Rattle.frame_header.specs.declared.header.Header.{Header}
 use Rattle.frame_header.specs.declared.places.Place.{Place}
-use Rattle.macroblock_lists.specs.Known.{Known, Progress, frame_modes, header_after, known_before}
-use Rattle.pixel_planes.specs.Pictures.{macroblocks}
-use Rattle.macroblock_lists.specs.PartitionEnds.{marked_text, zeros_for}
-use Rattle.macroblock_lists.specs.Records.{own_facts}
-use Rattle.macroblock_lists.specs.FirstChains.{context_in}
-use Rattle.macroblock_lists.specs.Texts.{progress_before}
 use Rattle.stream_files.specs.declared.packets.Packet.{Packet}
+use Rattle.macroblock_lists.specs.Known.{Known, Progress, frame_modes, header_after, height_of, known_before, width_of}
+use Rattle.macroblock_lists.specs.PartitionEnds.{first_partition_end, marked_text}
+use Rattle.macroblock_lists.specs.Records.{own_facts}
+use Rattle.macroblock_lists.specs.declared.partition_ends.PartitionEnd.{PartitionEnd}
+use Rattle.macroblock_lists.specs.FirstChains.{context_in, zeros_of}
+use Rattle.macroblock_lists.specs.Texts.{progress_before}
 
 -- a header that was read over another text is that of the packet with another reader, and the records after both are the same
 pub record IsRead (tables : TableEntries) (known : Option Known) (packet : List ℕ) (over : Header) : Type 0 where
@@ -33,9 +33,14 @@ abbrev pub size_before : List ℕ → Option Known → ℕ × ℕ
 size_before packet None = unwrap_or (key_size_of packet) (0, 0)
 size_before packet (Some known) = (known.width, known.height)
 
--- and how many zeros are put after its partitions
-abbrev pub zeros_before : List ℕ → Option Known → ℕ
-zeros_before packet before = zeros_for (macroblocks (size_before packet before).0) (macroblocks (size_before packet before).1)
+-- what is known after a frame with this header and this segment map
+abbrev pub known_with : Header → Option Known → List ℕ → Known
+known_with header before segment_map = record { context = header.context_after; segment_map = segment_map; width = width_of header before; height = height_of header before }
+
+-- where decoding ends in the first partition of a packet, if it accepts the packet
+abbrev pub IsFirstEnd : TableEntries → Option Known → List ℕ → PartitionEnd → Type 0
+IsFirstEnd tables known packet end =
+    (header : Header) → header_after tables known packet ≡ Ok header → first_partition_end tables (zeros_of known packet header) packet (context_in known) (known_before packet known) ≡ end
 
 -- what is enough before the packet at an index: what is known there, or anything before a packet with a key tag
 abbrev pub IsEnough : TableEntries → List Packet → ℕ → Progress → Type 0

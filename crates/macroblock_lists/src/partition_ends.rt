@@ -2,18 +2,18 @@
 
 ghost use Rattle.std.specs.Prelude.{◌≡◌, ◌+◌, ◌*◌, ◌<◌, ◌≤◌, [], false, length, All, IfOk, IsSome, IsTrue};
 ghost use Rattle.std.specs.Option.{option_copied, option_map};
-ghost use Rattle.bool_coder.specs.Reader.{started};
 ghost use Rattle.frame_header.specs.Tags.{has_key_tag};
-ghost use Rattle.macroblock_lists.specs.Known.{frame_modes, header_after, known_before, known_by, left_at, progress_after, step_of};
-ghost use Rattle.macroblock_lists.specs.PartitionEnds.{bytes_past, bytes_unread, end_of, ends_before, first_partition_end as first_partition_end_of, frame_ends, frame_token_ends, no_ends, partition_ends_of, token_ends, zeros_for};
+ghost use Rattle.macroblock_lists.specs.FirstChains.{columns_of, rows_of, zeros_of};
+ghost use Rattle.macroblock_lists.specs.Known.{header_after, known_before, known_by, left_at, progress_after, step_of};
+ghost use Rattle.macroblock_lists.specs.PartitionEnds.{bytes_past, bytes_unread, end_of, ends_before, frame_token_ends, no_ends, partition_ends_of, token_ends, zeros_for};
+ghost use Rattle.macroblock_lists.specs.ProofsOnly.{IsFirstEnd, known_with};
 
 use crate::known::{Known, Progress, context_of, frame_modes, known_after, size_of, step};
-use crate::tokens::{FrameTokens, marked, marked_texts};
+use crate::readings::{marked_first, prove_read};
+use crate::tokens::{FrameTokens, marked_texts};
 use arrayvec::ArrayVec;
-use frame_header::{
-    Context, Header, Place, first_partition, has_key_tag, read_header, read_header_over,
-};
-use mode_parser::Records;
+use frame_header::{Header, Place, has_key_tag, read_header, read_header_over};
+use mode_parser::{Modes, Records};
 use pixel_planes::{NoMemory, macroblocks};
 use state_cache::Broken;
 use std::alloc::Global;
@@ -146,65 +146,61 @@ fn frame_token_ends(
     Ok(token_ends(zeros, partitions, &tokens))
 }
 
-/// Where decoding a packet ends in its first partition: after its header, read after this context, and
-/// the modes of its frame, before which this is known.
-#[tactic(auto, unfolding(crate::specs::PartitionEnds::first_partition_end))]
-fn first_partition_end(
-    alloc: Global,
-    tables: &Tables,
-    zeros: usize,
-    packet: &[u8],
-    context: Option<&Context>,
-    before: Option<&Known>,
-) -> Result<PartitionEnd, NoMemory>
-    requires zeros { zeros ≤ 4194368 }
-    requires following { has_key_tag packet.now ≡ false → IsSome before }
-    ensures { IfOk result (λ end. end ≡ first_partition_end_of tables.now zeros packet.now (option_copied context.entry) (option_copied before.entry)) }
-{
-    let Ok(place) = first_partition(context, packet) else {
-        return Ok(NO_END);
-    };
-    let first = &packet[place.start..place.start + place.length];
-    let text = marked(alloc, zeros, first)?;
-    let Ok(header) = read_header_over(tables, context, packet, text.as_slice()) else {
-        return Ok(end_of(zeros, place.length, 0));
-    };
-    let left = frame_modes(alloc, tables, &header, before)?.left();
-    Ok(end_of(zeros, place.length, left))
-}
-
-/// Where decoding a frame with this header and these records ends in each partition, if this was known
-/// before its packet.
+/// Where decoding a frame with this header and these modes ends in each partition, if this was known before its packet and decoding ends
+/// so in the first one; and what is known after the packet.
 fn frame_ends(
     alloc: Global,
-    tables: &Tables,
     packet: &[u8],
     header: &Header,
-    records: &Records,
     known: Option<&Known>,
-) -> Result<PartitionEnds, NoMemory>
+    modes: Modes,
+    first: PartitionEnd,
+) -> Result<(PartitionEnds, Known), NoMemory>
     requires key { header.now.is_key ≡ has_key_tag packet.now }
     requires following { header.now.is_key ≡ false → IsSome known }
     requires wide { IsTrue header.now.is_key → (1 ≤ header.now.width) × (header.now.width ≤ 16383) }
     requires high { IsTrue header.now.is_key → (1 ≤ header.now.height) × (header.now.height ≤ 16383) }
     requires some { 0 < length header.now.partitions.items }
     requires inside { All (λ place. place.start + place.length ≤ length packet.now) header.now.partitions.items }
-    requires records { records.now ≡ (frame_modes tables.now header.now (known_before packet.now (option_copied known))).records }
-    ensures { IfOk result (λ ends. ends ≡ frame_ends tables.now packet.now header.now (option_map (λ k. k.context) (option_copied known.entry)) (known_before packet.now (option_copied known.entry))) }
+    requires segments { length modes.segment_map ≡ columns_of (option_copied known) packet.now header.now * rows_of (option_copied known) packet.now header.now }
+    ensures ends { IfOk result (λ read. read.0 ≡ record { first = first; tokens = record { items = frame_token_ends (zeros_of (option_copied known.entry) packet.now header.now) packet.now header.now (columns_of (option_copied known.entry) packet.now header.now) modes.records } }) }
+    ensures after { IfOk result (λ read. read.1 ≡ known_with header.now (known_before packet.now (option_copied known.entry)) modes.segment_map) }
 {
     let before = if header.is_key { None } else { known };
     let (width, height) = size_of(header, before);
     let columns = macroblocks(width);
     let zeros = zeros_for(columns, macroblocks(height));
-    let context = context_of(known);
-    let first = first_partition_end(alloc, tables, zeros, packet, context, before)?;
-    let tokens = frame_token_ends(alloc, zeros, packet, header, columns, records)?;
-    Ok(PartitionEnds { first, tokens })
+    let tokens = frame_token_ends(alloc, zeros, packet, header, columns, modes.records())?;
+    let ends = PartitionEnds { first, tokens };
+    Ok((ends, known_after(header, modes, before)))
+}
+
+/// Reads a packet with bytes over its own first partition, in which decoding ends so if it accepts the packet: where decoding ends in each
+/// of its partitions, and what is known after it.
+fn read_own(
+    alloc: Global,
+    tables: &Tables,
+    place: usize,
+    known: Option<&Known>,
+    packet: &[u8],
+    first: PartitionEnd,
+) -> Result<(PartitionEnds, Progress), NoMemory>
+    requires first { IsFirstEnd tables.now (option_copied known) packet.now first }
+    ensures ends { IfOk result (λ read. read.0 ≡ partition_ends_of tables.now (option_copied known.entry) packet.now) }
+    ensures after { IfOk result (λ read. read.1 ≡ left_at place (known_by tables.now (known_before packet.now (option_copied known.entry)) (header_after tables.now (option_copied known.entry) packet.now))) }
+{
+    let header = match read_header(tables, context_of(known), packet) {
+        Ok(header) => header,
+        Err(cause) => return Ok((PartitionEnds::none(), Err(Broken { place, cause }))),
+    };
+    let before = if header.is_key { None } else { known };
+    let modes = frame_modes(alloc, tables, &header, before)?;
+    let (ends, after) = frame_ends(alloc, packet, &header, known, modes, first)?;
+    Ok((ends, Ok(Some(after))))
 }
 
 /// Reads a packet with bytes: where decoding ends in each of its partitions, and what is known after
 /// it.
-#[tactic(auto, unfolding(crate::specs::PartitionEnds::partition_ends_of))]
 fn read_coded(
     alloc: Global,
     tables: &Tables,
@@ -215,14 +211,21 @@ fn read_coded(
     ensures ends { IfOk result (λ read. read.0 ≡ partition_ends_of tables.now (option_copied known.entry) packet.now) }
     ensures after { IfOk result (λ read. read.1 ≡ left_at place (known_by tables.now (known_before packet.now (option_copied known.entry)) (header_after tables.now (option_copied known.entry) packet.now))) }
 {
-    let header = match read_header(tables, context_of(known), packet) {
-        Ok(header) => header,
-        Err(cause) => return Ok((PartitionEnds::none(), Err(Broken { place, cause }))),
+    let marked = marked_first(alloc, known, packet)?;
+    let spent = end_of(marked.zeros, marked.size, 0);
+    let text = marked.text.as_slice();
+    let Ok(header) = read_header_over(tables, context_of(known), packet, text) else {
+        return read_own(alloc, tables, place, known, packet, spent);
     };
     let before = if header.is_key { None } else { known };
     let modes = frame_modes(alloc, tables, &header, before)?;
-    let ends = frame_ends(alloc, tables, packet, &header, modes.records(), known)?;
-    Ok((ends, Ok(Some(known_after(&header, modes, before)))))
+    if modes.left() == 0 {
+        return read_own(alloc, tables, place, known, packet, spent);
+    }
+    prove_read(tables, known);
+    let end = end_of(marked.zeros, marked.size, modes.left());
+    let (ends, after) = frame_ends(alloc, packet, &header, known, modes, end)?;
+    Ok((ends, Ok(Some(after))))
 }
 
 /// Reads a packet before which this is known.
@@ -246,9 +249,9 @@ fn read_known(
 /// Reads the packet at index `place` after this progress: where decoding ends in each of its
 /// partitions, and the progress after it. A packet that is refused or lost has no partitions.
 ///
-/// Its header and its modes are read twice, over the packet and over its first partition with zeros
-/// and a mark after it, and its tokens once. No sample is made. `NoMemory` if memory for the modes, a
-/// marked partition, the readers or the flags between macroblocks is refused.
+/// Its header, its modes and its tokens are read once, over its partitions with zeros and a mark after each. Only of a packet that reads
+/// past all the zeros of its first partition, or is refused, the header and the modes are read once more, over the packet itself. No
+/// sample is made. `NoMemory` if memory for the modes, a marked partition, the readers or the flags between macroblocks is refused.
 pub fn read_packet(
     alloc: Global,
     tables: &Tables,

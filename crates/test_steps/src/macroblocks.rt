@@ -53,17 +53,36 @@ const OBJECTS: &str = "\
 {\"packet\":5,\"column\":0,\"row\":0,\"segment\":0,\"skip\":1,\"reference\":\"golden\",\"luma\":\"mv_split\",\"chroma\":null,\"parts\":[[-94,555],[-94,555],[0,0],[0,0],[-94,555],[-94,555],[0,0],[0,0],[-94,555],[-94,555],[0,0],[0,0],[-94,555],[-94,555],[0,0],[0,0]],\"split\":\"mv_left_right\",\"vector\":[0,0],\"quantizer\":17,\"level\":14,\"interior_limit\":5,\"hev_threshold\":0,\"mbedge_limit\":37,\"sub_bedge_limit\":33,\"inner\":1,\"blocks\":\"0000000000000000000000000\",\"coefficients\":0,\"greatest\":0,\"mode_bits\":37,\"token_bits\":0}\n\
 ";
 
-fn packets(alloc: Global) -> Result<Vec<Packet>, Fail> {
+/// A key packet whose token partition is the byte 75, with probabilities at which the zeros after it are many tokens: the third of its four
+/// macroblocks takes in more bits than the 80 zero bytes and the mark have.
+const PAST_PACKET: &str =
+    "b00d009d012a400010000000152d1f7fb3cc2bd02a1363958b9e8568d208adc36a05711b4856fa0c8574857a0557017a060fd2f48340adf6240ae32bd02b948350ae141a0ae90af40a939832b0ae58d862bcc2b9c5798ae815e815d215e815d215e815d215e8141125264538a9fffcf6ae30394b86000075";
+
+/// The objects that the parser finds of it; `token_bits` are as far as the zeros and the mark go.
+const PAST_OBJECTS: &str = "\
+{\"packet\":0,\"column\":0,\"row\":0,\"segment\":0,\"skip\":0,\"reference\":\"intra\",\"luma\":\"B_PRED\",\"chroma\":\"H_PRED\",\"parts\":[\"B_RD_PRED\",\"B_TM_PRED\",\"B_LD_PRED\",\"B_RD_PRED\",\"B_RD_PRED\",\"B_VL_PRED\",\"B_RD_PRED\",\"B_RD_PRED\",\"B_DC_PRED\",\"B_VR_PRED\",\"B_HD_PRED\",\"B_VL_PRED\",\"B_VL_PRED\",\"B_LD_PRED\",\"B_VE_PRED\",\"B_HE_PRED\"],\"split\":null,\"vector\":null,\"quantizer\":10,\"level\":0,\"interior_limit\":null,\"hev_threshold\":null,\"mbedge_limit\":null,\"sub_bedge_limit\":null,\"inner\":0,\"blocks\":\"0001000100000011000000000\",\"coefficients\":11,\"greatest\":2,\"mode_bits\":89,\"token_bits\":54}\n\
+{\"packet\":0,\"column\":1,\"row\":0,\"segment\":0,\"skip\":0,\"reference\":\"intra\",\"luma\":\"V_PRED\",\"chroma\":\"V_PRED\",\"parts\":null,\"split\":null,\"vector\":null,\"quantizer\":10,\"level\":0,\"interior_limit\":null,\"hev_threshold\":null,\"mbedge_limit\":null,\"sub_bedge_limit\":null,\"inner\":0,\"blocks\":\"1111111111111111000000001\",\"coefficients\":127,\"greatest\":2,\"mode_bits\":6,\"token_bits\":390}\n\
+{\"packet\":0,\"column\":2,\"row\":0,\"segment\":0,\"skip\":0,\"reference\":\"intra\",\"luma\":\"H_PRED\",\"chroma\":\"DC_PRED\",\"parts\":null,\"split\":null,\"vector\":null,\"quantizer\":10,\"level\":0,\"interior_limit\":null,\"hev_threshold\":null,\"mbedge_limit\":null,\"sub_bedge_limit\":null,\"inner\":0,\"blocks\":\"1111111111111111000000001\",\"coefficients\":96,\"greatest\":2,\"mode_bits\":4,\"token_bits\":204}\n\
+{\"packet\":0,\"column\":3,\"row\":0,\"segment\":0,\"skip\":0,\"reference\":\"intra\",\"luma\":\"DC_PRED\",\"chroma\":\"H_PRED\",\"parts\":null,\"split\":null,\"vector\":null,\"quantizer\":10,\"level\":0,\"interior_limit\":null,\"hev_threshold\":null,\"mbedge_limit\":null,\"sub_bedge_limit\":null,\"inner\":0,\"blocks\":\"1000000000000000000000001\",\"coefficients\":14,\"greatest\":2,\"mode_bits\":5,\"token_bits\":0}\n\
+";
+
+fn packets(alloc: Global, texts: &[&str]) -> Result<Vec<Packet>, Fail> {
     let mut packets = Vec::new(alloc);
-    for text in PACKETS {
+    for text in texts {
         let bytes = Bytes::new(hex::decode(alloc, text)?);
         packets.push(Packet { stamp: 0, bytes })?;
     }
     Ok(packets)
 }
 
-fn expect_list(rt: &impl Abort, alloc: Global, form: Form, text: &str) -> Result<(), Fail> {
-    let packets = packets(alloc)?;
+fn expect_list(
+    rt: &impl Abort,
+    alloc: Global,
+    form: Form,
+    texts: &[&str],
+    text: &str,
+) -> Result<(), Fail> {
+    let packets = packets(alloc, texts)?;
     let wanted = Wanted {
         what: What::Macroblocks,
         form,
@@ -78,6 +97,11 @@ fn expect_list(rt: &impl Abort, alloc: Global, form: Form, text: &str) -> Result
 
 #[test]
 fn lists_macroblocks(rt: HostRuntime) -> Result<(), Fail> {
-    expect_list(&rt, rt.alloc(), Form::Lines, LINES)?;
-    expect_list(&rt, rt.alloc(), Form::Objects, OBJECTS)
+    expect_list(&rt, rt.alloc(), Form::Lines, &PACKETS, LINES)?;
+    expect_list(&rt, rt.alloc(), Form::Objects, &PACKETS, OBJECTS)
+}
+
+#[test]
+fn lists_macroblocks_past_all_zeros(rt: HostRuntime) -> Result<(), Fail> {
+    expect_list(&rt, rt.alloc(), Form::Objects, &[PAST_PACKET], PAST_OBJECTS)
 }
