@@ -11,9 +11,9 @@ use stream_facts::{Position, end_of_record};
 /// The byte at which the first record of a saved file begins.
 const FIRST_RECORD: usize = 32;
 
-/// How many lengths are added in the time in which a header is read. A position after a key packet costs the lengths of all packets
-/// before it; a known one costs only headers.
-const LENGTHS_PER_HEADER: usize = 20;
+/// About how many lengths are added in the time in which a header is read, by measurement: a position after a key packet costs the
+/// lengths of all packets before it, a known one only headers.
+const LENGTHS_PER_HEADER: usize = 50;
 
 /// The byte at which the record of the packet at index `at` begins in a saved file.
 fn begins_before(store: &Store, at: usize) -> usize
