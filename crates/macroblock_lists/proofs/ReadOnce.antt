@@ -27,7 +27,7 @@ after-alike : (header : Header) (reader : Reader) (columns : ℕ) (state : Token
 after-alike header reader columns state place None = refl
 after-alike header reader columns state place (Some mode) = refl
 
-tokens-alike : (header : Header) (reader : Reader) (columns : ℕ) (start : TokenState) (modes : List MbMode) (n : ℕ) → token_state (with_reader header reader) columns start modes n ≡ token_state header columns start modes n
+pub tokens-alike : (header : Header) (reader : Reader) (columns : ℕ) (start : TokenState) (modes : List MbMode) (n : ℕ) → token_state (with_reader header reader) columns start modes n ≡ token_state header columns start modes n
 unfolding token_state
 tokens-alike header reader columns start modes zero = refl
 tokens-alike header reader columns start modes (suc n) =
@@ -46,7 +46,7 @@ unfolding header_of
 none-ended tables earlier packet header cause start start_is (Ok end) end_is placed accepted = let none = rw (start_is, end_is) at placed in cc
 none-ended tables earlier packet header cause start start_is (Err other) end_is placed accepted = let none = rw (start_is, end_is) at accepted in cc
 
-none-placed : (tables : TableEntries) (earlier : Option Context) (packet : List ℕ) (header : Header) (cause : Cause) (found : Result _ Cause) → start_of earlier packet ≡ found
+pub none-placed : (tables : TableEntries) (earlier : Option Context) (packet : List ℕ) (header : Header) (cause : Cause) (found : Result _ Cause) → start_of earlier packet ≡ found
     → first_partition earlier packet ≡ Err cause → header_of tables earlier packet ≡ Ok header → ⊥
 unfolding header_of
 none-placed tables earlier packet header cause (Ok start) start_is placed accepted = none-ended tables earlier packet header cause start start_is _ refl placed accepted
@@ -58,7 +58,7 @@ unfolding header_over
 none-ended-over tables earlier packet text header cause start start_is (Ok end) end_is placed accepted = let none = rw (start_is, end_is) at placed in cc
 none-ended-over tables earlier packet text header cause start start_is (Err other) end_is placed accepted = let none = rw (start_is, end_is) at accepted in cc
 
-none-over : (tables : TableEntries) (earlier : Option Context) (packet text : List ℕ) (header : Header) (cause : Cause) (found : Result _ Cause) → start_of earlier packet ≡ found
+pub none-over : (tables : TableEntries) (earlier : Option Context) (packet text : List ℕ) (header : Header) (cause : Cause) (found : Result _ Cause) → start_of earlier packet ≡ found
     → first_partition earlier packet ≡ Err cause → header_over tables earlier packet text ≡ Ok header → ⊥
 unfolding header_over
 none-over tables earlier packet text header cause (Ok start) start_is placed accepted = none-ended-over tables earlier packet text header cause start start_is _ refl placed accepted

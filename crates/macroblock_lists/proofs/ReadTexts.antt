@@ -7,13 +7,11 @@ use Rattle.std.proofs.lemmas.List.{ext_get_or, get_or-map, length-map}
 use Rattle.std.proofs.lemmas.List.FromFn.{get_or-map-range_with_len, length-range_with_len}
 use Rattle.bool_coder.specs.Reader.{Reader}
 use Rattle.vp8_tables.specs.Tables.{TableEntries}
-use Rattle.frame_header.specs.Header.{HeadersAreOverTheirOwn, first_end, first_partition, header_of, header_over}
-use Rattle.frame_header.specs.Start.{start_of}
+use Rattle.frame_header.specs.Header.{first_partition, header_of, header_over}
 use Rattle.frame_header.specs.declared.cause.Cause.{Cause}
 use Rattle.frame_header.specs.declared.context.Context.{Context}
 use Rattle.frame_header.specs.declared.header.Header.{Header}
 use Rattle.frame_header.specs.declared.places.Place.{Place}
-use Rattle.frame_header.specs.declared.start.Start.{Start}
 use Rattle.header_bits.specs.Coded.{coded_in}
 use Rattle.header_bits.specs.declared.coded.Coded.{Coded}
 use Rattle.loop_filter.specs.Levels.{level_of}
@@ -21,7 +19,7 @@ use Rattle.mode_parser.specs.declared.record_facts.RecordFacts.{RecordFacts}
 use Rattle.mode_parser.specs.declared.records.MbMode.{MbMode}
 use Rattle.mode_parser.specs.declared.records.Split.{Split}
 use Rattle.pixel_planes.specs.Pictures.{macroblocks}
-use Rattle.reference_frames.specs.FrameTokens.{TokenState, state_after, token_state, tokens_start}
+use Rattle.reference_frames.specs.FrameTokens.{TokenState, token_state, tokens_start}
 use Rattle.macroblock_lists.specs.declared.layouts.Form.{Form}
 use Rattle.macroblock_lists.specs.declared.layouts.Form.TheVariants as forms
 use Rattle.macroblock_lists.specs.declared.layouts.What.TheVariants as what
@@ -29,25 +27,16 @@ use Rattle.macroblock_lists.specs.Fields.{header_fields}
 use Rattle.macroblock_lists.specs.Frames.{text_at, text_by, texts_of}
 use Rattle.macroblock_lists.specs.Known.{Known, frame_modes, header_after, height_of, known_after, known_before, known_by, width_of}
 use Rattle.macroblock_lists.specs.PartitionEnds.{marked_start, marked_text, zeros_for}
-use Rattle.macroblock_lists.specs.ProofsOnly.{IsRead}
+use Rattle.macroblock_lists.specs.ProofsOnly.{IsRead, MarkedIsRead}
 use Rattle.macroblock_lists.specs.Records.{combined, facts_by, facts_in, frame_facts, marked_facts, no_facts, own_facts}
 use Rattle.macroblock_lists.specs.FirstChains.{context_in, zeros_of}
 use Rattle.macroblock_lists.proofs.FirstRead.{height-alike, width-alike}
+use Rattle.macroblock_lists.proofs.ReadOnce.{IsMarked, none-over, none-placed, tokens-alike}
 use Rattle.macroblock_lists.specs.Texts.{comment_of, text_by as packet_by}
 
 -- the texts of macroblocks do not depend on the reader in the header
 abbrev other : Header → Reader → Header
 other header reader = record header { reader = reader }
-
-after-alike : (header : Header) (reader : Reader) (columns : ℕ) (state : TokenState) (place : ℕ) (mode : Option MbMode) → state_after (other header reader) columns state place mode ≡ state_after header columns state place mode
-after-alike header reader columns state place None = refl
-after-alike header reader columns state place (Some mode) = refl
-
-pub tokens-alike : (n : ℕ) (header : Header) (reader : Reader) (columns : ℕ) (start : TokenState) (modes : List MbMode) → token_state (other header reader) columns start modes n ≡ token_state header columns start modes n
-unfolding token_state
-tokens-alike zero header reader columns start modes = refl
-tokens-alike (suc n) header reader columns start modes =
-    rw (tokens-alike n header reader columns start modes) (after-alike header reader columns (token_state header columns start modes n) n (slice_get modes n))
 
 by-alike : (form : Form) (packet : ℕ) (header : Header) (reader : Reader) (columns place : ℕ) (state marked : TokenState) (facts : RecordFacts) (mode : Option MbMode)
     → text_by form packet (other header reader) columns place state marked facts mode ≡ text_by form packet header columns place state marked facts mode
@@ -59,7 +48,7 @@ at-alike : (form : Form) (packet : ℕ) (header : Header) (reader : Reader) (col
     → text_at form packet (other header reader) columns start marked modes facts place ≡ text_at form packet header columns start marked modes facts place
 unfolding text_at
 at-alike form packet header reader columns start marked modes facts place =
-    rw (tokens-alike place header reader columns start modes, tokens-alike place header reader columns marked modes)
+    rw (tokens-alike header reader columns start modes place, tokens-alike header reader columns marked modes place)
     (by-alike form packet header reader columns place (token_state header columns start modes place) (token_state header columns marked modes place) (facts_in facts place) (slice_get modes place))
 
 all-alike : (f g : ℕ → List ℕ) → ((n : ℕ) → f n ≡ g n) → (ns : List ℕ) → flat_map f ns ≡ flat_map g ns
@@ -97,49 +86,55 @@ combined-same own marked same =
     get_or-map-range_with_len at 0 (length own) i i no_facts (rw count at valid) (omega arith)
     ∙ ap (λ (split : Option Split). record { bits = (facts_in marked i).bits; split = split }) (one-combined own marked i same))
 
--- a packet whose header is accepted over some text has a first partition
-place-at : (tables : TableEntries) (earlier : Option Context) (packet text : List ℕ) (header : Header) (start : Start) (end : Result ℕ Cause) → start_of earlier packet ≡ Ok start → first_end start packet ≡ end
-    → header_over tables earlier packet text ≡ Ok header → (place : Place) × (first_partition earlier packet ≡ Ok place)
-unfolding header_over
-place-at tables earlier packet text header start (Ok end) start_is end_is accepted = (record { start = start.place; length = end - start.place }, rw (start_is, end_is) refl)
-place-at tables earlier packet text header start (Err cause) start_is end_is accepted = absurd (let found = rw (start_is, end_is) at accepted in cc)
-
-place-by : (tables : TableEntries) (earlier : Option Context) (packet text : List ℕ) (header : Header) (start : Result Start Cause) → start_of earlier packet ≡ start → header_over tables earlier packet text ≡ Ok header
+-- a packet whose header is accepted has a first partition
+placed-by : (tables : TableEntries) (earlier : Option Context) (packet text : List ℕ) (header : Header) (found : Result Place Cause) → first_partition earlier packet ≡ found → header_over tables earlier packet text ≡ Ok header
     → (place : Place) × (first_partition earlier packet ≡ Ok place)
-unfolding header_over
-place-by tables earlier packet text header (Ok start) is accepted = place-at tables earlier packet text header start (first_end start packet) is refl accepted
-place-by tables earlier packet text header (Err cause) is accepted = absurd (let found = rw is at accepted in cc)
+placed-by tables earlier packet text header (Ok place) is accepted = (place, is)
+placed-by tables earlier packet text header (Err cause) is accepted = absurd (none-over tables earlier packet text header cause _ refl is accepted)
 
 pub placed : (tables : TableEntries) (earlier : Option Context) (packet text : List ℕ) (header : Header) → header_over tables earlier packet text ≡ Ok header → (place : Place) × (first_partition earlier packet ≡ Ok place)
-placed tables earlier packet text header accepted = place-by tables earlier packet text header (start_of earlier packet) refl accepted
+placed tables earlier packet text header accepted = placed-by tables earlier packet text header (first_partition earlier packet) refl accepted
 
-own-by : (tables : TableEntries) (earlier : Option Context) (packet : List ℕ) (header : Header) (place : Result Place Cause) → HeadersAreOverTheirOwn → first_partition earlier packet ≡ place → header_of tables earlier packet ≡ Ok header
+own-by : (tables : TableEntries) (earlier : Option Context) (packet : List ℕ) (header : Header) (found : Result Place Cause) → first_partition earlier packet ≡ found → header_of tables earlier packet ≡ Ok header
     → (place : Place) × (first_partition earlier packet ≡ Ok place)
-own-by tables earlier packet header (Ok place) own is accepted = (place, is)
-own-by tables earlier packet header (Err cause) own is accepted = absurd (let found = sym (own tables earlier packet) ∙ accepted in let none = rw is at found in cc)
+own-by tables earlier packet header (Ok place) is accepted = (place, is)
+own-by tables earlier packet header (Err cause) is accepted = absurd (none-placed tables earlier packet header cause _ refl is accepted)
 
--- a header is also accepted over the packet's own first partition
-pub own-placed : (tables : TableEntries) (earlier : Option Context) (packet : List ℕ) (header : Header) → HeadersAreOverTheirOwn → header_of tables earlier packet ≡ Ok header → (place : Place) × (first_partition earlier packet ≡ Ok place)
-own-placed tables earlier packet header own accepted = own-by tables earlier packet header (first_partition earlier packet) own refl accepted
+pub own-placed : (tables : TableEntries) (earlier : Option Context) (packet : List ℕ) (header : Header) → header_of tables earlier packet ≡ Ok header → (place : Place) × (first_partition earlier packet ≡ Ok place)
+own-placed tables earlier packet header accepted = own-by tables earlier packet header (first_partition earlier packet) refl accepted
 
--- the text of a packet that was read so
-abbrev pub read_text : Form → ℕ → TableEntries → List ℕ → Header → Option Known → List ℕ
-read_text form place tables packet over before =
-    let columns = macroblocks (width_of over before) in
-    let zeros = zeros_for columns (macroblocks (height_of over before)) in
-    comment_of form place over (coded_in tables packet)
-    ++ texts_of form place over columns (tokens_start over.partitions.items packet columns) (marked_start zeros over.partitions.items packet columns) (frame_modes tables over before).records (own_facts tables over before)
+-- the text of a frame with this header and these records
+abbrev pub frame_with : Form → ℕ → TableEntries → List ℕ → Header → ℕ → ℕ → List MbMode → List RecordFacts → List ℕ
+frame_with form at tables packet header columns rows records facts =
+    comment_of form at header (coded_in tables packet)
+    ++ texts_of form at header columns (tokens_start header.partitions.items packet columns) (marked_start (zeros_for columns rows) header.partitions.items packet columns) records facts
+
+-- by the packet's own header
+zeros-are : (tables : TableEntries) (packet : List ℕ) (known : Option Known) (header : Header) → known_before packet known ≡ known
+    → zeros_of known packet header ≡ zeros_for (macroblocks (width_of header known)) (macroblocks (height_of header known))
+zeros-are tables packet known header nothing = ap (λ (before : Option Known). zeros_for (macroblocks (width_of header before)) (macroblocks (height_of header before))) nothing
+
+pub text-is-own : (form : Form) (at : ℕ) (tables : TableEntries) (packet : List ℕ) (known : Option Known) (header : Header) (marked : List RecordFacts) → known_before packet known ≡ known
+    → header_after tables known packet ≡ Ok header → marked ≡ marked_facts tables (zeros_of known packet header) packet known
+    → frame_with form at tables packet header (macroblocks (width_of header known)) (macroblocks (height_of header known)) (frame_modes tables header known).records (combined (own_facts tables header known) marked)
+    ≡ packet_by what.Macroblocks form at tables packet known (header_after tables known packet)
+text-is-own form at tables packet known header marked nothing accepted is =
+    let columns : ℕ = macroblocks (width_of header known) in
+    let rows : ℕ = macroblocks (height_of header known) in
+    let counts : marked ≡ marked_facts tables (zeros_for columns rows) packet known = is ∙ ap (λ (n : ℕ). marked_facts tables n packet known) (zeros-are tables packet known header nothing) in
+    rw accepted (ap (λ (counts : List RecordFacts). frame_with form at tables packet header columns rows (frame_modes tables header known).records (combined (own_facts tables header known) counts)) counts)
 
 -- the facts that are counted in it
-pub counted : (tables : TableEntries) (zeros : ℕ) (packet : List ℕ) (before : Option Known) (place : Place) (read : Result Header Cause) → first_partition (context_in before) packet ≡ Ok place
-    → header_over tables (context_in before) packet (marked_text zeros packet place) ≡ read → marked_facts tables zeros packet before ≡ facts_by tables before read
-counted tables zeros packet before place read placed_is read_is = rw (placed_is, read_is) refl
+counted : (tables : TableEntries) (blanks : ℕ) (packet : List ℕ) (before : Option Known) (place : Place) (read : Result Header Cause) → first_partition (context_in before) packet ≡ Ok place
+    → header_over tables (context_in before) packet (marked_text blanks packet place) ≡ read → marked_facts tables blanks packet before ≡ facts_by tables before read
+counted tables blanks packet before place read placed_is read_is = rw (placed_is, read_is) refl
 
 pub text-is-read : (form : Form) (at : ℕ) (tables : TableEntries) (packet : List ℕ) (known : Option Known) (over : Header) (place : Place) (zeros : ℕ) → known_before packet known ≡ known
     → first_partition (context_in known) packet ≡ Ok place → header_over tables (context_in known) packet (marked_text zeros packet place) ≡ Ok over
     → ((header : Header) → header_after tables known packet ≡ Ok header → zeros ≡ zeros_of known packet header)
     → IsRead tables known packet over
-    → read_text form at tables packet over known ≡ packet_by what.Macroblocks form at tables packet known (header_after tables known packet)
+    → frame_with form at tables packet over (macroblocks (width_of over known)) (macroblocks (height_of over known)) (frame_modes tables over known).records (own_facts tables over known)
+    ≡ packet_by what.Macroblocks form at tables packet known (header_after tables known packet)
 text-is-read form at tables packet known over place zeros nothing placed_is over_is zeros_are read =
     let own : Header = other over read.reader in
     let columns : ℕ = macroblocks (width_of over known) in
@@ -157,9 +152,15 @@ text-is-read form at tables packet known over place zeros nothing placed_is over
     let facts : combined (own_facts tables own known) (marked_facts tables (zeros_for columns rows) packet known) ≡ own_facts tables over known =
     ap (λ (n : ℕ). combined (own_facts tables own known) (marked_facts tables n packet known)) (sym count)
     ∙ ap (λ (counts : List RecordFacts). combined (own_facts tables own known) counts) marked ∙ combined-same (own_facts tables own known) (own_facts tables over known) splits in
-    rw (read.header, wide, high, records, facts)
-    (sym (ap (λ (text : List ℕ). text ++ _) (comment-alike form at over read.reader (coded_in tables packet))
-    ∙ ap (λ (text : List ℕ). comment_of form at over (coded_in tables packet) ++ text) (texts-alike form at over read.reader columns _ _ (frame_modes tables over known).records (own_facts tables over known))))
+    let start : TokenState = tokens_start over.partitions.items packet columns in
+    let marks : TokenState = marked_start (zeros_for columns rows) over.partitions.items packet columns in
+    let last : List MbMode = (frame_modes tables over known).records in
+    let found : List RecordFacts = own_facts tables over known in
+    let coded : Coded = coded_in tables packet in
+    let same : comment_of form at own coded ++ texts_of form at own columns start marks last found ≡ comment_of form at over coded ++ texts_of form at over columns start marks last found =
+    ap (λ (text : List ℕ). text ++ texts_of form at own columns start marks last found) (comment-alike form at over read.reader coded)
+    ∙ ap (λ (text : List ℕ). comment_of form at over coded ++ text) (texts-alike form at over read.reader columns start marks last found) in
+    rw (read.header, wide, high, records, facts) (sym same)
 
 -- and what is known after it
 pub known-is-read : (tables : TableEntries) (packet : List ℕ) (known : Option Known) (over : Header) → known_before packet known ≡ known → IsRead tables known packet over
@@ -169,3 +170,37 @@ known-is-read tables packet known over nothing read =
     let map_is : (frame_modes tables own known).segment_map ≡ (frame_modes tables over known).segment_map =
     subst (λ (before : Option Known). (frame_modes tables own before).segment_map ≡ (frame_modes tables over before).segment_map) nothing read.segment_map in
     rw (read.header, width-alike known own over refl, height-alike known own over refl, map_is) refl
+
+-- the facts over a marked text are those that are counted, whatever header the packet has
+pub counted-by : (tables : TableEntries) (packet : List ℕ) (known : Option Known) (text : List ℕ) (blanks count : ℕ) → IsMarked known packet text blanks count → (read : Result Header Cause) → header_over tables (context_in known) packet text ≡ read
+    → (header : Header) → header_after tables known packet ≡ Ok header → facts_by tables known read ≡ marked_facts tables (zeros_of known packet header) packet known
+counted-by tables packet known text blanks count marked read read_is header accepted =
+    let at = own-placed tables (context_in known) packet header accepted in
+    let whole : header_over tables (context_in known) packet (marked_text blanks packet at.0) ≡ read = ap (header_over tables (context_in known) packet) (sym (marked.text at.0 at.1)) ∙ read_is in
+    sym (counted tables blanks packet known at.0 read at.1 whole) ∙ ap (λ (n : ℕ). marked_facts tables n packet known) (marked.zeros tables header accepted)
+
+-- a packet whose header and records leave bits of a marked text
+pub record IsReadOver (tables : TableEntries) (known : Option Known) (packet : List ℕ) (blanks : ℕ) (over : Header) : Type 0 where
+  pub place : Place
+  pub placed_is : first_partition (context_in known) packet ≡ Ok place
+  pub over_is : header_over tables (context_in known) packet (marked_text blanks packet place) ≡ Ok over
+  pub read : IsRead tables known packet over
+
+pub read-over : (tables : TableEntries) (packet : List ℕ) (known : Option Known) (over : Header) (text : List ℕ) (blanks count : ℕ) → IsMarked known packet text blanks count → MarkedIsRead tables known → known_before packet known ≡ known
+    → header_over tables (context_in known) packet text ≡ Ok over → 0 < (frame_modes tables over known).left → IsReadOver tables known packet blanks over
+read-over tables packet known over text blanks count marked read nothing accepted some =
+    let at = placed tables (context_in known) packet text over accepted in
+    let whole : header_over tables (context_in known) packet (marked_text blanks packet at.0) ≡ Ok over = ap (header_over tables (context_in known) packet) (sym (marked.text at.0 at.1)) ∙ accepted in
+    record {
+      place = at.0;
+      placed_is = at.1;
+      over_is = whole;
+      read = read packet blanks at.0 over at.1 whole (subst (λ (before : Option Known). 0 < (frame_modes tables over before).left) (sym nothing) some);
+    }
+
+pub over-text : (form : Form) (at : ℕ) (tables : TableEntries) (packet : List ℕ) (known : Option Known) (over : Header) (text : List ℕ) (blanks count : ℕ) → IsMarked known packet text blanks count → known_before packet known ≡ known
+    → IsReadOver tables known packet blanks over
+    → frame_with form at tables packet over (macroblocks (width_of over known)) (macroblocks (height_of over known)) (frame_modes tables over known).records (own_facts tables over known)
+    ≡ packet_by what.Macroblocks form at tables packet known (header_after tables known packet)
+over-text form at tables packet known over text blanks count marked nothing is =
+    text-is-read form at tables packet known over is.place blanks nothing is.placed_is is.over_is (λ header accepted. marked.zeros tables header accepted) is.read

@@ -210,6 +210,29 @@ fn write_coded<W: Write>(
     Ok(())
 }
 
+/// Writes the header of a packet with bytes, as `write_whole_header` does, and returns what is known after it, or the cause against it. A
+/// packet with a key tag has nothing before it.
+fn write_header_step<W: Write>(
+    w: &mut W,
+    alloc: Global,
+    tables: &Tables,
+    target: Target,
+    known: Option<&Known>,
+    packet: &[u8],
+) -> Result<Result<Known, Cause>, ListFault>
+    requires known { known_before packet.now (option_copied known) ≡ option_copied known }
+    ensures written { OnOk result (Appends (W.contents w.old) (W.contents w.new) (text_by What.Header target.form target.place tables.now packet.now (option_copied known.entry) (header_after tables.now (option_copied known.entry) packet.now))) }
+    ensures early { IfErr result (IsListEnd (text_by What.Header target.form target.place tables.now packet.now (option_copied known.entry) (header_after tables.now (option_copied known.entry) packet.now)) (W.contents w.old) (W.contents w.new)) }
+    ensures after { IfOk result (λ after. after ≡ known_by tables.now (option_copied known.entry) (header_after tables.now (option_copied known.entry) packet.now)) }
+{
+    let header = match write_whole_header(w, tables, target, known, packet)? {
+        Ok(header) => header,
+        Err(cause) => return Ok(Err(cause)),
+    };
+    let modes = frame_modes(alloc, tables, &header, known)?;
+    Ok(Ok(known_after(&header, modes, known)))
+}
+
 /// Writes a packet with bytes, before which this is known, and returns what is known after it, or the cause against it. A packet with a
 /// key tag has nothing before it.
 fn write_coded_step<W: Write>(
@@ -225,15 +248,10 @@ fn write_coded_step<W: Write>(
     ensures early { IfErr result (IsListEnd (text_by target.what target.form target.place tables.now packet.now (option_copied known.entry) (header_after tables.now (option_copied known.entry) packet.now)) (W.contents w.old) (W.contents w.new)) }
     ensures after { IfOk result (λ after. after ≡ known_by tables.now (option_copied known.entry) (header_after tables.now (option_copied known.entry) packet.now)) }
 {
-    if let What::Macroblocks = target.what {
-        return write_macroblocks(w, alloc, tables, target, known, packet);
+    match target.what {
+        What::Macroblocks => write_macroblocks(w, alloc, tables, target, known, packet),
+        What::Header => write_header_step(w, alloc, tables, target, known, packet),
     }
-    let header = match write_whole_header(w, tables, target, known, packet)? {
-        Ok(header) => header,
-        Err(cause) => return Ok(Err(cause)),
-    };
-    let modes = frame_modes(alloc, tables, &header, known)?;
-    Ok(Ok(known_after(&header, modes, known)))
 }
 
 /// Writes a packet before which this is known. A packet with a key tag has nothing before it.
