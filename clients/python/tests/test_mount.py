@@ -265,6 +265,49 @@ class Mounted(Case):
             if number != signal.SIGKILL:
                 self.assertEqual(process.returncode, 0)
 
+    def test_a_signal_comes_while_it_is_mounted(self):
+        for turn in range(18):
+            folder = self.folder() / "a folder"
+            folder.mkdir()
+            process = start("mount", SMALL, folder, stdout=subprocess.PIPE, stderr=subprocess.PIPE, text=True)
+            self.addCleanup(self.end, process, folder)
+            process.stdout.readline()
+            # libfuse mounts some milliseconds later.
+            time.sleep(turn // 3 * 0.004)
+            number = (signal.SIGTERM, signal.SIGHUP, signal.SIGINT)[turn % 3]
+            process.send_signal(number)
+            self.assertEqual((process.wait(20 * SLOW), is_mounted(folder), list(folder.iterdir())), (0, False, []), (turn, process.stderr.read()))
+
+    def test_it_is_unmounted_while_a_file_is_open(self):
+        folder, process = self.mounted(SCENES)
+        opened = os.open(folder / "clip.y4m", os.O_RDONLY)
+        try:
+            os.read(opened, 100)
+            process.send_signal(signal.SIGTERM)
+            self.assertEqual(process.wait(20 * SLOW), 0)
+            self.wait_until_gone(folder)
+            with self.assertRaises(OSError):
+                os.read(opened, 100)
+        finally:
+            with contextlib.suppress(OSError):
+                os.close(opened)
+
+    def test_a_closed_terminal_does_not_end_it_under_nohup(self):
+        folder = self.folder() / "a folder"
+        folder.mkdir()
+        ignored = signal.signal(signal.SIGHUP, signal.SIG_IGN)
+        try:
+            process = start("mount", SMALL, folder, stdout=subprocess.PIPE, stderr=subprocess.PIPE, text=True)
+        finally:
+            signal.signal(signal.SIGHUP, ignored)
+        self.addCleanup(self.end, process, folder)
+        process.stdout.readline()
+        process.send_signal(signal.SIGHUP)
+        with self.assertRaises(subprocess.TimeoutExpired):
+            process.wait(0.5)
+        process.send_signal(signal.SIGTERM)
+        self.assertEqual(process.wait(20 * SLOW), 0)
+
     def test_the_program_is_killed(self):
         folder, process = self.mounted(SCENES)
         (folder / "clip.y4m").read_bytes()
