@@ -1152,6 +1152,18 @@ class Killed(PageCase):
             self.assertEqual(self.members("/session")["changes"], 6)
             file.close()
 
+    def test_a_save_finds_the_time_stamps_once(self):
+        self.serve(SCENES, save=self.folder() / "out.ivf")
+        real, found = self.live.contents().durations, []
+        with mock.patch.object(self.live.contents(), "durations", lambda *given: found.append(given) or real(*given)):
+            for line, is_other in (("delete 3", True), ("undo", False), ("move 3 9", True)):
+                found.clear()
+                self.change(line)
+                status, _, body = self.post_to("/edits", line="save", source=0)
+                self.assertEqual((status, json.loads(body)["renumbered"], len(found)), (200, is_other, int(is_other)))
+                saved = ivf.read_packets(self.folder().parent / self.live.saves.path(0))[1]
+                self.assertEqual([stamp for stamp, _ in saved], list(range(len(saved))))
+
     def test_a_change_while_the_state_is_read_is_in_the_next_one(self):
         self.serve(save=self.folder() / "out.ivf")
         read, changes = self.live.current_view, self.live.changes

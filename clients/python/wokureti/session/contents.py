@@ -100,6 +100,7 @@ class Contents:
         self.of_files = count
         # The packets that edits made, and of those that edits took away since what `packet` answered.
         self.made, self.lost = [], {}
+        self.stamped = (None, None, None)
         self.listing = Listing(self)
 
     # Edits
@@ -274,9 +275,12 @@ class Contents:
         return array("Q", (self.duration(number, source) for number in stream))
 
     def stamps(self, source, stream):
-        """New time stamps for packets in the order of a source, and the end of the last one."""
-        self.listing.learn()
-        return times.stamps_of(zip(map(self.is_shown, stream), self.durations(source, stream)))
+        """New time stamps for packets in the order of a source, and the end of the last one. They are kept for what is asked next of the same packets."""
+        known = self.stamped
+        if known[:2] != (source, stream):
+            self.listing.learn()
+            known = self.stamped = (source, array("I", stream), times.stamps_of(zip(map(self.is_shown, stream), self.durations(source, stream))))
+        return known[2]
 
     # Facts
 
