@@ -254,7 +254,7 @@ async function begin() {
   if (start.overlay) macroblocks.choose(start.overlay);
   if (start.panel && find(`tab-${start.panel}`)) showPanel(start.panel);
   // The first picture is asked for before anything else is known.
-  server.frame(model.frame).then(
+  frames.first(model.frame).then(
     (frame) => viewer.picture.now || viewer.picture.show(frame),
     () => {},
   );
