@@ -250,7 +250,7 @@ class LargeSteps(Case):
         stream.undo()
         before = state(stream, 1)
         # Those after the refused one are sent with it.
-        for lines in (["delete 3", "delete 99", "delete 0", "hold 2", "move 0 5"], ["delete 3"] * 9 + ["hold 9"] + ["delete 0"] * 3, ["use 1", "delete 0"]):
+        for lines in (["delete 3", "delete 99", "delete 0", "hold 2", "move 0 5"], ["delete 3"] * 9 + ["hold 9"] + ["delete 0"] * 3, ["use 1", "delete 0"], ["delete 3", "delete 3", "move 0 99999999999999999999"]):
             with self.assertRaises(Refused):
                 stream.edits.run_step(lines)
             self.assertEqual((state(stream, 1), list(stream.edits), stream.edits.undone), (before, [], ["delete 0"]))

@@ -218,7 +218,7 @@ class Contents:
                 return None
             after.streams, after.made = [array("I", stream) for stream in self.streams], list(self.made)
             return Plan(after, after.apply_all(lines))
-        except (IndexError, ValueError):
+        except (IndexError, OverflowError, ValueError):
             return None
 
     def adopt(self, plan):
