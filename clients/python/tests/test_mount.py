@@ -9,9 +9,11 @@ import signal
 import struct
 import subprocess
 import sys
+import threading
 import time
 import unittest
 import zlib
+from unittest import mock
 
 from support import DATA, SLOW, SMALL, Case, children_of, command, crash, packets_of, serve, start, whole_text, write_packets
 from wokureti.server import folders, mount
@@ -171,6 +173,28 @@ class Files(Case):
             text = png.stored_text_of(width, height, data)
             self.assertEqual(len(text), png.stored_size(width, height))
             self.assertEqual(samples_of_png(text), (width, height, data))
+
+    def test_what_is_over_waits_for_nothing(self):
+        module = mock.Mock(FuseOSError=lambda number: OSError(number, "over"))
+        operations = mount.Operations(self.opened(), module)
+        self.assertEqual(operations("getattr", "/")["st_nlink"], 2)
+        held, let = threading.Event(), threading.Event()
+        self.addCleanup(let.set)
+
+        def decode():
+            with self.live.lock:
+                held.set()
+                let.wait(10 * SLOW)
+
+        threading.Thread(target=decode, daemon=True).start()
+        self.assertTrue(held.wait(5 * SLOW))
+        operations.is_over = True
+        with self.within(2), self.assertRaises(OSError) as caught:
+            operations("getattr", "/clip.y4m")
+        self.assertEqual((caught.exception.errno, module.fuse_exit.call_count), (errno.ENODEV, 1))
+        for operation in ("init", "destroy"):
+            operations(operation, "/")
+        self.assertEqual(module.fuse_exit.call_count, 1)
 
     def test_without_fuse(self):
         room = self.folder()

@@ -59,8 +59,9 @@ class Operations:
 
     def __call__(self, operation, *given):
         """Does an operation. Errors are those of the system."""
-        if self.is_over:
+        if self.is_over and operation not in ("init", "destroy"):
             self.unmount()
+            raise self.fail(errno.ENODEV)
         if operation in REFUSED:
             raise self.fail(errno.EROFS)
         if operation not in DONE:
