@@ -192,8 +192,8 @@ class Engine:
         line = line.removesuffix(b"\n").removesuffix(b"\r")
         self.lines += 1
         found = FRAME.fullmatch(line)
-        number = int(found.group(1)) if found else checks.MOST + 1
-        picture = self.picture(number) if number <= checks.MOST else None
+        number = int(found.group(1)) if found else None
+        picture = self.picture(number) if found and number <= checks.MOST else None
         if picture is not None:
             return f"served {number}", picture
         # Why it is refused is in the reply alone.
