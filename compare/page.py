@@ -772,6 +772,21 @@ def edit(page):
     say("editing: copy, move, delete, hold, the list, refusals, the script, bytes of a file")
 
 
+def asks_once(page):
+    """The page reads the state of the session once after a change, whichever comes first, its answer or its event."""
+    page.browser.run("await wokureti.model.goPacket(40)")
+    for act in ("delete", "undo", "redo", "undo", "hold", "undo"):
+        count = page.browser.run(
+            """performance.clearResourceTimings();
+            await wokureti.editing[args[0]]();
+            await new Promise((done) => setTimeout(done, 1000));
+            return performance.getEntriesByType("resource").filter(({ name }) => new URL(name).pathname.endsWith("/session")).length;""",
+            act,
+        )
+        expect(count == 1, f"{act} reads the state {count} times")
+    say("the state is read once after each change")
+
+
 def save_and_reload(page, path, clip):
     browser = page.browser
     browser.run("document.getElementById('timeline').focus()")
@@ -1626,6 +1641,7 @@ def main():
         # In another group of pictures: before the edits, those of the first one are refused.
         compare_views(page, clip, 120)
         edit(page)
+        asks_once(page)
         page.quiet("comparing and editing")
         overlays(page, room)
         page.quiet("overlays")

@@ -357,12 +357,12 @@ class Frames(AskedCase):
             frames = stream.count().frames
             with mock.patch("wokureti.session.origins.PAGE", choose.choice([1, 4, 4096])):
                 runs = runs_of(stream)
-                part = runs_of(stream, frames // 3, 5)
+                part = runs_of(stream, end=min(frames, 5))
             asked = stream.origins(0, frames)
             self.assertEqual([(origin["source"], origin["packet"]) for origin in asked], model.frames())
             told = [(source, first + turn) for count, source, first in joined(runs) for turn in range(count)]
             self.assertEqual(told, [(origin["source"], origin["source_frame"]) for origin in asked])
-            self.assertEqual([(run.source, run.first + turn) for run in part for turn in range(run.count)], told[frames // 3 : frames // 3 + 5])
+            self.assertEqual([(run.source, run.first + turn) for run in part for turn in range(run.count)], told[:5])
             # Nodes of every kind.
             stream.request(f"script {random_script(choose, len(paths), ('source', 'trim', 'splice', 'crop', 'fade'))}")
             asked = stream.origins(0, stream.count().frames)

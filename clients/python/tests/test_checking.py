@@ -12,6 +12,8 @@ from support import DATA, SLOW, crash, knows, packets_of, write_packets
 from test_page import BROKEN, SCENES, PageCase, check_of
 from wokureti import Refused, Session
 from wokureti.page import checking
+from wokureti.page.opened import Opened
+from wokureti.session.listing import Listing
 from wokureti.tools import ivf
 
 NEEDS = unittest.skipUnless(knows("check 0 0"), "this vp8serve is an earlier one, without check FIRST COUNT")
@@ -160,6 +162,56 @@ class Ranges(CheckCase):
                 most = max(most, took)
                 pace.slow_down(took, before) if pace.is_late(took) else pace.go_on(took)
             self.assertLess(most, 2.5 * (before + max(checking.SHORT, 2 * before, each)), (each, before))
+
+
+@NEEDS
+class Once(CheckCase):
+    """Nothing is asked of the session twice."""
+
+    def logged(self):
+        """The lines that the session gets from now on."""
+        session, lines = self.live.session, []
+        real = session._exchange
+
+        def exchange(*given, deadline):
+            lines.extend(line.decode() for line in given)
+            return real(*given, deadline=deadline)
+
+        session._exchange = exchange
+        return lines
+
+    def look(self):
+        """What the page asks for after an edit."""
+        for path in ("/session", "/session", "/timeline?source=0", "/place?packet=10", "/origins", "/keys?packets=1,3,6"):
+            self.members(path)
+        self.checked()
+
+    def test_a_click(self):
+        self.serve(SCENES)
+        self.look()
+        lines = self.logged()
+        for edit in ("delete 10", "hold 3", "replace 7 1000", "script trim 0 0 9", "script trim 0 0 9;fade 1 0 5 0 256", "delete 2"):
+            lines.clear()
+            self.step(edit)
+            self.look()
+            after = lines[lines.index(edit) + 1 :]
+            self.assertEqual(len(after), len(set(after)), after)
+            # A check needs no list of packets that are listed.
+            self.assertNotIn("list 0 1", after)
+        lines.clear()
+        self.change("undo")
+        self.change("redo")
+        lines.clear()
+        self.look()
+        self.assertEqual(lines, [])
+
+    def test_the_size_of_the_first_key_packet_before_the_stream_is_listed(self):
+        packets = packets_of(SCENES)
+        packets[0] = packets[0][:3] + b"xxx" + packets[0][6:]
+        for path in (SCENES, write_packets(self.folder() / "in.ivf", packets), write_packets(self.folder() / "none.ivf", packets[1:4])):
+            with mock.patch.object(Opened, "list_files", lambda live: live.session.read_indexes()), mock.patch.object(Listing, "is_whole", False), mock.patch.object(self, "await_list"):
+                self.serve(path)
+                self.assertEqual(self.checked()["findings"], check_of(path))
 
 
 @NEEDS

@@ -15,6 +15,7 @@ from unittest import mock
 from support import DATA, ODD, SLOW, SMALL, TOP, Case, list_of, packets_of, process_of, serve, write_packets
 from wokureti import Ended, Refused, Script, Session
 from wokureti.session import edit_files
+from wokureti.session.contents import Contents
 from wokureti.tools import programs
 from wokureti.session.errors import OtherStream
 
@@ -249,10 +250,112 @@ class LargeSteps(Case):
         stream.undo()
         before = state(stream, 1)
         # Those after the refused one are sent with it.
-        for lines in (["delete 3", "delete 99", "delete 0", "hold 2", "move 0 5"], ["delete 3"] * 9 + ["hold 9"] + ["delete 0"] * 3, ["use 1", "delete 0"]):
+        for lines in (["delete 3", "delete 99", "delete 0", "hold 2", "move 0 5"], ["delete 3"] * 9 + ["hold 9"] + ["delete 0"] * 3, ["use 1", "delete 0"], ["delete 3", "delete 3", "move 0 99999999999999999999"]):
             with self.assertRaises(Refused):
                 stream.edits.run_step(lines)
             self.assertEqual((state(stream, 1), list(stream.edits), stream.edits.undone), (before, [], ["delete 0"]))
+
+    def test_a_step_of_one_line_that_goes_past_the_end_is_refused(self):
+        stream = self.session()
+        with self.assertRaises(Refused):
+            stream.edits.run_step(10 * ["delete 5"])
+        self.assertEqual((list(stream.edits), stream.count().packets), ([], 12))
+        room = self.folder()
+        (room / "list").write_text(10 * "delete 5\n")
+        with self.assertRaisesRegex(ValueError, "line 8: delete 5: refused Place"):
+            self.session(edits=room / "list")
+
+    def test_an_edit_is_followed_once(self):
+        lines = [line for at in range(1, 200, 2) for line in (f"hold {at + 2}", f"delete {at}", f"move {at} {at + 1}")]
+        path, room = self.many(300), self.folder()
+        (room / "list").write_text("".join(f"{line}\n" for line in lines))
+        real, counted = Contents.apply, []
+
+        def apply(contents, line, *more):
+            counted.append(line)
+            return real(contents, line, *more)
+
+        with mock.patch.object(Contents, "apply", apply):
+            stream = self.session(path, edits=room / "list")
+            stream.edits.contents()
+            self.assertEqual(counted, lines)
+            for make in (stream.undo, stream.redo, stream.undo):
+                counted.clear()
+                self.assertTrue(make())
+                self.assertLessEqual(len(counted), len(lines))
+            while stream.undo():
+                pass
+            counted.clear()
+            stream.edits.run_step(lines)
+            self.assertEqual(counted, lines)
+            for line in ("delete 5", "replace 5 -", "hide 3", "script trim 0 0 5"):
+                counted.clear()
+                stream.request(line)
+                self.assertEqual(counted, [line])
+        self.assertNumbers(stream)
+
+    def assertNumbers(self, stream):
+        """The packets by their numbers are those of the program."""
+        contents = stream.edits.contents()
+        for source, packets in enumerate(contents.streams):
+            self.assertEqual(len(packets), len(stream.packets(source=source)))
+            known = list(zip(map(contents.stamp, packets), contents.data(packets)))
+            self.assertEqual(known, [(contents.packet(n, source).stamp, contents.packet(n, source).data) for n in range(len(packets))])
+
+    def test_random_steps_of_which_some_are_refused(self):
+        choose, refused = random.Random(71), 0
+        stream = self.session(sources=[ODD])
+        for turn in range(120):
+            lines = []
+            for _ in range(choose.choice((1, 2, 3, 12))):
+                at = choose.randrange(14)
+                lines += choose.choice((1, 1, 1, 4)) * [
+                    choose.choice(
+                        (f"delete {at}", f"hold {at}", f"replace {at} {choose.choice(('-', '1100', '0102030405'))}", f"hide {at}", f"show {at}", f"move {at} {choose.randrange(12)}",
+                         f"copy {choose.randrange(2)} {choose.randrange(12)} {at}", f"blank {at} {choose.randrange(20)} 16", f"use {choose.randrange(2)}", "script trim 0 0 9")
+                    )
+                ]  # fmt: skip
+            before = state(stream, 2), list(stream.edits)
+            try:
+                stream.edits.run_step(lines)
+            except Refused:
+                refused += 1
+                self.assertEqual((state(stream, 2), list(stream.edits)), before, lines)
+            self.assertNumbers(stream)
+            if turn % 3 == 0:
+                stream.undo()
+                self.assertNumbers(stream)
+            if turn % 6 == 0:
+                stream.redo()
+                self.assertNumbers(stream)
+        self.assertGreater(refused, 10)
+        while stream.undo():
+            pass
+        self.assertEqual([[stream.packet(n, source) for n in range(12)] for source in range(2)], [packets_of(SMALL), packets_of(ODD)])
+
+    def test_a_list_that_is_refused_in_the_middle_is_known_as_far_as_it_was_made(self):
+        room = self.folder()
+        (room / "list").write_text("delete 3\nhold 5\ndelete 99\ndelete 5\n")
+        stream = self.session()
+        before = state(stream, 1)
+        with self.assertRaisesRegex(ValueError, "line 3: delete 99"):
+            stream.edits.run(room / "list")
+        self.assertNumbers(stream)
+        self.assertEqual(list(stream.edits)[:2], ["delete 3", "hold 5"])
+        while stream.undo():
+            pass
+        self.assertEqual(state(stream, 1), before)
+
+    def test_a_step_that_is_left_in_the_middle_is_not_known(self):
+        stream = self.session(self.many(300))
+        stream.delete(5)
+        contents = stream.edits.contents()
+        before = list(contents.streams[0])
+        with mock.patch.object(stream._pipes, "exchange", side_effect=KeyboardInterrupt), self.assertRaises(KeyboardInterrupt):
+            stream.edits.run_step(["hold 3", "delete 9"] * 30)
+        self.assertEqual((list(contents.streams[0]), list(stream.edits)), (before, ["delete 5"]))
+        with self.assertRaises(Ended):
+            stream.count()
 
     def test_the_reason_is_that_of_the_first_refusal(self):
         stream = self.session(explain=True)

@@ -55,6 +55,57 @@ class Alike(Library):
         except Refused as refused:
             return str(refused)
 
+    def test_a_frame_is_made_once(self):
+        packets = packets_of(SMALL)
+        packets[7] = b"\x11\x00"
+        for path in (SMALL, ODD, write_packets(self.folder() / "broken.ivf", packets)):
+            ours, its = self.session(path), Case.session(self, path, engine="program")
+            engine, calls = ours._pipes.engine, []
+
+            class Counted:
+                def __getattr__(self, name, real=engine.library, calls=calls):
+                    return lambda *given: calls.append(name) or getattr(real, name)(*given)
+
+            ours.frame(0)
+            its.frame(0)
+            engine.library = Counted()
+            again = 0
+            for number in (3, 3, 5, 0, 11, 6, 7, 8, 11, 2, 99, 6):
+                calls.clear()
+                found = self.shown(ours, number)
+                self.assertEqual(found, self.shown(its, number))
+                self.assertEqual(calls, ["wk_frame"] if isinstance(found, bytes) else ["wk_frame", "wk_request", "wk_text"])
+                # The packet that is refused is read again for the reply.
+                again += "packet" in str(found)
+            self.assertEqual(ours.decoded(), its.decoded() + again)
+
+    def test_lines_that_ask_for_a_frame(self):
+        ours, its = self.session(), Case.session(self, SMALL, engine="program")
+        for line in ("frame 3", "  frame   3  ", "frame 003", "frame 3\r", "frame 18446744073709551615", "frame 18446744073709551616", "frame 18446744073709551619", "frame 000000000000000000003", "frame -1", "frame +1", "frame", "frame 1 2", "frame 1x"):
+            self.assertEqual(*(self.replied(session, line) for session in (ours, its)), line)
+        self.assertEqual(*(session.pictures([0, 3, 3]) for session in (ours, its)))
+
+    def test_a_frame_for_which_there_is_memory_only_the_second_time(self):
+        session = self.session()
+        session.frame(0)
+        engine = session._pipes.engine
+        refused = []
+
+        class Short:
+            def __getattr__(self, name, library=engine.library):
+                if name == "wk_frame" and refused:
+                    return lambda *given: refused.pop()
+                return getattr(library, name)
+
+        wanted = session.frame(5).i420()
+        engine.library = Short()
+        for status in (31, 3):
+            refused.append(status)
+            self.assertEqual((session.frame(5).i420(), refused), (wanted, []))
+        refused += [3, 3]
+        with self.assertRaisesRegex(Ended, "served 5, and then not"):
+            session.frame(5)
+
     def test_a_frame_is_the_callers(self):
         session = self.session(CLIP)
         first, again = session.frame(0), session.frame(1)
@@ -101,6 +152,7 @@ class Alike(Library):
         for line in ("delete 99999", "blank 0 0 16", "script trim 0", "frame 123456", "nonsense 1", "insert 0 0 zz", "use 3"):
             found = []
             for session in (ours, its):
+                session.request("frame 3")
                 with self.assertRaises(Refused) as caught:
                     session.request(line)
                 found.append((str(caught.exception), caught.exception.reason))

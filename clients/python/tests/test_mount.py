@@ -9,9 +9,11 @@ import signal
 import struct
 import subprocess
 import sys
+import threading
 import time
 import unittest
 import zlib
+from unittest import mock
 
 from support import DATA, SLOW, SMALL, Case, children_of, command, crash, packets_of, serve, start, whole_text, write_packets
 from wokureti.server import folders, mount
@@ -172,6 +174,28 @@ class Files(Case):
             self.assertEqual(len(text), png.stored_size(width, height))
             self.assertEqual(samples_of_png(text), (width, height, data))
 
+    def test_what_is_over_waits_for_nothing(self):
+        module = mock.Mock(FuseOSError=lambda number: OSError(number, "over"))
+        operations = mount.Operations(self.opened(), module)
+        self.assertEqual(operations("getattr", "/")["st_nlink"], 2)
+        held, let = threading.Event(), threading.Event()
+        self.addCleanup(let.set)
+
+        def decode():
+            with self.live.lock:
+                held.set()
+                let.wait(10 * SLOW)
+
+        threading.Thread(target=decode, daemon=True).start()
+        self.assertTrue(held.wait(5 * SLOW))
+        operations.is_over = True
+        with self.within(2), self.assertRaises(OSError) as caught:
+            operations("getattr", "/clip.y4m")
+        self.assertEqual((caught.exception.errno, module.fuse_exit.call_count), (errno.ENODEV, 1))
+        for operation in ("init", "destroy"):
+            operations(operation, "/")
+        self.assertEqual(module.fuse_exit.call_count, 1)
+
     def test_without_fuse(self):
         room = self.folder()
         (room / "fusepy.py").write_text("raise ImportError")
@@ -264,6 +288,49 @@ class Mounted(Case):
             self.assertEqual(list(folder.iterdir()), [], number)
             if number != signal.SIGKILL:
                 self.assertEqual(process.returncode, 0)
+
+    def test_a_signal_comes_while_it_is_mounted(self):
+        for turn in range(18):
+            folder = self.folder() / "a folder"
+            folder.mkdir()
+            process = start("mount", SMALL, folder, stdout=subprocess.PIPE, stderr=subprocess.PIPE, text=True)
+            self.addCleanup(self.end, process, folder)
+            process.stdout.readline()
+            # libfuse mounts some milliseconds later.
+            time.sleep(turn // 3 * 0.004)
+            number = (signal.SIGTERM, signal.SIGHUP, signal.SIGINT)[turn % 3]
+            process.send_signal(number)
+            self.assertEqual((process.wait(20 * SLOW), is_mounted(folder), list(folder.iterdir())), (0, False, []), (turn, process.stderr.read()))
+
+    def test_it_is_unmounted_while_a_file_is_open(self):
+        folder, process = self.mounted(SCENES)
+        opened = os.open(folder / "clip.y4m", os.O_RDONLY)
+        try:
+            os.read(opened, 100)
+            process.send_signal(signal.SIGTERM)
+            self.assertEqual(process.wait(20 * SLOW), 0)
+            self.wait_until_gone(folder)
+            with self.assertRaises(OSError):
+                os.read(opened, 100)
+        finally:
+            with contextlib.suppress(OSError):
+                os.close(opened)
+
+    def test_a_closed_terminal_does_not_end_it_under_nohup(self):
+        folder = self.folder() / "a folder"
+        folder.mkdir()
+        ignored = signal.signal(signal.SIGHUP, signal.SIG_IGN)
+        try:
+            process = start("mount", SMALL, folder, stdout=subprocess.PIPE, stderr=subprocess.PIPE, text=True)
+        finally:
+            signal.signal(signal.SIGHUP, ignored)
+        self.addCleanup(self.end, process, folder)
+        process.stdout.readline()
+        process.send_signal(signal.SIGHUP)
+        with self.assertRaises(subprocess.TimeoutExpired):
+            process.wait(0.5)
+        process.send_signal(signal.SIGTERM)
+        self.assertEqual(process.wait(20 * SLOW), 0)
 
     def test_the_program_is_killed(self):
         folder, process = self.mounted(SCENES)

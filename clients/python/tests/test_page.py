@@ -460,7 +460,7 @@ class Steps(PageCase):
     def test_a_step(self):
         room = self.folder()
         self.serve(edits=room / "list")
-        self.assertEqual(self.step("delete 3", "delete 3", "hold 4"), {"reply": "ok 11", "revision": 2})
+        self.assertEqual(self.step("delete 3", "delete 3", "hold 4"), {"reply": "ok 11", "revision": 2, "changes": 2})
         self.assertEqual(list_of(room / "list"), "# step 3\ndelete 3\ndelete 3\nhold 4\n")
         self.assertEqual(self.change("undo")["reply"], ["delete 3", "delete 3", "hold 4"])
         self.assertEqual(((room / "list").read_text(), self.members("/session")["packets"]), ("", 12))
@@ -723,7 +723,7 @@ class Pasting(PageCase):
         self.serve(SCENES)
         board = self.remember(30, 3)
         self.change("delete 2")
-        self.assertEqual(self.paste(board, 10), {"revision": 3, "first": 10, "count": 3, "deleted": 0, "made": 3})
+        self.assertEqual(self.paste(board, 10), {"revision": 3, "changes": 3, "first": 10, "count": 3, "deleted": 0, "made": 3})
         self.assertEqual(self.stream(), [*packets[:2], *packets[3:11], *packets[30:33], *packets[11:]])
         self.assertEqual(self.members("/session")["edits"][1:], ["copy 0 29 10", "copy 0 31 11", "copy 0 33 12"])
         # One step, and it can be pasted again.
@@ -1115,7 +1115,7 @@ class Killed(PageCase):
             self.assertEqual(self.ask("/frames/2.y4m")[0], 200)
         self.await_list()
         found = self.members("/session")
-        self.assertEqual({**kinds, "restarts": 1}, found)
+        self.assertEqual({**kinds, "restarts": 1, "changes": kinds["changes"] + 1}, found)
         for path, members in before.items():
             self.assertEqual(self.members(path), members)
         self.change("undo")
@@ -1137,12 +1137,44 @@ class Killed(PageCase):
             file = sock.makefile("rb")
             while file.readline().strip():
                 pass
-            self.assertEqual([file.readline() for _ in range(3)], [b"event: edit\n", b'data: {"revision": 1}\n', b"\n"])
-            self.change("delete 3")
-            self.assertEqual([file.readline() for _ in range(3)], [b"event: edit\n", b'data: {"revision": 2}\n', b"\n"])
-            self.change("save")
-            self.assertEqual([file.readline() for _ in range(3)], [b"event: saved\n", b'data: {"revision": 2}\n', b"\n"])
+            told = lambda: [file.readline() for _ in range(3)]  # noqa: E731
+            self.assertEqual(told(), [b"event: edit\n", b'data: {"revision": 1, "changes": 1}\n', b"\n"])
+            # A page that knows as many changes as an answer or an event has reads nothing again.
+            for line, wanted in (("delete 3", (b"edit", 2, 2)), ("save", (b"saved", 2, 3)), ("undo", (b"edit", 3, 4)), ("save", (b"saved", 3, 5))):
+                answer = self.change(line)
+                self.assertEqual(told(), [b"event: %b\n" % wanted[0], b'data: {"revision": %d, "changes": %d}\n' % wanted[1:], b"\n"])
+                self.assertEqual((answer["revision"], answer["changes"], self.members("/session")["changes"]), (*wanted[1:], wanted[2]))
+            self.assertEqual(self.change("undo")["changes"], 5)
+            with mock.patch("sys.stderr"):
+                crash(self.live.session)
+                self.ask("/frames/0.y4m")
+            self.assertEqual(told()[:2], [b"event: restarted\n", b'data: {"revision": 3, "changes": 6}\n'])
+            self.assertEqual(self.members("/session")["changes"], 6)
             file.close()
+
+    def test_a_save_finds_the_time_stamps_once(self):
+        self.serve(SCENES, save=self.folder() / "out.ivf")
+        real, found = self.live.contents().durations, []
+        with mock.patch.object(self.live.contents(), "durations", lambda *given: found.append(given) or real(*given)):
+            for line, is_other in (("delete 3", True), ("undo", False), ("move 3 9", True)):
+                found.clear()
+                self.change(line)
+                status, _, body = self.post_to("/edits", line="save", source=0)
+                self.assertEqual((status, json.loads(body)["renumbered"], len(found)), (200, is_other, int(is_other)))
+                saved = ivf.read_packets(self.folder().parent / self.live.saves.path(0))[1]
+                self.assertEqual([stamp for stamp, _ in saved], list(range(len(saved))))
+
+    def test_a_change_while_the_state_is_read_is_in_the_next_one(self):
+        self.serve(save=self.folder() / "out.ivf")
+        read, changes = self.live.current_view, self.live.changes
+
+        def saved_meanwhile():
+            self.live.run("save")
+            return read()
+
+        with mock.patch.object(self.live, "current_view", saved_meanwhile):
+            self.assertEqual(self.members("/session")["changes"], changes)
+        self.assertEqual(self.members("/session")["changes"], changes + 1)
 
 
 class MoreSources(PageCase):

@@ -398,12 +398,12 @@ class Interface(ServerCase):
         room = self.folder()
         self.serve(edits=room / "list", save=room / "out.ivf")
         self.assertEqual(self.members("/edits"), {"revision": 1, "edits": [], "undone": [], "source": 0, "saved": True})
-        self.assertEqual(self.change("delete 3"), {"reply": "ok 11", "revision": 2})
-        self.assertEqual(self.change("  delete   3 "), {"reply": "ok 10", "revision": 3})
-        self.assertEqual(self.change("undo"), {"reply": ["delete 3"], "revision": 4})
+        self.assertEqual(self.change("delete 3"), {"reply": "ok 11", "revision": 2, "changes": 2})
+        self.assertEqual(self.change("  delete   3 "), {"reply": "ok 10", "revision": 3, "changes": 3})
+        self.assertEqual(self.change("undo"), {"reply": ["delete 3"], "revision": 4, "changes": 4})
         self.assertEqual(self.members("/edits")["undone"], ["delete 3"])
-        self.assertEqual(self.change("redo"), {"reply": ["delete 3"], "revision": 5})
-        self.assertEqual(self.change("redo"), {"reply": [], "revision": 5})
+        self.assertEqual(self.change("redo"), {"reply": ["delete 3"], "revision": 5, "changes": 5})
+        self.assertEqual(self.change("redo"), {"reply": [], "revision": 5, "changes": 5})
         self.assertEqual(list_of(room / "list"), "delete 3\ndelete 3\n")
         self.assertEqual(self.members("/edits")["saved"], False)
         self.assertEqual(self.change("save")["reply"], str(room / "out.ivf"))
@@ -474,13 +474,13 @@ class Interface(ServerCase):
             file = sock.makefile("rb")
             while file.readline().strip():
                 pass
-            self.assertEqual([file.readline() for _ in range(3)], [b"event: edit\n", b'data: {"revision": 1}\n', b"\n"])
+            self.assertEqual([file.readline() for _ in range(3)], [b"event: edit\n", b'data: {"revision": 1, "changes": 1}\n', b"\n"])
             self.change("delete 3")
-            self.assertEqual([file.readline() for _ in range(3)], [b"event: edit\n", b'data: {"revision": 2}\n', b"\n"])
+            self.assertEqual([file.readline() for _ in range(3)], [b"event: edit\n", b'data: {"revision": 2, "changes": 2}\n', b"\n"])
             crash(self.live.session)
             with mock.patch("sys.stderr"):
                 self.ask("/frames/0.y4m")
-            self.assertEqual([file.readline() for _ in range(3)], [b"event: restarted\n", b'data: {"revision": 2}\n', b"\n"])
+            self.assertEqual([file.readline() for _ in range(3)], [b"event: restarted\n", b'data: {"revision": 2, "changes": 3}\n', b"\n"])
             file.close()
 
 

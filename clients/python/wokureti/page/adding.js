@@ -78,8 +78,8 @@ export class Adding {
         this.status.say(`${found.file.split("/").pop()} is open on a page of its own`);
         return;
       }
-      const source = await server.addSource(found.file);
-      await this.model.load();
+      const { source, changes } = await server.addSource(found.file);
+      await this.model.load(changes);
       this.status.say(`${found.file.split("/").pop()} is source ${source}`);
     } finally {
       find("add-source").disabled = false;

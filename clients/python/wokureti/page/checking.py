@@ -170,13 +170,15 @@ class Check:
             return function(contents.session)
 
     def first_size(self, session):
-        """The size of the first key packet that has one, as `list` has it, or None."""
-        keys = self.view.timeline(0).keys
+        """The size of the first key packet that has one, or None. It is asked for only if it is not listed yet."""
+        keys, listing = self.view.timeline(0).keys, self.view.contents.listing
         place = keys.find(1)
         while place >= 0:
-            size = session.packets(range(place, place + 1), 0)[0]["size"]
-            if size is not None:
-                return size
+            number = self.stream[place]
+            if number not in listing.pictures and not self.view.is_listed:
+                listing.ask(0, place, 1)
+            if number in listing.pictures:
+                return listing.pictures[number]
             place = keys.find(1, place + 1)
         return None
 

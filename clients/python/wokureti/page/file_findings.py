@@ -15,15 +15,15 @@ def sides(size):
 
 
 def at_header(contents, stream, size):
-    """Those at the header of the file, or of that of a save if the packets were edited. `size` is the one of the first key packet, as `list` has it, or None."""
+    """Those at the header of the file, or of that of a save if the packets were edited. `size` is the one of the first key packet, or None."""
     item, found = contents.inputs.all[0], []
     if is_whole(contents, stream):
         claimed = int.from_bytes(os.pread(item.opened(), ivf.HEAD.size, 0)[24:28], "little")
         if claimed != len(stream):
             found.append(finding("note", "frame_count", claimed=claimed, packets=len(stream)))
     head = item.head
-    if size is not None and size != sides(head[:2]):
-        found.append(finding("note", "frame_size", claimed=sides(head[:2]), size=size))
+    if size is not None and size != head[:2]:
+        found.append(finding("note", "frame_size", claimed=sides(head[:2]), size=sides(size)))
     if not head.rate or not head.scale:
         found.append(finding("note", "no_rate", rate=head.rate, scale=head.scale))
     return found

@@ -6,6 +6,8 @@ const find = (id) => document.getElementById(id);
 const STEP = 200;
 // Milliseconds between two looks at a check that goes on.
 const OFTEN = 200;
+// Findings inside packets, which change what the timeline has.
+const INSIDE = ["past_end", "unread"];
 
 const CAUSES = {
   ShortPacket: "too short for its header",
@@ -185,7 +187,9 @@ export class Findings {
   write() {
     const { findings, check, over } = this.check;
     const damage = [...new Set(findings.filter(({ severity, packet }) => severity === "damage" && packet !== null).map(({ packet }) => packet))];
-    this.timeline.setFindings(damage, over ? `checked ${check}` : `checking ${check} ${Math.floor(findings.length / 100)}`);
+    // The timeline is asked for again only for what no header says.
+    const inside = findings.filter(({ kind }) => INSIDE.includes(kind)).length;
+    this.timeline.setFindings(damage, inside ? `${check} ${over ? inside : inside - (inside % 100)}` : "");
     const list = find("findings-list");
     const all = grouped(ordered(findings));
     list.replaceChildren(...all.slice(0, this.most).flatMap((group, place) => this.rows(group, place === 0)));

@@ -33,6 +33,14 @@ export class Frames {
     return this.fetch(`now ${frame}`, revision, (signal) => server.frame(frame, signal));
   }
 
+  /** The frame before a revision is known: it is of the one that its answer names. */
+  async first(frame) {
+    const found = await this.fetch(`now ${frame}`, null, (signal) => server.frame(frame, signal));
+    const entry = this.found.get(`now ${frame}`);
+    if (entry?.value === found) entry.revision = found.revision;
+    return found;
+  }
+
   /** Frames that follow each other, fetched together. If that is refused, each one is fetched by itself. */
   getTogether(first, count) {
     if (count === 1) return this.get(first);

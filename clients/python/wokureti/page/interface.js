@@ -79,9 +79,9 @@ export async function exported() {
   return { file: await answer.blob(), name: nameIn(answer.headers.get("Content-Disposition")), said: answer.headers.get("X-Exported") };
 }
 
-/** Opens a stream of the folder as the last source, and returns its number. */
+/** Opens a stream of the folder as the last source, and returns its number, `source`. */
 export async function addSource(file) {
-  return (await (await post("sources", { file }, "the stream to be opened")).json()).source;
+  return (await post("sources", { file }, "the stream to be opened")).json();
 }
 
 /** Opens a stream of the folder on a page of its own, and returns its address. */
@@ -164,14 +164,14 @@ export async function previewFindings(lines, packet, revision, signal) {
   return (await post("preview", { lines, findings: packet, revision }, "", signal)).json();
 }
 
-/** Calls `heard` with the name of each event of the server, as long as the page is visible. */
+/** Calls `heard` with the name of each event of the server, and how many changes there were by then, as long as the page is visible. */
 export function listen(heard) {
   let source = null;
   const start = () => {
     if (source || document.hidden) return;
     source = new EventSource(new URL("events", BASE));
     for (const name of ["edit", "restarted", "saved"]) {
-      source.addEventListener(name, (event) => heard(name, JSON.parse(event.data).revision));
+      source.addEventListener(name, (event) => heard(name, JSON.parse(event.data).changes));
     }
     source.addEventListener("error", () => heard("lost", null));
     source.addEventListener("open", () => heard("open", null));

@@ -206,25 +206,19 @@ find("full").addEventListener("click", () => palette.fullScreen().catch((error) 
 let isLost = false;
 let restarts = null;
 
-async function reload() {
-  const before = model.session;
-  await model.load();
-  if (!before) return;
-  if (before.instance !== model.session.instance) location.reload();
-}
-
-server.listen((name) => {
+server.listen((name, changes) => {
   if (name === "lost") {
     isLost = true;
     status.say("the server of this page does not answer: was it ended?");
     return;
   }
-  if (isLost && name === "open") {
+  if (name === "open") {
+    if (isLost) status.say("the server answers again");
     isLost = false;
-    status.say("the server answers again");
+    return;
   }
   if (name === "restarted") notice("vp8serve ended. It was started again, and all edits are there.", { id: "restarted" });
-  reload().catch((error) => status.say(error.message));
+  model.load(changes).catch((error) => status.say(error.message));
 });
 
 // What the server says without being asked.
@@ -260,7 +254,7 @@ async function begin() {
   if (start.overlay) macroblocks.choose(start.overlay);
   if (start.panel && find(`tab-${start.panel}`)) showPanel(start.panel);
   // The first picture is asked for before anything else is known.
-  server.frame(model.frame).then(
+  frames.first(model.frame).then(
     (frame) => viewer.picture.now || viewer.picture.show(frame),
     () => {},
   );

@@ -29,8 +29,10 @@ export class Model extends EventTarget {
     this.dispatchEvent(new Event(name));
   }
 
-  /** Reads the state of the session. Calls that come in the meantime are answered by one more reading. */
-  load() {
+  /** Reads the state of the session, unless it has so many changes already. Calls that come in the meantime are answered by one more reading. */
+  async load(changes = Infinity) {
+    while (this.loading && changes < Infinity) await this.loading.catch(() => {});
+    if (this.session?.changes >= changes) return this.session;
     if (this.loading) {
       this.again = true;
       return this.loading;

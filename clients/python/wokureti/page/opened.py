@@ -94,7 +94,7 @@ class Opened(live.Live):
                 raise live.Changed
             key = (view.contents, view.script, tuple(view.timeline(source).frames[-1] for source in range(len(view.streams))))
             if self.known_runs[0] != key:
-                self.known_runs = (key, self.ask(runs_of))
+                self.known_runs = (key, self.ask(lambda session: runs_of(session, view.script, view.frames)))
             return self.known_runs[1]
 
     def origins(self, view, first, count):

@@ -135,10 +135,13 @@ class PageRoutes(Routes):
     def session(self, request):
         """What the page shows of the session."""
         self.only(request)
+        # What changes while the answer is made is in the next one.
+        others = self.live.changes - self.live.revision
         view = self.live.current_view()
         first, edits, saves = view.timeline(0), self.live.session.edits, self.saves_of(view)
         members = {
             "revision": view.revision,
+            "changes": others + view.revision,
             "instance": self.live.instance,
             "names": self.titles,
             "packets": len(view.streams[0]),
@@ -378,7 +381,7 @@ class PageRoutes(Routes):
             lines = found.lines if source == view.source or not found.lines else [f"use {source}", *found.lines]
             if lines:
                 self.live.run_step(lines, f"{'Move' if members['move'] else 'Copy'} {found.count} packets to {found.first}")
-            return as_json({"revision": self.live.revision, "first": found.first, "count": found.count, "deleted": found.deleted, "made": len(lines)})
+            return self.changed(first=found.first, count=found.count, deleted=found.deleted, made=len(lines))
 
     def lines_of(self, request, word):
         """What `header` or `macroblocks` reports of a packet: lines, and members that say why there are none."""
@@ -612,7 +615,7 @@ class PageRoutes(Routes):
             raise Refuse(409, str(error)) from None
         self.titles.append(os.path.basename(path))
         self.added.append(path)
-        return as_json({"source": len(self.titles) - 1, "revision": self.live.revision})
+        return self.changed(source=len(self.titles) - 1)
 
     def attached(self, ending, what="edited"):
         """The headers of an answer that a browser saves as a file."""
@@ -670,7 +673,7 @@ class PageRoutes(Routes):
                 reply = self.live.run_step(lines, members.get("title", ""))
             except ValueError as error:
                 raise Refuse(400, str(error)) from None
-            return as_json({"reply": reply, "revision": self.live.revision})
+            return self.changed(reply=reply)
 
     def save(self, members):
         """Saves the packets of a source."""
@@ -684,7 +687,7 @@ class PageRoutes(Routes):
                 path, renumbered = self.live.make(lambda: (self.live.save(source), self.live.renumbers(source)))
             except ValueError as error:
                 raise Refuse(409, str(error)) from None
-            return as_json({"reply": path, "revision": self.live.revision, "renumbered": renumbered})
+            return self.changed(reply=path, renumbered=renumbered)
 
 
 def pieces_of(file, start=0, end=None):

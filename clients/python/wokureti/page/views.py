@@ -180,7 +180,9 @@ class View:
         self.before = before
         if before is not None:
             before.before = None
-        self.script, self.source, self.frames, self.found_times = contents.script, contents.current, session.count().frames, None
+        is_same = before is not None and before.revision == revision
+        self.script, self.frames = (before.script, before.frames) if is_same else (contents.script, session.count().frames)
+        self.source, self.found_times = contents.current, None
         edits = session.edits
         self.edits_before = max(0, len(edits.entries) - MOST_EDITS)
         self.edits = [(entry.line[:MOST_TEXT], entry.step, entry.title) for entry in edits.entries[-MOST_EDITS:]]

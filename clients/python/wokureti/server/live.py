@@ -149,6 +149,11 @@ class Live:
         """Nothing is known of the packets any more: the program reads the streams again."""
         self.known = self.found = (None, None)
 
+    @property
+    def changes(self):
+        """How often something was changed: an edit, a save, or the program started again. Who knows the number knows all."""
+        return self.revision + len(self.events) + self.saves.count
+
     def tell(self):
         """The stream was changed."""
         self.revision += 1

@@ -3,7 +3,6 @@
 import contextlib
 import errno
 import os
-import signal
 import stat
 import subprocess
 import sys
@@ -12,9 +11,12 @@ import threading
 from ..session.errors import Ended, Lost
 from .folders import EDITS, FRAMES, Folder, Unreadable
 from .live import Changed
+from ..tools import waits
 from ..tools.progress import say
 
 WRITES = os.O_WRONLY | os.O_RDWR
+# Seconds between two looks at whether a folder is unmounted.
+OFTEN = 0.02
 # The operations that are answered, and those that would change the folder.
 DONE = ("init", "destroy", "getattr", "readdir", "open", "read", "write", "truncate", "flush", "fsync", "release", "statfs", "access", "utimens")
 REFUSED = ("chmod", "chown", "create", "mkdir", "unlink", "rmdir", "rename", "symlink", "link", "mknod")
@@ -47,14 +49,19 @@ class Open:
 class Operations:
     """What the system asks of the folder. Paths begin with `/`."""
 
-    def __init__(self, folder, fail):
-        self.folder, self.fail = folder, fail
+    def __init__(self, folder, module):
+        self.folder, self.fail, self.unmount = folder, module.FuseOSError, module.fuse_exit
+        # Set when the folder is to be unmounted: the next operation does that, since libfuse takes it only from one.
+        self.is_over = False
         self.opened, self.count, self.counting = {}, 0, threading.Lock()
         # Whether the list of edits was cut to nothing before it is opened: the system does so in two steps.
         self.is_cut = False
 
     def __call__(self, operation, *given):
         """Does an operation. Errors are those of the system."""
+        if self.is_over and operation not in ("init", "destroy"):
+            self.unmount()
+            raise self.fail(errno.ENODEV)
         if operation in REFUSED:
             raise self.fail(errno.EROFS)
         if operation not in DONE:
@@ -164,6 +171,38 @@ def clear(folder):
                     return
 
 
+class Mount:
+    """A folder that a thread of its own mounts. In the main thread libfuse takes the signals over, and one that comes right before that ends the process."""
+
+    def __init__(self, operations, mounts):
+        self.operations, self.mounts, self.gone, self.error = operations, mounts, threading.Event(), None
+        self.thread = threading.Thread(target=self.work, daemon=True)
+
+    def work(self):
+        try:
+            if not self.operations.is_over:
+                self.mounts(self.operations)
+        except BaseException as error:
+            self.error = error
+        finally:
+            self.gone.set()
+
+    def wait(self):
+        """Mounts the folder until it is unmounted."""
+        self.thread.start()
+        while not self.gone.wait(waits.LONGEST):
+            pass
+        if self.error is not None:
+            raise self.error
+
+    def end(self, folder):
+        """Unmounts the folder, also if it is just being mounted."""
+        self.operations.is_over = True
+        while self.thread.ident is not None and not self.gone.wait(OFTEN):
+            with contextlib.suppress(OSError):
+                os.stat(folder)
+
+
 def run(live, folder, others=False, server=None):
     """Mounts the folder until it is unmounted or the process is interrupted. `server` serves the same session meanwhile."""
     module = fuse_module()
@@ -172,19 +211,23 @@ def run(live, folder, others=False, server=None):
         raise ValueError(f"{folder} is no folder: make it first")
     if os.listdir(folder):
         raise ValueError(f"{folder} is not empty: mount in an empty folder")
-    # libfuse ends by these signals, and unmounts, if Python does not have them.
-    for number in (signal.SIGTERM, signal.SIGHUP):
-        signal.signal(number, signal.SIG_DFL)
-    if server is not None:
-        threading.Thread(target=server.serve, daemon=True).start()
-    print(os.path.join(folder, ""), file=sys.stdout, flush=True)
-    say("Ctrl-C or umount ends it")
     options = {"allow_other": True} if others else {}
+    mount = Mount(
+        Operations(Folder(live), module),
+        lambda operations: module.FUSE(operations, folder, foreground=True, direct_io=True, attr_timeout=0, entry_timeout=0, auto_unmount=True, fsname="wokureti", **options),
+    )
     try:
-        module.FUSE(Operations(Folder(live), module.FuseOSError), folder, foreground=True, direct_io=True, attr_timeout=0, entry_timeout=0, auto_unmount=True, fsname="wokureti", **options)
+        if server is not None:
+            threading.Thread(target=server.serve, daemon=True).start()
+        print(os.path.join(folder, ""), file=sys.stdout, flush=True)
+        say("Ctrl-C or umount ends it")
+        mount.wait()
+    except KeyboardInterrupt:
+        pass
     except RuntimeError as error:
         raise ValueError(f"{folder} could not be mounted: libfuse gave status {error}") from None
     finally:
+        mount.end(folder)
         if server is not None:
             server.end()
             server.routes.others.close()

@@ -217,7 +217,11 @@ class Routes:
                 reply = self.live.run(line)
             except ValueError as error:
                 raise Refuse(409 if line == "save" else 400, str(error)) from None
-            return as_json({"reply": reply, "revision": self.live.revision})
+            return self.changed(reply=reply)
+
+    def changed(self, **members):
+        """The answer to a change."""
+        return as_json({**members, "revision": self.live.revision, "changes": self.live.changes})
 
     def events(self, request):
         """A line for each change, as it comes."""
@@ -226,21 +230,18 @@ class Routes:
 
     def beats(self):
         """The revisions, the current one first."""
-        told, restarts, saved = None, len(self.live.events), self.live.saves.count
+        told, restarts, changes = None, len(self.live.events), self.live.changes
         while not self.server.ended:
             with self.live.lock:
-                if (told, restarts, saved) == (self.live.revision, len(self.live.events), self.live.saves.count):
+                if told is not None and changes == self.live.changes:
                     self.live.changed.wait(BEAT)
-                revision, count, was_saved = self.live.revision, len(self.live.events), self.live.saves.count
-            if revision != told:
-                yield b'event: edit\ndata: {"revision": %d}\n\n' % revision
-            elif count != restarts:
-                yield b'event: restarted\ndata: {"revision": %d}\n\n' % revision
-            elif was_saved != saved:
-                yield b'event: saved\ndata: {"revision": %d}\n\n' % revision
-            else:
+                revision, count, before, changes = self.live.revision, len(self.live.events), changes, self.live.changes
+            if told is not None and changes == before:
                 yield b": %d\n\n" % int(time.time())
-            told, restarts, saved = revision, count, was_saved
+            else:
+                name = b"edit" if revision != told else b"restarted" if count != restarts else b"saved"
+                yield b'event: %b\ndata: {"revision": %d, "changes": %d}\n\n' % (name, revision, changes)
+            told, restarts = revision, count
 
 
 def parse_change(body):

@@ -11,7 +11,7 @@ from typing import NamedTuple
 from . import checks
 from ..tools import excerpts, files, ivf, muxing, runs, times
 from .inputs import is_input
-from .lines import first_word, rest_of, spaced, words_of
+from .lines import LOSING, first_word, rest_of, spaced, words_of
 from .listing import Listing
 from ..tools.progress import say
 
@@ -40,6 +40,18 @@ class Operation(NamedTuple):
     def is_lost(self):
         """Whether it is not known what the line inserts."""
         return self.word in ("insert", "replace", "script") and not self.text
+
+
+class Plan(NamedTuple):
+    """Edits that were followed before they are made: the contents after them, and what takes each of them back."""
+
+    after: object
+    inverses: list
+
+    @property
+    def of_file(self):
+        """For each edit whether the packet that it takes away is one of a file, so that it need not be asked for."""
+        return [inverse.packet is not None and inverse.packet < self.after.of_files for inverse in self.inverses]
 
 
 class Made(NamedTuple):
@@ -88,15 +100,16 @@ class Contents:
         self.of_files = count
         # The packets that edits made, and of those that edits took away since what `packet` answered.
         self.made, self.lost = [], {}
+        self.stamped = (None, None, None)
         self.listing = Listing(self)
 
     # Edits
 
-    def apply(self, line, lost=""):
-        """Makes an accepted edit, which lost this, and returns what takes it back."""
+    def apply(self, line):
+        """Makes an accepted edit, and returns what takes it back."""
         word, *rest = words_of(line)
         if word == "script":
-            return Operation(word, (), None, lost)
+            return Operation(word, ())
         if word in ("insert", "blank", "hold"):
             return self.perform(Operation("insert", (int(rest[0]),), self.make(None, word != "insert")))
         if word == "copy":
@@ -105,43 +118,45 @@ class Contents:
             return self.perform(Operation("insert", (at,), self.make(copied, self.is_forged(copied))))
         if word in ("replace", "hide", "show"):
             at = int(rest[0])
-            return self.perform(Operation("replace", (at,), self.make(self.streams[self.current][at])), lost)
-        return self.perform(Operation(word, tuple(map(int, rest))), lost)
+            return self.perform(Operation("replace", (at,), self.make(self.streams[self.current][at])))
+        return self.perform(Operation(word, tuple(map(int, rest))))
 
-    def apply_all(self, lines, losses=None):
+    def apply_all(self, lines):
         """Makes accepted edits, and returns what takes each of them back. Packets that are deleted one after the other go together."""
-        found, losses = [], itertools.repeat("") if losses is None else iter(losses)
+        found = []
         for line, group in itertools.groupby(lines):
-            texts = [next(losses) for _ in group]
+            count = len(list(group))
             word, *rest = words_of(line)
-            if len(texts) == 1 or word != "delete":
-                found += [self.apply(line, text) for text in texts]
+            if count == 1 or word != "delete":
+                found += [self.apply(line) for _ in range(count)]
                 continue
             at, stream = int(rest[0]), self.streams[self.current]
-            numbers = stream[at : at + len(texts)]
-            del stream[at : at + len(texts)]
-            found += [self.take(Operation("insert", (at,), number, text)) for number, text in zip(numbers, texts)]
+            numbers = stream[at : at + count]
+            if len(numbers) < count:
+                raise IndexError(f"there are no {count} packets from {at} on")
+            del stream[at : at + count]
+            found += [Operation("insert", (at,), number) for number in numbers]
         return found
 
-    def perform_all(self, operations, losses=None):
+    def perform_all(self, operations):
         """Makes changes, and returns what takes each of them back. Packets that are inserted at one index go in together: the last one comes first."""
-        found, losses = [], itertools.repeat("") if losses is None else iter(losses)
+        found = []
         for (word, numbers), group in itertools.groupby(operations, lambda operation: operation[:2]):
-            group = [(operation, next(losses)) for operation in group]
+            group = list(group)
             if word != "insert" or len(group) == 1:
-                found += [self.perform(operation, text) for operation, text in group]
+                found += map(self.perform, group)
                 continue
             [at] = numbers
-            self.streams[self.current][at:at] = array("I", [operation.packet for operation, _ in reversed(group)])
+            self.streams[self.current][at:at] = array("I", [operation.packet for operation in reversed(group)])
             found += [Operation("delete", (at,))] * len(group)
         return found
 
-    def perform(self, operation, lost=""):
-        """Makes a change, which lost this, and returns what takes it back."""
+    def perform(self, operation):
+        """Makes a change, and returns what takes it back, without what it lost."""
         word, numbers, packet, _ = operation
         stream = self.streams[self.current]
         if word == "script":
-            return Operation(word, (), None, lost)
+            return Operation(word, ())
         if word == "use":
             before, self.current = self.current, numbers[0]
             return Operation(word, (before,))
@@ -154,17 +169,18 @@ class Contents:
             stream.insert(at, packet)
             return Operation("delete", (at,))
         if word == "delete":
-            return self.take(Operation("insert", (at,), stream.pop(at), lost))
+            return Operation("insert", (at,), stream.pop(at))
         before, stream[at] = stream[at], packet
-        self.take(Operation("insert", (at,), before, lost))
-        # A packet that is replaced keeps its time stamp.
-        return Operation("replace", (at,), before, rest_of(lost))
+        return Operation("replace", (at,), before)
 
-    def take(self, operation):
-        """The operation, which inserts a packet again that is taken away: an edit made it, so it is in no file."""
-        if operation.packet >= self.of_files and operation.text:
-            self.lost[operation.packet] = operation.text
-        return operation
+    def whole_by(self, inverse, lost):
+        """What takes an edit back, with what the edit lost, if that was asked for. A packet that an edit made is in no file."""
+        if not lost:
+            return inverse
+        if inverse.packet is not None and inverse.packet >= self.of_files:
+            self.lost[inverse.packet] = lost
+        # A packet that is replaced keeps its time stamp.
+        return inverse._replace(text=rest_of(lost) if inverse.word == "replace" else lost)
 
     def make(self, timed, is_forged=False):
         """The number of a new packet."""
@@ -184,19 +200,31 @@ class Contents:
         """The number of the next packet that an edit makes."""
         return self.of_files + len(self.made)
 
-    def taken(self, lines):
-        """For each of some edits whether the packet that it takes away is one of a file, so that it need not be asked for. That is sure of one edit, and of
-        several, whichever of them are refused, where they reach no packet that an edit made; else it is not said of any."""
-        other = copy.copy(self)
-        other.streams, other.made, other.lost = [array("I", stream) for stream in self.streams], list(self.made), {}
+    def takes_of_file(self, line):
+        """Whether the packet that an edit takes away is one of a file, so that it need not be asked for."""
+        word, *rest = words_of(line)
         try:
-            if len(lines) > 1 and self.made and any(number >= self.of_files for stream in self.reach(lines) for number in stream):
-                return [False] * len(lines)
-            inverses = other.apply_all(lines)
+            return word in LOSING and self.streams[self.current][int(rest[0])] < self.of_files
         except (IndexError, ValueError):
-            # One is refused.
-            return [False] * len(lines)
-        return [inverse.packet is not None and inverse.packet < self.of_files for inverse in inverses]
+            # It is refused.
+            return False
+
+    def planned(self, lines):
+        """Follows edits that are about to be made: a `Plan`. None if one will be refused, or if they reach packets that edits made: if one is refused, others may
+        take these away where packets of a file were thought to be."""
+        after = copy.copy(self)
+        try:
+            if len(lines) > 1 and self.made and any(max(stream, default=0) >= self.of_files for stream in self.reach(lines)):
+                return None
+            after.streams, after.made = [array("I", stream) for stream in self.streams], list(self.made)
+            return Plan(after, after.apply_all(lines))
+        except (IndexError, OverflowError, ValueError):
+            return None
+
+    def adopt(self, plan):
+        """Takes over what was planned, once all of it was accepted, and returns what takes each edit back."""
+        self.streams, self.made, self.current = plan.after.streams, plan.after.made, plan.after.current
+        return plan.inverses
 
     def reach(self, lines):
         """The packets that edits can take away: of deletions those around, of others all."""
@@ -247,9 +275,12 @@ class Contents:
         return array("Q", (self.duration(number, source) for number in stream))
 
     def stamps(self, source, stream):
-        """New time stamps for packets in the order of a source, and the end of the last one."""
-        self.listing.learn()
-        return times.stamps_of(zip(map(self.is_shown, stream), self.durations(source, stream)))
+        """New time stamps for packets in the order of a source, and the end of the last one. They are kept for what is asked next of the same packets."""
+        known = self.stamped
+        if known[:2] != (source, stream):
+            self.listing.learn()
+            known = self.stamped = (source, array("I", stream), times.stamps_of(zip(map(self.is_shown, stream), self.durations(source, stream))))
+        return known[2]
 
     # Facts
 

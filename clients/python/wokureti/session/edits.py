@@ -158,9 +158,9 @@ class EditList:
             last = lines_in(text)[-1]
             raise ValueError(f"{self.path}: the last line has no newline, so it may be cut off: {last[:80]!r}. End the line, or delete it")
         entries, numbers, after = self._parsed(text, self.path)
-        self._replay(entries, self.path, numbers)
+        plan = self._replay(entries, self.path, numbers)
         self._entries, self._after = entries, after
-        self._know_all()
+        self._know(self._contents, entries, plan)
         self._step = entries[-1].step if entries else 0
         place = 0
         lines = lines_in(text)
@@ -169,14 +169,14 @@ class EditList:
             self._ends.append(place)
 
     def run(self, path: Union[str, bytes, os.PathLike[str], os.PathLike[bytes]]) -> None:
-        """Makes the edits of a list, which is only read."""
+        """Makes the edits of a list, which is only read. `ValueError` if one is refused: those that were made by then are in this list."""
         with open(path, encoding="utf-8") as file:
             text = file.read()
         entries, numbers, _ = self._parsed(text, path)
         with self._session.turn():
-            self._replay(entries, path, numbers)
-            for entry in entries:
-                self.accept(entry.line, entry.lost)
+            replies, plan = self._send([entry.line for entry in entries])
+            self.accept([(entry.line, lost) for entry, (reply, lost) in zip(entries, replies) if not isinstance(reply, Refused)], plan)
+            check(entries, path, numbers, replies)
 
     def _parsed(self, text, path):
         """The entries of a list, which must be of this stream."""
@@ -189,18 +189,19 @@ class EditList:
         return parsed(text, self._step)
 
     def _replay(self, entries, path, numbers):
-        for entry, number, (reply, lost) in zip(entries, numbers, self._send([entry.line for entry in entries])):
-            if isinstance(reply, Refused):
-                raise ValueError(f"{path}, line {number}: {entry.line[:80]}: {reply}. The list is not of this stream") from None
+        replies, plan = self._send([entry.line for entry in entries])
+        check(entries, path, numbers, replies)
+        for entry, (_, lost) in zip(entries, replies):
             entry.lost = lost
+        return plan
 
     def resume(self, other):
         """Goes on with the list of a session that ended: with its edits, those too that its file does not have, and with what was undone."""
-        self._replay(other._entries, other.path or "the list of edits", range(1, len(other._entries) + 1))
+        plan = self._replay(other._entries, other.path or "the list of edits", range(1, len(other._entries) + 1))
         self._entries, self._undone, self._after, self._step = other._entries, other._undone, other._after, other._step
         for entry in self._entries:
             entry.inverse = None
-        self._know_all()
+        self._know(self._contents, self._entries, plan)
         self.on_notice, self._ends, self._path, self._named = other.on_notice, other._ends, other._path, other._named
         if self._path is None:
             return
@@ -223,17 +224,14 @@ class EditList:
             self._contents = contents
         return self._contents
 
-    def _know_all(self):
-        """The list has the edits that the program made already."""
-        if self._contents is not None:
-            self._know(self._contents, self._entries)
-
     @staticmethod
-    def _know(contents, entries):
-        """Makes accepted edits in the contents, and finds what takes each of them back."""
-        inverses = contents.apply_all([entry.line for entry in entries], [entry.lost for entry in entries])
+    def _know(contents, entries, plan=None):
+        """Follows accepted edits in the contents, if these were needed before, and finds what takes each of them back."""
+        if contents is None:
+            return
+        inverses = contents.apply_all([entry.line for entry in entries]) if plan is None else contents.adopt(plan)
         for entry, inverse in zip(entries, inverses):
-            entry.inverse = inverse
+            entry.inverse = contents.whole_by(inverse, entry.lost)
 
     @property
     def current(self) -> int:
@@ -242,11 +240,21 @@ class EditList:
             return self._contents.current
         return next((int(words_of(entry.line)[1]) for entry in reversed(self._entries) if entry.is_use), 0)
 
-    def _send(self, lines, timeout=None, progress=None, texts=None):
-        """Sends edits, each after the question what it loses. For each that was sent the reply, which may be a refusal, and what was lost.
-        `progress` is called with how many were made. `texts` are the lines if these are only how they begin."""
-        questions = self._questions(lines)
-        sent = (text for pair in zip(questions, lines if texts is None else texts) for text in pair if text is not None)
+    def _send(self, lines, timeout=None, progress=None):
+        """Sends edits, each after the question what it loses. For each that was sent the reply, which may be a refusal, and what was lost; and the plan that was
+        made of them, if none was refused. `progress` is called with how many were made."""
+        questions, plan = list(map(question_before, lines)), None
+        count = sum(question is not None for question in questions)
+        if count > 1 or (count and self._contents is not None):
+            plan = self.contents().planned(list(map(plain, lines)))
+        if plan is not None:
+            questions = [None if is_of_file else question for question, is_of_file in zip(questions, plan.of_file)]
+        replies = self._ask(questions, lines, timeout, progress)
+        return replies, None if refusal_of(replies) else plan
+
+    def _ask(self, questions, lines, timeout, progress=None):
+        """Sends edits, each after a question, if there is one. For each that was sent the reply, and what was lost."""
+        sent = (text for pair in zip(questions, lines) for text in pair if text is not None)
         ends = list(accumulate(1 + (question is not None) for question in questions))
         told = None if progress is None else lambda done: progress(bisect.bisect_right(ends, done))
         replies, found = iter(self._session.request_all(sent, timeout, told)), []
@@ -260,17 +268,7 @@ class EditList:
 
     def question(self, line):
         """The question what an edit loses, or None if it loses nothing, or a packet that a file has."""
-        found = question_before(line)
-        return self._questions([line])[0] if found is not None and self._contents is not None else found
-
-    def _questions(self, lines):
-        """The same for edits that are sent together. Which packets they take away is only sure as long as none is refused, so that it must not matter."""
-        questions = list(map(question_before, lines))
-        count = sum(question is not None for question in questions)
-        if count > 1 or (count and self._contents is not None):
-            taken = self.contents().taken(list(map(plain, lines)))
-            questions = [None if is_of_file else question for question, is_of_file in zip(questions, taken)]
-        return questions
+        return None if self._contents is not None and self._contents.takes_of_file(line) else question_before(line)
 
     @contextlib.contextmanager
     def step(self, title: str = "") -> Iterator[None]:
@@ -298,29 +296,18 @@ class EditList:
         if self._depth == 0:
             self._step += 1
 
-    def accept(self, line, lost=""):
-        """Adds an edit that the program accepted, and what it lost."""
-        self._new_step()
-        before = self._after or ("" if self._entries else self._first_line())
-        entry = Entry(line, self._step, before, lost=lost)
-        self._after = ""
-        if self._contents is not None:
-            self._know(self._contents, [entry])
-        self._entries.append(entry)
+    def accept(self, edits, plan=None):
+        """Adds edits that the program accepted, pairs of a line and what it lost. They are followed here, unless that was planned."""
+        entries = []
+        for line, lost in edits:
+            self._new_step()
+            before = self._after or ("" if self._entries or entries else self._first_line())
+            entries.append(Entry(line, self._step, before, lost=lost))
+            self._after = ""
+        self._know(self._contents, entries, plan)
+        self._entries += entries
         self._undone.clear()
         self._write()
-
-    def _accept_all(self, lines, losses):
-        """Adds the edits of a step that the program accepted."""
-        contents, start = self._contents, len(self._entries)
-        self._contents = None
-        try:
-            for line, lost in zip(lines, losses):
-                self.accept(line, lost)
-        finally:
-            self._contents = contents
-        if contents is not None:
-            self._know(contents, self._entries[start:])
 
     def _first_line(self):
         """The comment that says which stream a list is of."""
@@ -384,18 +371,16 @@ class EditList:
     def _run_step(self, lines, timeout, progress, title):
         count, undone, after = len(self._entries), list(self._undone), self._after
         # After a refusal the program may have made some of the edits that follow it: those are taken back too.
-        replies = self._send(lines, timeout, progress)
-        refused = refusal_of(replies)
+        replies, plan = self._send(lines, timeout, progress)
+        refused, made = refusal_of(replies), [(plain(line), lost) for line, (reply, lost) in zip(lines, replies) if not isinstance(reply, Refused)]
         if refused is None:
             with self.step(title):
-                self._accept_all(list(map(plain, lines)), [lost for _, lost in replies])
+                self.accept(made, plan)
             return replies[-1][0] if replies else ""
         self._depth += 1
         try:
             new = self.contents().next_number
-            for line, (reply, lost) in zip(lines, replies):
-                if not isinstance(reply, Refused):
-                    self.accept(plain(line), lost)
+            self.accept(made)
             self._take_back(self._entries[count:], timeout, new)
             del self._entries[count:]
             self._undone, self._after = undone, after
@@ -440,9 +425,11 @@ class EditList:
         if not all(contents.has_whole(operation, new) for operation in operations):
             raise Refused("refused NoMemory", "there was no memory to ask for what the edit took away")
         texts = (contents.whole(operation).line for operation in operations)
-        replies = self._send([operation.line for operation in operations], timeout, texts=texts)
+        # What is taken away here was made by edits, so it is asked for.
+        replies = self._ask([question_before(operation.line) for operation in operations], texts, timeout)
         refused, made = refusal_of(replies), [(operation, lost) for operation, (reply, lost) in zip(operations, replies) if not isinstance(reply, Refused)]
-        done = contents.perform_all([operation for operation, _ in made], [lost for _, lost in made])
+        inverses = contents.perform_all([operation for operation, _ in made])
+        done = [contents.whole_by(inverse, lost) for inverse, (_, lost) in zip(inverses, made)]
         if refused is not None:
             for operation in reversed(done):
                 self._session.request(contents.whole(operation).line, timeout, listed=False)
@@ -456,13 +443,13 @@ class EditList:
             return []
         group, contents = self._undone[-1], self.contents()
         new = contents.next_number
-        replies = self._send([entry.line for entry in group], timeout)
+        replies, plan = self._send([entry.line for entry in group], timeout)
         refused, made = refusal_of(replies), []
         for entry, (reply, lost) in zip(group, replies):
             if not isinstance(reply, Refused):
                 entry.lost = lost
                 made.append(entry)
-        self._know(contents, made)
+        self._know(contents, made, plan)
         if refused is not None:
             self._perform([entry.inverse for entry in reversed(made)], timeout, new)
             raise refused
@@ -470,6 +457,13 @@ class EditList:
         self._entries += group
         self._write()
         return [entry.line for entry in group]
+
+
+def check(entries, path, numbers, replies):
+    """`ValueError` if an edit of a list was refused, which names its line."""
+    for entry, number, (reply, _) in zip(entries, numbers, replies):
+        if isinstance(reply, Refused):
+            raise ValueError(f"{path}, line {number}: {entry.line[:80]}: {reply}. The list is not of this stream") from None
 
 
 def refusal_of(replies):

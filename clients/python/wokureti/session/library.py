@@ -6,10 +6,12 @@ A session of the library stays on the thread that opened it, so each has a worke
 import ctypes
 import os
 import queue
+import re
 import threading
 import time
 import weakref
 
+from . import checks
 from ..tools import ivf, programs, versions
 from ..tools.files import write_whole
 from .frames import MARK, size_of
@@ -27,6 +29,7 @@ OK, FILE, MEMORY, ROOM, LOST, NO_MEMORY = 0, 2, 3, 5, 7, 31
 # Numbers of `wk_export`: a frame that the script changes, and too many packets.
 CHANGED, FULL = 33, 35
 REFUSALS = range(16, 33)
+FRAME = re.compile(rb"frame ([0-9]{1,20})")
 FAULTS = {
     1: "a number is outside its range: 1 to 8 files and 1 to 4096 states",
     3: "out of memory",
@@ -162,7 +165,7 @@ class Engine:
     """A session of the library. All its calls are made on one thread."""
 
     def __init__(self, library, files, states, tables, explains, most_bytes=None):
-        self.library, self.explains, self.reasons = library, explains, []
+        self.library, self.explains, self.lines, self.reasons = library, explains, 0, []
         self.handle = (ctypes.c_void_p * 1)()
         self.shown, self.length = Shown(), ctypes.c_size_t()
         self.size = (0, 0)
@@ -187,16 +190,27 @@ class Engine:
         """The reply to a line, and the picture if it is served."""
         # A carriage return before the newline is no part of a line.
         line = line.removesuffix(b"\n").removesuffix(b"\r")
+        self.lines += 1
+        found = FRAME.fullmatch(line)
+        number = int(found.group(1)) if found else None
+        picture = self.picture(number) if found and number <= checks.MOST else None
+        if picture is not None:
+            return f"served {number}", picture
+        # Why it is refused is in the reply alone.
         status = self.library.wk_request(self.handle, line, len(line), ctypes.byref(self.length))
         if status != OK:
             raise Strange(f"out of memory for a reply ({status})")
         reply = self.text().decode(errors="replace").rstrip("\n")
         if self.explains and is_refusal(reply):
-            self.reasons.append(self.reason())
-        return reply, self.picture(int(words_of(reply)[1])) if reply.startswith("served ") else None
+            self.reasons.append((self.lines, self.reason()))
+        if reply.startswith("served "):
+            picture = self.picture(int(words_of(reply)[1]))
+            if picture is None:
+                raise Strange(f"{reply}, and then not")
+        return reply, picture
 
     def picture(self, number):
-        """A frame that was just served, into new memory."""
+        """A frame, in new memory, or None if it is refused."""
         while True:
             width, height = self.size
             across, down, samples = (width + 1) // 2, (height + 1) // 2, room_of(max(1, size_of(width, height)))
@@ -210,14 +224,14 @@ class Engine:
             if status == OK:
                 return width, height, memoryview(samples)
             if status != ROOM or self.size == (self.shown.width, self.shown.height):
-                raise Strange(f"frame {number} was served, and then not ({status})")
+                return None
             self.size = (self.shown.width, self.shown.height)
 
     def reason(self):
-        """Why the last line was refused, as the program explains it."""
+        """Why the last line was refused, as the program explains it, without the number of the line: frames are not counted there."""
         if self.library.wk_why(self.handle, ctypes.byref(self.length)) != OK:
-            return ""
-        return self.text().decode(errors="replace").rstrip("\n")
+            return None
+        return self.text().decode(errors="replace").rstrip("\n").partition(": ")[2] or None
 
     def saved(self, pads, source=0, restamps=False):
         """The IVF file of the current packets of a source."""
@@ -351,8 +365,7 @@ class Library:
     def explanation(self, number):
         """The text that explains the refusal of request line `number`; those of earlier lines are dropped."""
         reasons, self.engine.reasons = self.engine.reasons, []
-        start = f"line {number}: "
-        return next((reason[len(start) :] for reason in reasons if reason.startswith(start)), None)
+        return next((reason for line, reason in reasons if line == number), None)
 
     def owner_is_here(self):
         """Whether this is the process that opened the session, and not a forked copy, in which the worker is not."""

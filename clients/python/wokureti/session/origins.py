@@ -18,13 +18,14 @@ class Run(NamedTuple):
     changed: tuple
 
 
-def runs_of(session, first=0, count=None):
-    """The frames that the script serves now, or some of them, as runs. Without a script they are those of source 0, and nothing is asked for them."""
-    end = session.count().frames
-    end = end if count is None else min(end, first + count)
-    if session.edits.contents().script == "-":
-        return [Run(end - first, 0, first, ())] if end > first else []
-    found = []
+def runs_of(session, script=None, end=None):
+    """The frames that the script serves now, as runs. The script and the number of frames are asked for if they are not given. Without a script the frames are those
+    of source 0, and nothing is asked for them."""
+    script = session.edits.contents().script if script is None else script
+    end = session.count().frames if end is None else end
+    if script == "-":
+        return [Run(end, 0, 0, ())] if end else []
+    found, first = [], 0
     while first < end:
         reply = session.ask(f"origins {first} {min(PAGE, end - first)}")
         for run in runs_in(ORIGIN.findall(reply)):

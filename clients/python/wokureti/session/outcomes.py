@@ -63,8 +63,8 @@ def cropped(outcome, nodes, changed):
 
 def of_script(session):
     """The runs of the frames that are served."""
-    contents = session.edits.contents()
-    nodes, origins = nodes_of(contents.script), runs_of(session)
+    script = session.edits.contents().script
+    nodes, origins = nodes_of(script), runs_of(session, script)
     sources, found = {}, []
     for count, source, first, changed in origins:
         if source not in sources:

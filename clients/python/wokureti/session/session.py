@@ -267,7 +267,7 @@ class Session:
                 if self.on_edit is not None:
                     self.on_edit(line)
                 if listed:
-                    self._edits.accept(plain(line), rest_of(answers[0][0]) if answers else "")
+                    self._edits.accept([(plain(line), rest_of(answers[0][0]) if answers else "")])
             return reply, picture
 
     def _exchange(self, *lines, deadline):
