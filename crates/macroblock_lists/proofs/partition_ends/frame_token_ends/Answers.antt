@@ -19,4 +19,4 @@ returns c =
     let places : List Place = c.as_slice-partitions.result.now in
     let readers : map (λ text. started text.items) c.deref.result.now ≡ map (λ place. started (marked_text c.args.zeros c.args.packet.now place)) places =
     ap (λ texts. map (λ text. started text.items) texts) c.deref.ensures.value ∙ marked_readers (λ text. text.items) c.args.zeros c.args.packet.now c.in_ok-texts.texts.items places c.in_ok-texts.ensures in
-    c.token_ends.ensures ∙ token_ends_are c.args.zeros c.args.packet.now c.args.header.now c.args.columns c.args.modes.now (map (λ text. started text.items) c.deref.result.now) places _ c.as_slice-partitions.ensures.value readers (rw c.in_ok-tokens.ensures at c.read_first.ensures.value)
+    c.token_ends.ensures ∙ token_ends_are c.args.zeros c.args.packet.now c.args.header.now c.args.columns c.args.modes.now (map (λ text. started text.items) c.deref.result.now) places _ c.as_slice-partitions.ensures.value readers (rw (c.in_ok-tokens.ensures, c.len.ensures) at c.read_first.ensures.value)
