@@ -22,6 +22,7 @@ use crate::listing::ListFault;
 use crate::records::read_records;
 use frame_header::{Cause, Header, Place, has_key_tag, read_header};
 use header_bits::{Coded, read_coded};
+use pixel_planes::macroblocks;
 use state_cache::Broken;
 use std::alloc::Global;
 use std::io::Write;
