@@ -1,5 +1,5 @@
 -- A header over a first partition with zeros and a mark after it is that of the packet, if bits of these are left after the records.
-use Rattle.std.proofs.Common.{◌≡◌, ℕ, zero, suc, ◌+◌, ◌-◌, ◌*◌, ◌<◌, Bool, true, List, [], ◌∷◌, ◌++◌, length, map, refl, sym, subst, ap, ◌∙◌, arith, inl, inr, Option, Some, None, Result, Ok, Err}
+use Rattle.std.proofs.Common.{◌≡◌, ℕ, zero, suc, ◌+◌, ◌-◌, ◌*◌, ◌<◌, true, List, [], ◌∷◌, ◌++◌, length, map, refl, sym, subst, ap, ◌∙◌, arith, inl, inr, Option, Some, None, Result, Ok, Err}
 use Rattle.std.specs.Prelude.{slice_range}
 use Rattle.std.specs.List.{range_with_len}
 use Rattle.std.specs.Option.{option_map}
@@ -13,7 +13,7 @@ use Rattle.bool_coder.specs.Taken.{marked}
 use Rattle.vp8_tables.specs.Tables.{TableEntries}
 use Rattle.frame_header.specs.Contexts.{first_context}
 use Rattle.frame_header.specs.Fields.{fields}
-use Rattle.frame_header.specs.Header.{first_end, first_partition, header_from, header_in, header_of, header_over}
+use Rattle.frame_header.specs.Header.{first_end, first_partition, header_from, header_in, header_over}
 use Rattle.frame_header.specs.Places.{token_ranges}
 use Rattle.frame_header.specs.Start.{start_of}
 use Rattle.frame_header.specs.Tags.{has_key_tag}
@@ -22,8 +22,7 @@ use Rattle.frame_header.specs.declared.cause.Cause.{Cause}
 use Rattle.frame_header.specs.declared.context.Context.{Context}
 use Rattle.frame_header.specs.declared.header.Header.{Header}
 use Rattle.frame_header.specs.declared.places.Place.{Place}
-use Rattle.mode_parser.specs.FrameModes.{first_modes, mode_at, modes_of}
-use Rattle.mode_parser.specs.InterRecords.{inter_mode, referenced_mode}
+use Rattle.mode_parser.specs.FrameModes.{first_modes}
 use Rattle.mode_parser.specs.RecordFacts.{facts_at, facts_of, inter_split, referenced_split, split_at}
 use Rattle.mode_parser.specs.RecordLaws.{SplitsAreChains}
 use Rattle.mode_parser.specs.Segments.{map_after, segment_at}

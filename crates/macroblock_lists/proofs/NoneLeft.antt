@@ -1,6 +1,6 @@
 -- A reading that is begun with no bit left leaves none.
 use Rattle.std.proofs.Common.{◌≡◌, ℕ, zero, suc, ◌+◌, ◌*◌, ◌==◌, Bool, true, false, List, [], ◌∷◌, ◌++◌, length, refl, ap, arith, Option, Some, None}
-use Rattle.std.specs.Prelude.{ℤ, pos, neg_ℤ, nat_lt, ◌/◌, ◌^◌, replicate, slice_index, slice_index_or, slice_range, unsigned_abs, if◌then◌else◌}
+use Rattle.std.specs.Prelude.{ℤ, pos, neg_ℤ, nat_lt, ◌^◌, slice_index, slice_index_or, unsigned_abs, if◌then◌else◌}
 use Rattle.std.specs.Int.{from_bool}
 use Rattle.bool_coder.specs.Reader.{Reader, read}
 use Rattle.bool_coder.specs.Reading.{Reading, ◌>>=◌, give}
@@ -17,7 +17,6 @@ use Rattle.mode_parser.specs.declared.records.VectorMode.{VectorMode}
 use Rattle.mode_parser.specs.declared.records.VectorMode.TheVariants.{Zero, Nearest, Near as NearMode, New, Split as SplitMode}
 use Rattle.mode_parser.specs.declared.records.YMode.{YMode}
 use Rattle.mode_parser.specs.declared.records.YMode.TheVariants.{Whole, B, Inter}
-use Rattle.mode_parser.specs.NearVectors.{near_of}
 use Rattle.mode_parser.specs.Vectors.{MotionVector, zero_vector, sum_of}
 use Rattle.mode_parser.specs.SubModes.{sub_mode, first_sub_modes, mode_above, mode_left, number_of}
 use Rattle.mode_parser.specs.Records.{skip, key_y_mode, chroma_mode, key_sub_modes, key_mode, no_vectors}

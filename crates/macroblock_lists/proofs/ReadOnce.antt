@@ -1,5 +1,5 @@
 -- What is read over a marked first partition is what decoding has of the packet.
-use Rattle.std.proofs.Common.{◌≡◌, ℕ, zero, suc, ◌<◌, false, List, length, refl, sym, subst, ap, ◌∙◌, Option, Some, None, Result, Ok, Err, IfOk}
+use Rattle.std.proofs.Common.{◌≡◌, ℕ, zero, suc, ◌<◌, false, List, length, refl, sym, subst, ap, ◌∙◌, Option, Some, None, Result, Ok, Err}
 use Rattle.std.specs.Prelude.{slice_get}
 use Rattle.bool_coder.specs.Reader.{Reader}
 use Rattle.vp8_tables.specs.Tables.{TableEntries}
@@ -14,7 +14,7 @@ use Rattle.mode_parser.specs.FrameModes.{FrameModes}
 use Rattle.mode_parser.specs.declared.records.MbMode.{MbMode}
 use Rattle.reference_frames.specs.FrameTokens.{TokenState, state_after, token_state}
 use Rattle.macroblock_lists.specs.Known.{Known, frame_modes, header_after, height_of, known_after, known_before, known_by, width_of}
-use Rattle.macroblock_lists.specs.PartitionEnds.{end_of, first_end_at, first_end_by, first_partition_end, frame_token_ends, marked_start, marked_text, no_ends, partition_ends_of, token_ends}
+use Rattle.macroblock_lists.specs.PartitionEnds.{end_of, first_end_by, first_partition_end, frame_token_ends, marked_start, marked_text, no_ends, partition_ends_of, token_ends}
 use Rattle.macroblock_lists.specs.declared.partition_ends.PartitionEnd.{PartitionEnd}
 use Rattle.macroblock_lists.specs.declared.partition_ends.PartitionEnds.{PartitionEnds}
 use Rattle.macroblock_lists.specs.FirstChains.{columns_of, context_in, zeros_of}

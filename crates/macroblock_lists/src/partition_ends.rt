@@ -1,7 +1,7 @@
 //! How far decoding reads each partition of a packet, without its samples.
 
 ghost use Rattle.std.specs.Prelude.{◌≡◌, ◌+◌, ◌*◌, ◌<◌, ◌≤◌, [], false, length, All, IfOk, IsSome, IsTrue};
-ghost use Rattle.std.specs.Option.{option_copied, option_map};
+ghost use Rattle.std.specs.Option.{option_copied};
 ghost use Rattle.frame_header.specs.Tags.{has_key_tag};
 ghost use Rattle.macroblock_lists.specs.FirstChains.{columns_of, rows_of, zeros_of};
 ghost use Rattle.macroblock_lists.specs.Known.{header_after, known_before, known_by, left_at, progress_after, step_of};

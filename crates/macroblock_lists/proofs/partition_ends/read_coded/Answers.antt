@@ -1,8 +1,6 @@
-use Rattle.std.proofs.Common.{◌≡◌, ◌<◌, Option, Some, Ok, Err, Result, sym, ap, ◌∙◌, arith}
+use Rattle.std.proofs.Common.{◌≡◌, ◌<◌, Option, Ok, Err, sym, ap, ◌∙◌, arith}
 use Rattle.std.specs.Option.{option_copied}
 use Rattle.frame_header.specs.Header.{header_over}
-use Rattle.frame_header.specs.declared.cause.Cause.{Cause}
-use Rattle.frame_header.specs.declared.context.Context.{Context}
 use Rattle.macroblock_lists.specs.FirstChains.{context_in}
 use Rattle.macroblock_lists.specs.Known.{Known, known_before, left_at}
 use Rattle.macroblock_lists.specs.PartitionEnds.{end_of}
