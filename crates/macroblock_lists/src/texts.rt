@@ -14,7 +14,6 @@ use crate::known::Known;
 use crate::layouts::{Form, Layout};
 use frame_header::{Cause, Header, Place};
 use header_bits::{Coded, read_coded};
-use pixel_planes::macroblocks;
 use state_cache::Broken;
 use std::io::Write;
 use stream_facts::{write_cause, write_number, write_text};
