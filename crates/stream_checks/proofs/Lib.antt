@@ -8,3 +8,4 @@ mod HashAligned
 mod HashHeads
 mod HashLengths
 mod HashTexts
+pub mod Shown

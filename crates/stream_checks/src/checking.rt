@@ -24,6 +24,7 @@ use stream_files::{Ivf, Packet};
 use vp8_tables::Tables;
 
 /// What a check of packets counts: what is found at them, and the frames that are shown up to the last one.
+#[derive(Clone, Copy)]
 struct Checked {
     tally: Tally,
     frames: usize,

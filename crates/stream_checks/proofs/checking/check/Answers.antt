@@ -1,4 +1,4 @@
-use Rattle.std.proofs.Common.{◌≡◌, ℕ, List, None, Ok, length, subst, ap, ◌∙◌}
+use Rattle.std.proofs.Common.{◌≡◌, ◌+◌, ℕ, List, None, Ok, length, subst, ap, arith, ◌∙◌}
 use Rattle.std.specs.Io.KnownBytes.{Appends}
 use Rattle.stream_files.specs.declared.packets.Packet.{Packet}
 use Rattle.stream_checks.specs.declared.checker.Checker.{Checker}
@@ -52,8 +52,8 @@ returns-in-Ok-write_end-clause-checked g c =
     subst (λ (checker : Checker). Appends w1 w2 (texts_of checker.form (findings_after tables checker packets))) first made.written in
     let counted : c.in-Ok-write_packets.checked.tally ≡ tally_of (packet_findings tables packets) =
     subst (λ (checker : Checker). c.in-Ok-write_packets.checked.tally ≡ tally_of (findings_after tables checker packets)) first made.counted in
-    let frames : c.in-Ok-write_packets.checked.frames ≡ frames_of packets =
-    subst (λ (checker : Checker). c.in-Ok-write_packets.checked.frames ≡ checker.position.frames + frames_of packets) first made.frames in
+    let shown = subst (λ (checker : Checker). c.in-Ok-write_packets.checked.frames ≡ checker.position.frames + frames_of packets) first made.frames in
+    let frames : c.in-Ok-write_packets.checked.frames ≡ frames_of packets = omega (arith, shown) in
     let ended : Appends w3 w4 (end_of form (length packets) (frames_of packets) total) =
     subst (λ (frames : ℕ). Appends w3 w4 (end_of form (length packets) frames total)) frames c.in-Ok-write_end.ensures in
     checked_whole form tables c.args.bytes.now file _ w1 w2 w3 w4 c.in-Ok-write_head.at_head c.in-Ok-write_packets.checked.tally c.in-Ok-write_cut.at_end total

@@ -17,6 +17,7 @@ use Rattle.stream_checks.specs.Lines.{frames_of}
 use Rattle.stream_checks.specs.Packets.{ahead_of}
 use Rattle.stream_checks.specs.Severity.{plus, tally_of}
 use Rattle.stream_checks.specs.Texts.{text_of, texts_of}
+use Rattle.stream_checks.proofs.Shown.{frames-more}
 use Rattle.stream_checks.proofs.Steps.{one_more}
 use Rattle.stream_checks.proofs.Tallies.{tally_append}
 use Rattle.stream_checks.proofs.checking.write_packets.Goals as goal
@@ -54,7 +55,7 @@ loop-packet-preserved g c =
     let made = c.in-Ok.ensures in
     let next : after.position.packets ≡ before.position.packets + 1 = ap (λ (p : Position). p.packets) made.position in
     let shown : after.position.frames ≡ before.position.frames + from_bool (is_shown packet.bytes) = ap (λ (p : Position). p.frames) made.position in
-    let rest : frames_of c.loop-packet.rest.now ≡ from_bool (is_shown packet.bytes) + frames_of following = ap frames_of at in
+    let rest : frames_of c.loop-packet.rest.now ≡ from_bool (is_shown packet.bytes) + frames_of following = ap frames_of at ∙ frames-more packet following in
     let W : Form → Type 0 = λ form. Appends (g.W.Write.contents c.loop-packet.w) (g.W.Write.contents c.next.new.w) (texts_of form found) in
     let added : W c.args.checker.form = subst W met.form made.written in
     record {
