@@ -219,10 +219,11 @@ impl Session {
         if source >= self.stores.len() as u64 {
             return Err(Refusal::Source);
         }
-        if source as usize != self.current {
-            self.current = source as usize;
-            self.lister = Lister::new(self.alloc);
+        if source as usize == self.current {
+            return Ok(self.stores[self.current].len() as u64);
         }
+        self.current = source as usize;
+        self.lister = Lister::new(self.alloc);
         Ok(self.stores[self.current].len() as u64)
     }
 
