@@ -84,7 +84,7 @@ enum {
 
 enum { WK_FILE_HEADER = 1, WK_FILE_MAGIC, WK_FILE_FOURCC, WK_FILE_HEADER_LENGTH, WK_FILE_TOO_MANY, WK_FILE_NO_MEMORY };
 
-/* The version of the library: 1302 is 0.13.2, and 10203 is 1.2.3. */
+/* The version of the library: 1400 is 0.14.0, and 10203 is 1.2.3. */
 uint32_t wk_version(void);
 
 /* Opens a session over `sources` IVF files, 1 to 8, which lie one after the other in `files`, each up to its end in `ends`. At most

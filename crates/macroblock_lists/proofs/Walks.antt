@@ -18,7 +18,7 @@ use Rattle.reference_frames.specs.FrameTokens.{TokenState, flags_at, outside, re
 use Rattle.macroblock_lists.specs.declared.frames.Walk.{Walk}
 use Rattle.macroblock_lists.specs.Macroblocks.{left_at}
 use Rattle.macroblock_lists.specs.PartitionEnds.{marked_start, marked_text, no_place}
-use Rattle.macroblock_lists.specs.Walks.{AreAlike, IsAfter, IsReadAlike}
+use Rattle.macroblock_lists.specs.ProofsOnly.{AreAlike, IsAfter, IsReadAlike}
 use Rattle.macroblock_lists.proofs.FirstRead.{same_or_none}
 use Rattle.macroblock_lists.proofs.TokenChains.{length-kept, mode_tokens, mode_tokens-chain, tokens-are}
 

@@ -15,7 +15,6 @@ pub mod FilterLaws
 pub mod Fronts
 pub mod Frames
 pub mod Texts
-pub mod Walks
 pub mod ChainEnds
 pub mod FirstChains
 pub mod TokenChains

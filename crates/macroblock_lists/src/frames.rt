@@ -7,7 +7,7 @@ ghost use Rattle.macroblock_lists.specs.PartitionEnds.{marked_start, zeros_for};
 ghost use Rattle.macroblock_lists.specs.Frames.{macroblock_text, texts_of};
 ghost use Rattle.macroblock_lists.specs.Macroblocks.{macroblock_of};
 ghost use Rattle.macroblock_lists.specs.Records.{facts_in as facts_in_of};
-ghost use Rattle.macroblock_lists.specs.Walks.{IsAfter, own_after};
+ghost use Rattle.macroblock_lists.specs.ProofsOnly.{IsAfter, own_after};
 
 use crate::layouts::{Form, Target};
 use crate::lines::write_line;

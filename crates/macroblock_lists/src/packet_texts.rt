@@ -141,7 +141,8 @@ fn write_macroblocks<W: Write>(
         return write_own(w, alloc, tables, target, known, packet, &[]);
     };
     let records = read_records(alloc, tables, &header, known)?;
-    if records.modes.left() == 0 {
+    let left = records.modes.left();
+    if left == 0 {
         return write_own(w, alloc, tables, target, known, packet, &records.facts);
     }
     prove_read(tables, known);

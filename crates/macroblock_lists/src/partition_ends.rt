@@ -219,11 +219,12 @@ fn read_coded(
     };
     let before = if header.is_key { None } else { known };
     let modes = frame_modes(alloc, tables, &header, before)?;
-    if modes.left() == 0 {
+    let left = modes.left();
+    if left == 0 {
         return read_own(alloc, tables, place, known, packet, spent);
     }
     prove_read(tables, known);
-    let end = end_of(marked.zeros, marked.size, modes.left());
+    let end = end_of(marked.zeros, marked.size, left);
     let (ends, after) = frame_ends(alloc, packet, &header, known, modes, end)?;
     Ok((ends, Ok(Some(after))))
 }

@@ -286,11 +286,11 @@ fn shows_its_version(rt: HostRuntime) {
         &rt,
         "vp8serve --version",
         "frame 0\n",
-        "vp8serve 0.13.2\n",
+        "vp8serve 0.14.0\n",
         "",
         0,
     );
-    expect(&rt, "vp8serve -V", "frame 0\n", "vp8serve 0.13.2\n", "", 0);
+    expect(&rt, "vp8serve -V", "frame 0\n", "vp8serve 0.14.0\n", "", 0);
 }
 
 #[test]
@@ -301,6 +301,6 @@ fn shows_help_of_the_list(rt: HostRuntime) {
 
 #[test]
 fn shows_the_version_of_the_list(rt: HostRuntime) {
-    expect_list(&rt, &["vp8list", "--version"], "vp8list 0.13.2\n");
-    expect_list(&rt, &["vp8list", "-V"], "vp8list 0.13.2\n");
+    expect_list(&rt, &["vp8list", "--version"], "vp8list 0.14.0\n");
+    expect_list(&rt, &["vp8list", "-V"], "vp8list 0.14.0\n");
 }

@@ -6,7 +6,7 @@ use Rattle.mode_parser.specs.declared.records.MbMode.{MbMode}
 use Rattle.reference_frames.specs.FrameTokens.{TokenState, token_state}
 use Rattle.macroblock_lists.specs.Frames.{macroblock_text, text_at}
 use Rattle.macroblock_lists.specs.declared.macroblocks.Macroblock.{Macroblock}
-use Rattle.macroblock_lists.specs.Walks.{own_after}
+use Rattle.macroblock_lists.specs.ProofsOnly.{own_after}
 use Rattle.macroblock_lists.proofs.FrameLemmas.{text_here}
 use Rattle.macroblock_lists.proofs.Loops.{texts_more}
 use Rattle.macroblock_lists.proofs.Walks.{state-next}

@@ -3,7 +3,7 @@ use Rattle.std.specs.List.{flat_map, range_with_len}
 use Rattle.std.specs.Io.KnownBytes.{Appends}
 use Rattle.reference_frames.specs.FrameTokens.{token_state}
 use Rattle.macroblock_lists.specs.Frames.{text_at}
-use Rattle.macroblock_lists.specs.Walks.{IsAfter, own_after}
+use Rattle.macroblock_lists.specs.ProofsOnly.{IsAfter, own_after}
 use Rattle.macroblock_lists.proofs.frames.write_macroblocks.Given as goal
 
 abbrev pub invariant-loop-n : goal.invariant-loop-n

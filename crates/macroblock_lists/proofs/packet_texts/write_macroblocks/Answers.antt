@@ -46,7 +46,7 @@ returns-in_err-write_commented-clause-early g c =
     let accepted : header_over c.args.tables.now (context_in known) c.args.packet.now c.in_ok-first.first.text.items ≡ Ok c.in-Ok.header =
     rw (c.context_of.ensures, c.as_slice-text.ensures.value) at (sym c.in-Ok.ensures.value) in
     let left = ap (λ (m : FrameModes). m.left) c.in_ok-records.ensures.modes in
-    let some : 0 < (frame_modes c.args.tables.now c.in-Ok.header known).left = omega (arith, c.if-left-eq0.false, c.left.ensures, left) in
+    let some : 0 < (frame_modes c.args.tables.now c.in-Ok.header known).left = omega (arith, c.if-left-eq0.false, c.left-left.ensures, left) in
     let is = read-over c.args.tables.now c.args.packet.now known c.in-Ok.header _ _ _ marked c.prove_read.ensures c.requires.known accepted some in
     let text = over-text c.args.target.form c.args.target.place c.args.tables.now c.args.packet.now known c.in-Ok.header _ _ _ marked c.requires.known is in
     let modes = ap (λ (m : FrameModes). m.records) c.in_ok-records.ensures.modes in
@@ -62,7 +62,7 @@ returns-clause-written g c =
     let accepted : header_over c.args.tables.now (context_in known) c.args.packet.now c.in_ok-first.first.text.items ≡ Ok c.in-Ok.header =
     rw (c.context_of.ensures, c.as_slice-text.ensures.value) at (sym c.in-Ok.ensures.value) in
     let left = ap (λ (m : FrameModes). m.left) c.in_ok-records.ensures.modes in
-    let some : 0 < (frame_modes c.args.tables.now c.in-Ok.header known).left = omega (arith, c.if-left-eq0.false, c.left.ensures, left) in
+    let some : 0 < (frame_modes c.args.tables.now c.in-Ok.header known).left = omega (arith, c.if-left-eq0.false, c.left-left.ensures, left) in
     let is = read-over c.args.tables.now c.args.packet.now known c.in-Ok.header _ _ _ marked c.prove_read.ensures c.requires.known accepted some in
     let text = over-text c.args.target.form c.args.target.place c.args.tables.now c.args.packet.now known c.in-Ok.header _ _ _ marked c.requires.known is in
     let modes = ap (λ (m : FrameModes). m.records) c.in_ok-records.ensures.modes in
@@ -76,7 +76,7 @@ returns-clause-after g c =
     let accepted : header_over c.args.tables.now (context_in known) c.args.packet.now c.in_ok-first.first.text.items ≡ Ok c.in-Ok.header =
     rw (c.context_of.ensures, c.as_slice-text.ensures.value) at (sym c.in-Ok.ensures.value) in
     let left = ap (λ (m : FrameModes). m.left) c.in_ok-records.ensures.modes in
-    let some : 0 < (frame_modes c.args.tables.now c.in-Ok.header known).left = omega (arith, c.if-left-eq0.false, c.left.ensures, left) in
+    let some : 0 < (frame_modes c.args.tables.now c.in-Ok.header known).left = omega (arith, c.if-left-eq0.false, c.left-left.ensures, left) in
     let is = read-over c.args.tables.now c.args.packet.now known c.in-Ok.header _ _ _ marked c.prove_read.ensures c.requires.known accepted some in
     let map = ap (λ (m : FrameModes). m.segment_map) c.in_ok-records.ensures.modes in
     rw (c.known_after.ensures, map) (known-is-read c.args.tables.now c.args.packet.now known c.in-Ok.header c.requires.known is.read)

@@ -30,7 +30,7 @@ read_own-requires-then-left-eq0 c =
       | then-header w ↦ ap (λ b. option_copied b) w.before-is ∙ sym (none-before c.args.packet.now known (sym c.in-Ok.ensures.key ∙ w.if-header.true))
       | else-header w ↦ ap (λ b. option_copied b) w.before-is ∙ later-before c.args.packet.now known (sym c.in-Ok.ensures.key ∙ w.if-header.false)
     ] in
-    let none : c.in_ok-modes.modes.left ≡ 0 = sym c.left.ensures ∙ c.if-left-eq0.true in
+    let none : c.in_ok-modes.modes.left ≡ 0 = sym c.left-left.ensures ∙ c.if-left-eq0.true in
     record { first = rw c.end_of-spent.ensures (spent-left c.args.tables.now known c.args.packet.now _ _ _ c.in-Ok.header (option_copied c.if-header.before) c.in_ok-modes.modes marked accepted before c.in_ok-modes.ensures.value none) }
 
 pub returns-clause-ends : goal.returns-clause-ends
@@ -44,9 +44,9 @@ returns-clause-ends c =
       | then-header w ↦ ap (λ b. option_copied b) w.before-is ∙ sym (none-before c.args.packet.now known (sym c.in-Ok.ensures.key ∙ w.if-header.true))
       | else-header w ↦ ap (λ b. option_copied b) w.before-is ∙ later-before c.args.packet.now known (sym c.in-Ok.ensures.key ∙ w.if-header.false)
     ] in
-    let some : 0 < c.in_ok-modes.modes.left = omega (arith, c.if-left-eq0.false, c.left.ensures) in
+    let some : 0 < c.in_ok-modes.modes.left = omega (arith, c.if-left-eq0.false, c.left-left.ensures) in
     let ends = c.in_ok-ends.ensures.ends
-    ∙ ap (λ (first : PartitionEnd). ends_by known c.args.packet.now c.in-Ok.header first c.in_ok-modes.modes.records) (c.end_of-end.ensures ∙ ap (end_of c.in_ok-marked.marked.zeros c.in_ok-marked.marked.size) c.left-2.ensures) in
+    ∙ ap (λ (first : PartitionEnd). ends_by known c.args.packet.now c.in-Ok.header first c.in_ok-modes.modes.records) (c.end_of-end.ensures ∙ ap (end_of c.in_ok-marked.marked.zeros c.in_ok-marked.marked.size) c.left-left.ensures) in
     over-read c.args.tables.now known c.args.packet.now _ _ _ c.in-Ok.header (option_copied c.if-header.before) c.in_ok-modes.modes c.in_ok-ends.ends
     marked c.prove_read.ensures accepted before c.in_ok-modes.ensures.value some ends
 
@@ -61,6 +61,6 @@ returns-clause-after c =
       | then-header w ↦ ap (λ b. option_copied b) w.before-is ∙ sym (none-before c.args.packet.now known (sym c.in-Ok.ensures.key ∙ w.if-header.true))
       | else-header w ↦ ap (λ b. option_copied b) w.before-is ∙ later-before c.args.packet.now known (sym c.in-Ok.ensures.key ∙ w.if-header.false)
     ] in
-    let some : 0 < c.in_ok-modes.modes.left = omega (arith, c.if-left-eq0.false, c.left.ensures) in
+    let some : 0 < c.in_ok-modes.modes.left = omega (arith, c.if-left-eq0.false, c.left-left.ensures) in
     ap (left_at c.args.place) (over-after c.args.tables.now known c.args.packet.now _ _ _ c.in-Ok.header (option_copied c.if-header.before) c.in_ok-modes.modes c.in_ok-ends.after
     marked c.prove_read.ensures accepted before c.in_ok-modes.ensures.value some c.in_ok-ends.ensures.after)
