@@ -8,7 +8,6 @@ import signal
 import subprocess
 import sys
 import threading
-import time
 import unittest
 from unittest import mock
 
@@ -221,16 +220,20 @@ class LargeSteps(Case):
             self.assertEqual(list(other.streams[0]), start)
             self.assertEqual(one.streams, other.streams)
 
-    def test_a_large_step_of_a_long_stream_takes_no_longer_than_the_program(self):
-        stream = self.session(self.many(1 << 20))
-        stream.edits.contents()
-        start = time.monotonic()
-        stream.request_all(10000 * ["delete 1000"])
-        alone = time.monotonic() - start
-        start = time.monotonic()
+    def test_a_large_step_of_a_long_stream_moves_its_packets_together(self):
+        stream, alone = self.session(self.many(1 << 20)), []
+        contents = stream.edits.contents()
+        for name in ("apply", "perform"):
+            real = getattr(Contents, name)
+            patch = mock.patch.object(Contents, name, lambda *given, real=real: alone.append(given[1]) or real(*given))
+            patch.start()
+            self.addCleanup(patch.stop)
+        start = list(contents.streams[0])
         stream.edits.run_step(10000 * ["delete 1000"])
+        self.assertEqual(list(contents.streams[0]), start[:1000] + start[11000:])
         stream.undo()
-        self.assertLess(time.monotonic() - start, 3.5 * alone + 0.5 * SLOW)
+        self.assertEqual(list(contents.streams[0]), start)
+        self.assertEqual(alone, [])
 
     def test_ten_thousand_edits_are_sent_together(self):
         stream = self.session(self.many(12000), edits=self.folder() / "list")
