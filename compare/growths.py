@@ -27,7 +27,7 @@ sys.dont_write_bytecode = True
 import results  # noqa: E402
 from library.conformance import generator  # noqa: E402
 from library.ivf import ivf  # noqa: E402
-from library.traced import Program, traced  # noqa: E402
+from library.traced import Program, program_of, traced  # noqa: E402
 
 TOP = pathlib.Path(__file__).resolve().parent.parent
 GROWTHS = TOP / "crates/gate_memory"
@@ -127,8 +127,7 @@ def main():
     named = [word for word in sys.argv[1:] if word != "--quiet"]
     program = Program(named[0] if named else str(GROWTHS / "out/gate_memory"))
     found, made, requests = all_faults(program)
-    listed = os.environ.get("VP8LIST") or str(TOP / "crates/vp8list/out/vp8list")
-    found = [f"gate_memory: {fault}" for fault in found] + [f"vp8list: {fault}" for fault in list_faults(Program(listed))]
+    found = [f"gate_memory: {fault}" for fault in found] + [f"vp8list: {fault}" for fault in list_faults(program_of("vp8list"))]
     for fault in found:
         print(fault)
     results.total(f"{requests} requests for memory, each refused: {len(found)} differences", found, {f"for {name}": made.get(name, 0) for name in COUNTED})

@@ -17,7 +17,7 @@ import results
 from library.ivf import ivf
 from library.programs import VP8LIST
 
-COUNT = 500
+COUNT = 1500
 KEY, INTER = bytes.fromhex("1000009D012A80073804"), bytes.fromhex("110000")
 LINE = re.compile(r"\rvp8list: (\d+) of (\d+) packets\x1b\[K")
 ERASED = "\r\x1b[K"

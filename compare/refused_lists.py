@@ -15,8 +15,7 @@ import tempfile
 
 import results
 from library.ivf import ivf
-from library.programs import VP8LIST
-from library.traced import Program, traced
+from library.traced import program_of, traced
 from refused_memory import HEIGHT, INTER, KEY, WIDTH, clip_packets, refusals_of
 
 OPTIONS = ([], ["--json"], ["--hash"], ["--check"], ["--check", "--json"], ["--check", "--strict"], ["--check", "--tables", "tables.bin"], ["--hash", "--tables", "tables.bin"], ["--macroblocks", "all"], ["--header", "all", "--json"])
@@ -39,7 +38,7 @@ class Bench:
     """A folder in which the program is run."""
 
     def __init__(self, room):
-        self.room, self.program = room, Program(str(VP8LIST))
+        self.room, self.program = room, program_of("vp8list")
         (room / "tables.bin").write_bytes(bytes(1 + n % 255 for n in range(3012)))
 
     def run(self, words, refuses):

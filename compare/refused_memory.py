@@ -21,8 +21,8 @@ from growths import GROWTHS, all_faults
 import results
 from library.clips import settings
 from library.ivf import ivf, packets_of
-from library.programs import VP8SERVE, run
-from library.traced import Program, traced
+from library.programs import run
+from library.traced import Program, program_of, traced
 
 WIDTH, HEIGHT, FRAMES, CLIPS = 48, 32, 10, 4
 KEY = bytes.fromhex("1000009D012A10001000")
@@ -293,7 +293,7 @@ def try_long_lists(count):
     with tempfile.TemporaryDirectory() as name:
         room = pathlib.Path(name)
         os.chdir(room)
-        bench = Bench(room, Program(str(VP8SERVE)))
+        bench = Bench(room, program_of("vp8serve"))
         for requests in map(long_list, range(count)):
             before, read = told["runs"], bench.run_list(requests, [], lambda n: False).requests
             faults += try_list(bench, requests, told, read)
@@ -315,7 +315,7 @@ def main():
         room = pathlib.Path(name)
         os.chdir(room)
         clips = [clip_packets(room, choose) for _ in range(CLIPS)]
-        bench = Bench(room, Program(str(VP8SERVE)))
+        bench = Bench(room, program_of("vp8serve"))
         lists = [*worked_lists(clips[0], clips[1]), *(random_list(choose, n, clips) for n in range(count))]
         for requests in lists:
             before = told["runs"]

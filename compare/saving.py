@@ -21,7 +21,7 @@ import tempfile
 import results
 from library.ivf import ivf
 from library.programs import VP8SERVE
-from library.traced import Program, traced
+from library.traced import program_of, traced
 
 KEY = bytes.fromhex("1000009D012A40003000")
 INTER = bytes.fromhex("110000")
@@ -208,7 +208,7 @@ def memory(option, more):
     """Each request for memory refused in turn: the saved file is the old one, or the whole new one with status 0."""
     put_stream()
     pathlib.Path("req").write_text("frame 0\ndelete 2\n")
-    known = Program(str(VP8SERVE))
+    known = program_of("vp8serve")
     for number in range(1, saved_without(known, None, option, more)[0].requests + 1):
         ended, saved, replies = saved_without(known, number, option, more)
         whole = SHORTER if b"ok 2" in replies else STREAM

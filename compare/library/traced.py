@@ -13,6 +13,8 @@ import signal
 import struct
 from dataclasses import dataclass, field
 
+from .programs import TOP
+
 TRACE_ME, PEEK, PEEK_USER, POKE, POKE_USER, CONTINUE, UNTIL_CALL, SET_OPTIONS = 0, 1, 3, 4, 6, 7, 24, 0x4200
 MARKS_CALLS, ENDS_WITH_US = 1, 0x100000
 RAX, RDX, RDI, ORIG_RAX, RIP, RSP = 80, 96, 112, 120, 128, 152
@@ -63,6 +65,17 @@ class Program:
                 name = text[first : text.index(b"\0", first)].decode()
                 if name in ALLOCATORS:
                     self.slots.setdefault(name, []).append(place)
+
+
+def program_of(name):
+    """The program of this name, whose requests for memory are seen: that of the variable VP8SERVE or VP8LIST, or the one that `rt ci` built. Those of dist/
+    are linked statically: no request of theirs would be refused."""
+    for path in (os.environ.get(name.upper()), TOP / "crates" / name / "out" / name):
+        if path and os.path.isfile(path):
+            program = Program(str(path))
+            if program.slots:
+                return program
+    raise SystemExit(f"no {name} is here whose requests for memory are seen, as of those that are linked dynamically: rt ci builds one")
 
 
 @dataclass
