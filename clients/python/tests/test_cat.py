@@ -338,6 +338,27 @@ class Failures(Case):
         self.assertEqual((process.stderr.read(), self.out.read_bytes(), os.listdir(self.room / "tmp")), (b"", b"old", []))
         process.stderr.close()
 
+    def test_an_interrupt_while_a_part_begins(self):
+        begins, start_program = threading.Event(), subprocess.Popen
+        room = mock.Mock(**{"first.size": 1, "words.return_value": ["sleep", "30"], "path": lambda number, name: self.room / f"{number}.{name}"})
+        here = cat.Here(room, [mock.Mock(first=0, end=1)], 1, None)
+
+        def slowly(*words, **channels):
+            begins.set()
+            time.sleep(0.2)
+            return start_program(*words, **channels)
+
+        def interrupted(*_):
+            here.ready.release()
+            begins.wait(10 * SLOW)
+            here.ready.acquire()
+            raise KeyboardInterrupt
+
+        with self.within(5), mock.patch.object(cat.subprocess, "Popen", slowly), mock.patch.object(here.ready, "wait", interrupted), self.assertRaises(KeyboardInterrupt):
+            list(here)
+        with self.assertRaises(cat.Failed), here.started(["sleep", "30"]):
+            pass
+
     def test_an_interrupt(self):
         self.interrupt(start, lambda process: process.send_signal(signal.SIGINT))
 

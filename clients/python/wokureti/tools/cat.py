@@ -3,6 +3,7 @@
 The parts are joined in order as they come, so the output may be a pipe.
 """
 
+import contextlib
 import os
 import re
 import subprocess
@@ -27,16 +28,12 @@ class Failed(Exception):
     """The text could not be made; the message says why."""
 
 
-def run_part(room, number, program, tables, running):
-    """Decodes a part here."""
+def run_part(room, number, program, tables, started):
+    """Decodes a part by a program that is started here."""
     words = room.words(number, program, tables)
     with open(room.path(number, "replies"), "wb") as replies, tempfile.TemporaryFile() as errors:
-        process = subprocess.Popen(words, stdin=subprocess.DEVNULL, stdout=replies, stderr=errors)
-        running.add(process)
-        try:
+        with started(words, stdin=subprocess.DEVNULL, stdout=replies, stderr=errors) as process:
             status = process.wait()
-        finally:
-            running.discard(process)
         if status != 0:
             errors.seek(0)
             said = errors.read().decode(errors="replace").strip()
@@ -81,7 +78,7 @@ class Here:
                     self.held += self.size(number)
                     # Reading the session's files from two threads at a time is avoided.
                     self.room.write(number, self.plan[number])
-                run_part(self.room, number, self.program, self.tables, self.running)
+                run_part(self.room, number, self.program, self.tables, self.started)
                 with self.ready:
                     self.done[number] = True
                     self.ready.notify_all()
@@ -89,6 +86,19 @@ class Here:
             with self.ready:
                 self.error = self.error or error
                 self.ready.notify_all()
+
+    @contextlib.contextmanager
+    def started(self, words, **channels):
+        """A program, which is ended when no more parts are wanted; then none is started."""
+        with self.ready:
+            if self.stopped:
+                raise Failed("no more parts are wanted")
+            process = subprocess.Popen(words, **channels)
+            self.running.add(process)
+        try:
+            yield process
+        finally:
+            self.running.discard(process)
 
     def size(self, number):
         """The bytes of the frames of a part."""
