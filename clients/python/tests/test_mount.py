@@ -229,17 +229,17 @@ class Mounted(Case):
         process.wait()
         for stream in (process.stdout, process.stderr):
             stream.close()
-        # fusermount3 unmounts a folder whose program was killed. Now and then it does not, and what the next mount does first clears it.
-        with contextlib.suppress(AssertionError):
-            self.wait_until_gone(folder)
-        mount.clear(folder)
-        self.wait_until_gone(folder)
+        if not self.is_unmounted(folder):
+            # fusermount3 leaves the folder of a program that was killed 3 of 120 times if others are mounted and unmounted at the same moment, never alone.
+            mount.clear(folder)
+        self.assertTrue(self.is_unmounted(folder), "it is still mounted")
 
-    def wait_until_gone(self, folder):
+    def is_unmounted(self, folder):
+        """Whether the folder is unmounted within 10 seconds."""
         limit = time.monotonic() + 10 * SLOW
-        while is_mounted(folder):
-            self.assertLess(time.monotonic(), limit, "it is still mounted")
+        while is_mounted(folder) and time.monotonic() < limit:
             time.sleep(0.02)
+        return not is_mounted(folder)
 
     def test_programs_open_it(self):
         folder, _ = self.mounted(SCENES)
@@ -288,7 +288,7 @@ class Mounted(Case):
             else:
                 process.send_signal(number)
             process.wait(20 * SLOW)
-            self.wait_until_gone(folder)
+            self.assertTrue(self.is_unmounted(folder), "it is still mounted")
             self.assertEqual(list(folder.iterdir()), [], number)
             if number != signal.SIGKILL:
                 self.assertEqual(process.returncode, 0)
@@ -313,7 +313,7 @@ class Mounted(Case):
             os.read(opened, 100)
             process.send_signal(signal.SIGTERM)
             self.assertEqual(process.wait(20 * SLOW), 0)
-            self.wait_until_gone(folder)
+            self.assertTrue(self.is_unmounted(folder), "it is still mounted")
             with self.assertRaises(OSError):
                 os.read(opened, 100)
         finally:

@@ -419,7 +419,7 @@ class EditList:
         self._perform([entry.inverse for entry in reversed(group)], timeout, new)
 
     def _perform(self, operations, timeout, new=None):
-        """Makes changes that are not listed, and returns what takes each of them back. If one is refused for want of memory,
+        """Makes changes that are not listed, and returns what takes each of them back. If one is refused because memory ran out,
         those that were made are taken back."""
         contents = self.contents()
         if not all(contents.has_whole(operation, new) for operation in operations):
