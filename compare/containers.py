@@ -185,8 +185,8 @@ def cut(dice, clip, out, can_export):
         count = len(shown)
         if can_export:
             parts = [sorted(dice.sample(range(count + 1), 2)) for _ in range(dice.randint(1, 4))]
-            words = [word for start, stop in parts for word in ("--from", start, "--to", stop)]
-            run(sys.executable, "-m", "wokureti", "cut", clip, out, *words)
+            words = [word for start, stop in parts for word in ("--from", f"f{start}", "--to", f"f{stop}")]
+            run(sys.executable, "-m", "wokureti", "cut", clip, out, "-y", *words)
             return [frame for start, stop in parts for frame in range(start, stop)]
         keys = [frame for frame, place in enumerate(shown) if ivf.is_key(session.packet(place))]
         start = dice.choice(keys)

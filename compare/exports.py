@@ -1,14 +1,14 @@
 #!/usr/bin/env python3
 """Packets that show the frames of random scripts again: those of `vp8serve --export`, and those of a plain model of lossless_cuts' definition.
 
-    compare/exports.py [--scripts N] [--seed S] [--no-ffmpeg] [--model] [FILE ..]
+    compare/exports.py [--scripts N] [--joins N] [--seed S] [--no-ffmpeg] [--model] [FILE ..]
 
 Each script trims and splices one or two clips of one size, with repeated frames and frames in reverse order. Each clip is taken once as it is
 and once with packets of no bytes among its packets, as an encoder that drops frames writes them. The packets of a script are those of the
 definition: a lead of hidden packets from the packet after the last one, or from the last key packet, and then the frame's own packet, or a
-hold packet. The program must write exactly these, with the time stamps of their durations. vpxdec and ffmpeg decode what it wrote: their frames must be
+hold packet. The program must write exactly these, with the time stamps and the head of their durations, by exact fractions. vpxdec and ffmpeg decode what it wrote: their frames must be
 the frames that vp8serve serves for the script, byte for byte, and their number too. An export of the export has the same frames, and one of a
-clip without a script the clip's. With --model nothing is exported: the decoders read the packets of the model.
+clip without a script the clip's. Then clips of other rates and time stamps are joined, of which packets, time stamps and heads are compared. With --model nothing is exported: the decoders read the packets of the model.
 """
 
 import argparse
@@ -20,13 +20,13 @@ import sys
 import tempfile
 
 import results
+from library import exact_times
 from library.ivf import has_key_tag, is_shown
 from library.programs import TOP, VP8LIST, VP8SERVE, real_streams
 
 sys.path.insert(0, str(TOP / "clients/python"))
 
 from wokureti.tools import ivf as files  # noqa: E402
-from wokureti.tools import times  # noqa: E402
 
 
 def run(words, text=None):
@@ -35,6 +35,11 @@ def run(words, text=None):
     if ran.returncode:
         raise SystemExit(f"{' '.join(map(str, words))}: status {ran.returncode}: {ran.stderr.decode(errors='replace')[-300:]}")
     return ran.stdout
+
+
+def rate_of(data):
+    """The rate and the scale of a file."""
+    return int.from_bytes(data[16:20], "little"), int.from_bytes(data[20:24], "little")
 
 
 class Clip:
@@ -54,9 +59,8 @@ class Clip:
         self.shown = [at for at, packet in enumerate(self.packets) if is_shown(packet)]
         self.sizes = {it["size"] for it in self.facts if it["size"]}
         self.size = min(self.sizes)
-        tags = [files.tag_of(len(packet), packet[0] if packet else 0) for packet in self.packets]
-        self.rate = files.Head(0, 0, int.from_bytes(data[16:20], "little"), int.from_bytes(data[20:24], "little"))
-        self.durations = times.durations(self.stamps, tags, times.median_step(self.stamps, tags))
+        self.rate = rate_of(data)
+        self.durations = exact_times.durations_of(self.stamps, [is_shown(packet) for packet in self.packets])
 
     def key_place(self, at):
         return next(k for k in range(at, -1, -1) if has_key_tag(self.packets[k]))
@@ -93,11 +97,13 @@ def exported(clips, targets, held):
     return packets
 
 
-def stamps(clips, targets, packets):
-    """The time stamps of the packets of targets, in the time base of the first clip."""
-    lasting = [times.scaled(clips[source].durations[place], clips[source].rate, clips[0].rate) for source, place in targets]
-    lasts = iter(lasting)
-    return list(times.stamps_of((shown, next(lasts) if shown else 0) for shown, _ in packets)[0])
+def times_of(clips, targets, packets):
+    """The rate and scale of the head of an export, and the time stamps of its packets."""
+    durations = [(clips[source].durations[place], exact_times.base_of(*clips[source].rate)) for source, place in targets]
+    head = exact_times.head_for(durations, clips[0].rate)
+    stamps = exact_times.stamps_of(durations, exact_times.base_of(*head))
+    assert exact_times.is_near(durations, exact_times.base_of(*head), stamps)
+    return head, exact_times.stamped([shown for shown, _ in packets], stamps)
 
 
 def hold_packet(size, room):
@@ -176,14 +182,18 @@ def export(clips, script, out):
     more = ["--sources", ":".join(str(it.path) for it in clips[1:])] if len(clips) > 1 else []
     run([VP8SERVE, clips[0].path, "-", "-", *more, "--export", out, "--pad"], f"script {script}\n".encode() if script else b"")
     _, packets = files.read_packets(out)
-    return packets
+    with open(out, "rb") as file:
+        return rate_of(file.read(32)), packets
 
 
 def check_export(clips, targets, packets, wrote):
-    """What is wrong with the packets that the program wrote."""
+    """What is wrong with the head and the packets that the program wrote."""
+    (rate, wrote), (head, stamps) = wrote, times_of(clips, targets, packets)
     if [data for _, data in wrote] != [data for _, data in packets]:
         return [f"{len(wrote)} packets are written, and not the {len(packets)} of the definition"]
-    if [stamp for stamp, _ in wrote] != stamps(clips, targets, packets):
+    if rate != head:
+        return [f"the head has the rate {rate}, and not {head}"]
+    if [stamp for stamp, _ in wrote] != stamps:
         return ["other time stamps than those of the durations"]
     return []
 
@@ -203,10 +213,11 @@ class Totals:
     """What was compared so far."""
 
     def __init__(self):
-        self.scripts = self.frames = self.packets = self.hidden = self.wrong = 0
+        self.scripts = self.frames = self.packets = self.hidden = self.joins = self.wrong = 0
 
     def text(self):
-        return f"{self.scripts} scripts, {self.frames} frames, {self.packets} packets, {self.hidden} of them hidden: {self.wrong} wrong"
+        done = f"{self.scripts} scripts, {self.frames} frames, {self.packets} packets, {self.hidden} of them hidden"
+        return f"{done}, {self.joins} joins of other rates: {self.wrong} wrong"
 
 
 def random_case(dice, clips):
@@ -219,6 +230,34 @@ def random_case(dice, clips):
         # Without a script: the clip's own packets, but for those that change nothing.
         return [one], "", [(0, n) for n in range(len(one.shown))]
     return mine, script, origins
+
+
+def with_times(dice, clip, path):
+    """The first packets of a clip with another rate, and with time stamps that have gaps, repeats and jumps back."""
+    head = bytearray(clip.head)
+    head[16:20] = dice.choice([30, 25, 20, 24, 24000, 30000, 15, 1000, 90000, 0, 1, 4294967291]).to_bytes(4, "little")
+    head[20:24] = dice.choice([1, 1, 1, 1001, 2, 0]).to_bytes(4, "little")
+    packets, stamp = clip.packets[: dice.randint(1, 24)], dice.choice([0, 0, 500])
+    head[24:28] = len(packets).to_bytes(4, "little")
+    steps = dice.choice([[1], [1, 2], [33, 33, 34], [1, 1, 1, 0, 9], [7, -3, 40, 2**20]])
+    out = [bytes(head)]
+    for packet in packets:
+        out.append(len(packet).to_bytes(4, "little") + stamp.to_bytes(8, "little") + packet)
+        stamp = max(0, stamp + dice.choice(steps))
+    with open(path, "wb") as file:
+        file.write(b"".join(out))
+    return Clip(path)
+
+
+def check_join(dice, clips, room):
+    """What is wrong with the export of two or three clips of other rates, one after another."""
+    one = dice.choice(clips)
+    same = [it for it in clips if it.size == one.size]
+    mine = [with_times(dice, it, f"{room}/join-{at}.ivf") for at, it in enumerate(dice.choices(same, k=dice.choice([2, 2, 3])))]
+    script = "source 1; splice 0 1" if len(mine) == 2 else "source 1; source 2; splice 0 1; splice 3 2"
+    targets = [(source, place) for source, clip in enumerate(mine) for place in clip.shown]
+    packets = exported(mine, targets, hold_packet(mine[0].size, room))
+    return check_export(mine, targets, packets, export(mine, script, f"{room}/join.ivf"))
 
 
 def compare(case, decoders, is_model, room, totals):
@@ -250,6 +289,7 @@ def main():
     words = argparse.ArgumentParser(description=__doc__.splitlines()[0])
     words.add_argument("clips", nargs="*", default=real_streams())
     words.add_argument("--scripts", type=int, default=100)
+    words.add_argument("--joins", type=int, default=1000)
     words.add_argument("--seed", type=int, default=1)
     words.add_argument("--no-ffmpeg", action="store_true")
     words.add_argument("--model", action="store_true")
@@ -267,6 +307,11 @@ def main():
                 case = random_case(dice, clips)
                 for text in compare(case, decoders, args.model, room, totals):
                     print(f"script {number} of {[os.path.basename(it.path) for it in case[0]]}: {case[1]}: {text}", flush=True)
+            for number in range(0 if args.model else args.joins):
+                for text in check_join(dice, clips, room):
+                    totals.wrong += 1
+                    print(f"join {number}: {text}", flush=True)
+                totals.joins += 1
         except KeyboardInterrupt:
             print(f"interrupted after {totals.scripts} scripts")
     results.total(totals.text(), totals.wrong or totals.scripts < args.scripts)

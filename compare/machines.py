@@ -120,7 +120,7 @@ def cat(words, room, ssh):
     env = dict(os.environ, PYTHONPATH=str(TOP / "clients/python"), PARALLEL_SSH=ssh, TMPDIR=str(room / "tmp"), HOME=str(room / "home"))
     # For `:`, this machine, too.
     env["PATH"] = f"{os.path.dirname(os.path.abspath(programs.find('vp8serve')))}:{env['PATH']}"
-    return subprocess.Popen([sys.executable, "-m", "wokureti", "cat", *map(str, words)], cwd=room, env=env)
+    return subprocess.Popen([sys.executable, "-m", "wokureti", "cat", "-y", *map(str, words)], cwd=room, env=env)
 
 
 def many_keys(path):

@@ -10,12 +10,12 @@ client saves; without --restamp they have their own.
 
 import argparse
 import random
-import statistics
 import subprocess
 import sys
 import tempfile
 
 import results
+from library import exact_times
 from library.ivf import HEAD, RECORD, is_shown, records
 from library.programs import TOP, VP8SERVE
 
@@ -24,12 +24,6 @@ sys.path.insert(0, str(TOP / "clients/python"))
 from wokureti import Session  # noqa: E402
 
 PACKETS = [bytes([0x11, 0, 0]), bytes([0x01, 0, 0]), b"", bytes([0x11, 0]), bytes.fromhex("10 00 00 9D 01 2A 10 00 10 00"), bytes([0x11, 0, 0, 7])]
-MOST = 2**64 - 1
-
-
-def rate_of(rate, scale):
-    """A frame rate; 30 if one of its numbers is 0."""
-    return (rate, scale) if rate and scale else (30, 1)
 
 
 class Stream:
@@ -41,18 +35,10 @@ class Stream:
         for _ in range(dice.randint(0, 12)):
             self.file.append((max(stamp, 0), dice.choice(PACKETS)))
             stamp += dice.choice([1, 1, 1, 33, 34, 0, -5, 2**33, dice.randint(0, 99)])
-        steps, before = [], None
-        for stamp, packet in self.file:
-            if is_shown(packet):
-                steps += [stamp - before] if before is not None and before < stamp else []
-                before = stamp
-        self.usual = max(statistics.median_low(steps), 1) if steps else 1
-        self.packets = [[stamp, packet, self.duration(at)] for at, (stamp, packet) in enumerate(self.file)]
-
-    def duration(self, at):
-        stamp, following = self.file[at][0], [later for later, packet in self.file[at + 1 :] if is_shown(packet)]
-        units = following[0] - stamp if following and following[0] > stamp else self.usual
-        return units, self.rate
+        stamps, shown = [stamp for stamp, _ in self.file], [is_shown(packet) for _, packet in self.file]
+        self.usual = exact_times.median_step(stamps, shown)
+        units = exact_times.durations_of(stamps, shown)
+        self.packets = [[stamp, packet, (lasts, self.rate)] for (stamp, packet), lasts in zip(self.file, units)]
 
     def text(self):
         head = HEAD.pack(b"DKIF", 0, 32, b"VP80", 16, 16, *self.rate, len(self.file), 0)
@@ -62,15 +48,11 @@ class Stream:
         self.packets.insert(at, [stamp, packet, duration or (self.usual, self.rate)])
 
     def restamped(self):
-        """The packets with new time stamps."""
-        stamp, out = 0, []
-        for _, packet, (units, rate) in self.packets:
-            out.append((stamp, packet))
-            if is_shown(packet):
-                (from_rate, from_scale), (to_rate, to_scale) = rate_of(*rate), rate_of(*self.rate)
-                scaled = units * from_scale * to_rate // (from_rate * to_scale)
-                stamp = min(MOST, stamp + max(1, min(MOST, scaled)))
-        return out
+        """The packets with new time stamps, by exact fractions."""
+        shown = [is_shown(packet) for _, packet, _ in self.packets]
+        durations = [(units, exact_times.base_of(*rate)) for is_frame, (_, _, (units, rate)) in zip(shown, self.packets) if is_frame]
+        stamps = exact_times.stamps_of(durations, exact_times.base_of(*self.rate))
+        return [(stamp, packet) for stamp, (_, packet, _) in zip(exact_times.stamped(shown, stamps), self.packets)]
 
 
 def random_edit(dice, streams, current):

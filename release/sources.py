@@ -20,7 +20,7 @@ class Failed(Exception):
 def version():
     """The version of the client and, by its own line, of the programs. Both must be the same."""
     text = (TOP / "VERSION").read_text(encoding="ascii").strip()
-    source = TOP / "crates/program_parts/src/arguments.rt"
+    source = TOP / "crates/command_lines/src/arguments.rt"
     if source.is_file() and f'"{text}"' not in source.read_text(encoding="utf-8"):
         raise Failed(f"VERSION is {text}, and the programs have another version: change VERSION in {source.relative_to(TOP)} too")
     return text

@@ -187,7 +187,7 @@ def links():
             said = ran([link, "--version"], folder=folder, limit=60, environment=room)
             if said != (0, f"wokureti {version}\n".encode()):
                 wrong.append(f"{link.name} --version: {said}")
-        said = ran([other, "cut", TOP / "examples/mandelbrot.ivf", "part.ivf", "--from", "0", "--to", "5"], folder=folder, limit=60, environment=room)
+        said = ran([other, "cut", TOP / "examples/mandelbrot.ivf", "part.ivf", "--from", "f0", "--to", "f5"], folder=folder, limit=60, environment=room)
         if said[0] or not (folder / "part.ivf").is_file():
             wrong.append(f"{other.name} cut: {said}")
     return wrong, []

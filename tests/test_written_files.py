@@ -7,6 +7,7 @@ It prints what differs and ends with 1, or prints nothing but what it skipped, a
 """
 
 import contextlib
+import errno
 import os
 import pathlib
 import shutil
@@ -164,6 +165,62 @@ def in_order():
     expect("calls of a save", [kind for at, kind in enumerate(calls) if calls[at - 1 : at] != [kind]], ["write", "fsync", "rename"])
 
 
+def both_or_neither():
+    """`--save` and `--export` of one run: both new files are written whole and brought to the disk before either is renamed. Each of these calls is
+    refused in turn: neither file is replaced then, unless only the second one could not be renamed, and no new file is left."""
+    old = {"saved.ivf": b"an old file", "exported.ivf": b"another one"}
+    kinds, at = [], 0
+    while True:
+        at += 1
+        for name, data in old.items():
+            put(name, data)
+        calls = []
+
+        def change(call):
+            if "vp8serve-unfinished-save-" not in call.path or call.kind not in ("write", "fsync", "rename"):
+                return None
+            calls.append(call.kind)
+            return -errno.EIO if len(calls) == at else None
+
+        with contextlib.ExitStack() as opened:
+            requests = opened.enter_context(tempfile.TemporaryFile())
+            requests.write(b"delete 1\n")
+            requests.seek(0)
+            sinks = [opened.enter_context(tempfile.TemporaryFile()) for _ in range(2)]
+            files = {0: requests.fileno(), 1: sinks[0].fileno(), 2: sinks[1].fileno()}
+            ended = traced(Program(str(SERVE)), ["a.ivf", "-", "-", "--save", "saved.ivf", "--export", "exported.ivf"], files, None, change)
+        now = {name: pathlib.Path(name).read_bytes() for name in old}
+        left = [path.name for path in pathlib.Path().glob("vp8serve-unfinished-save-*")]
+        if at > len(calls):
+            kinds = calls
+            break
+        if at == kinds_of_both(calls)[1]:
+            expect(f"call {at} refused: the first file", now["saved.ivf"], SHORTER)
+            expect(f"call {at} refused: the second file", now["exported.ivf"], old["exported.ivf"])
+        else:
+            expect(f"call {at}, {calls[-1]}, refused: both files", now, old)
+        expect(f"call {at} refused: status and new files", (ended.status, left), (1, []))
+    expect("calls of two saves", kinds_of_both(kinds)[0], ["write", "fsync", "write", "fsync", "rename", "rename"])
+    expect("two saves", (ended.status, now, left), (0, {"saved.ivf": SHORTER, "exported.ivf": SHORTER}, []))
+
+
+def kinds_of_both(calls):
+    """The calls without repeated writes, and the number of the second rename, or 0."""
+    renames = [number for number, kind in enumerate(calls, 1) if kind == "rename"]
+    return [kind for at, kind in enumerate(calls) if kind != "write" or calls[at - 1 : at] != ["write"]], renames[1] if len(renames) > 1 else 0
+
+
+def unexported_is_unsaved():
+    """A refused export: the file of `--save` is as it was, and no new file is left, also with `--live`, whose new files are made before the first line."""
+    for more in ([], ["--live"]):
+        put("saved.ivf", b"an old file")
+        told = ran("a.ivf", "-", "-", "--save", "saved.ivf", "--export", "exported.ivf", *more, lines="delete 1\nscript fade 0 0 1 0 0\n")
+        expect(f"refused export {more}: status and replies", told[:2], (1, "ok 1\nok 1\n"))
+        left = sorted(path.name for path in pathlib.Path().glob("*.ivf") if path.name != "a.ivf")
+        expect(f"refused export {more}: files", (left, pathlib.Path("saved.ivf").read_bytes()), (["saved.ivf"], b"an old file"))
+        expect(f"refused export {more}: new files", list(pathlib.Path().glob("vp8serve-unfinished-save-*")), [])
+
+
 def main():
     with tempfile.TemporaryDirectory() as folder:
         os.chdir(folder)
@@ -174,6 +231,11 @@ def main():
         by_links()
         kept_attributes()
         in_order()
+        both_or_neither()
+        for name in ("saved.ivf", "exported.ivf", "new.ivf", "old.ivf"):
+            pathlib.Path(name).unlink(missing_ok=True)
+        unexported_is_unsaved()
+        pathlib.Path("saved.ivf").unlink()
         refused_read_only(pathlib.Path(folder))
         os.chdir(TOP)
     print(*wrong, sep="\n", end="\n" if wrong else "")

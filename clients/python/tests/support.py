@@ -11,6 +11,7 @@ import sys
 import tempfile
 import time
 import unittest
+from unittest import mock
 
 TOP = pathlib.Path(__file__).resolve().parents[3]
 sys.path.insert(0, str(TOP / "clients/python"))
@@ -27,6 +28,10 @@ for name in ("vp8serve", "vp8list"):
 
 # A shell's job in the background ignores Ctrl-C, and so would what it starts; the tests send it.
 signal.signal(signal.SIGINT, signal.default_int_handler)
+
+# What a program of this user keeps, as the addresses of pages, is not that of who runs the tests.
+STATE = tempfile.TemporaryDirectory()
+os.environ["XDG_STATE_HOME"] = STATE.name
 
 # What sessions ask where a test does not say, and how its errors begin.
 ENGINE = library.engine_of(None, None)
@@ -72,6 +77,13 @@ class Case(unittest.TestCase):
         signal.setitimer(signal.ITIMER_REAL, limit)
         self.addCleanup(signal.setitimer, signal.ITIMER_REAL, 0)
 
+    def hush(self):
+        """What sessions and servers in this process say to people is not printed."""
+        for name in ("wokureti.server.live.say", "wokureti.tools.convert.say"):
+            patch = mock.patch(name)
+            patch.start()
+            self.addCleanup(patch.stop)
+
     def folder(self):
         """A new folder, which goes after the test."""
         room = tempfile.TemporaryDirectory()
@@ -109,8 +121,9 @@ def is_alive(pid):
 
 
 def list_of(path):
-    """The text of a list of edits without its first line, which says what stream it is of."""
-    return re.sub(r"\A# wokureti: edits of \d+ packets, \d+ bytes, sha256 [0-9a-f]{64}\n", "", path.read_text())
+    """The text of a list of edits without its first line, which says what stream it is of, and without those that name its sources."""
+    text = re.sub(r"\A# wokureti: edits of \d+ packets, \d+ bytes, sha256 [0-9a-f]{64}\n", "", path.read_text())
+    return re.sub(r"(?m)^# source \d+: .*\n", "", text)
 
 
 def parent_of(pid):

@@ -1,17 +1,20 @@
 """wokureti cat: the text of one vp8serve, whatever the parts are, and nothing lost when something fails."""
 
 import os
+import pathlib
 import pty
 import shutil
 import signal
 import subprocess
+import sys
+import tempfile
 import threading
 import time
 import unittest
 import urllib.request
 from unittest import mock
 
-from support import DATA, ODD, SLOW, SMALL, Case, command, packets_of, start, start_unwaking, whole_text, write_packets
+from support import DATA, ODD, SLOW, SMALL, Case, command, packets_of, start, start_python, start_unwaking, whole_text, write_packets
 from wokureti import Session, commands
 from wokureti.tools import cat, machines, parts, programs
 
@@ -35,7 +38,8 @@ class Texts(Case):
         stream = "/dev/null" if stream == "-" else stream
         for jobs in (1, 3):
             found, text, errors = command("cat", stream, "--jobs", jobs, *words)
-            self.assertEqual((found, text == wanted, bool(errors)), (status, True, status != 0), errors)
+            other = [line for line in errors.splitlines() if "the rate of the frames varies" not in line]
+            self.assertEqual((found, text == wanted, bool(other)), (status, True, status != 0), errors)
         return errors
 
     def test_clips(self):
@@ -155,13 +159,13 @@ class Paths(Case):
         self.assertEqual(command("repair", "-", self.room / "mended.ivf", given=SCENES.read_bytes())[::2], (0, ""))
         self.assertEqual((self.room / "mended.ivf").read_bytes(), SCENES.read_bytes())
         with open(SCENES, "rb") as file:
-            self.assertEqual(start("repair", "-", self.room / "mended.ivf", stdin=file, stdout=subprocess.DEVNULL).wait(20 * SLOW), 0)
+            self.assertEqual(start("repair", "-", self.room / "mended.ivf", "-y", stdin=file, stdout=subprocess.DEVNULL).wait(20 * SLOW), 0)
         self.assertEqual(command("compare", "-", SCENES, given=SCENES.read_bytes())[0], 0)
 
     def test_standard_input_of_each_command(self):
         data, wanted = SCENES.read_bytes(), packets_of(SCENES)
         key = next(place for place, packet in enumerate(wanted) if place and not packet[0] & 1)
-        status, _, errors = command("cut", "-", self.room / "cut.ivf", "--from", 0, "--to", key, given=data)
+        status, _, errors = command("cut", "-", self.room / "cut.ivf", "--from", 0, "--to", f"f{key}", given=data)
         self.assertEqual((status, packets_of(self.room / "cut.ivf") if not status else errors), (0, wanted[:key]))
         status, _, errors = command("join", "-", self.clip, self.room / "joined.ivf", given=data)
         self.assertEqual((status, packets_of(self.room / "joined.ivf") if not status else errors), (0, 2 * wanted))
@@ -254,7 +258,7 @@ class Bounded(Case):
 
         for script in ((), ("--script", "trim 0 0 500")):
             with mock.patch.object(cat, "run_part", run_part), mock.patch.object(cat, "MOST_HELD", 30 * size), mock.patch.object(parts, "MOST_PART", 12 * size):
-                self.assertEqual(commands.main(["cat", str(path), str(room / "out.y4m"), "--jobs", "4", *script]), 0)
+                self.assertEqual(commands.main(["cat", str(path), str(room / "out.y4m"), "-y", "--jobs", "4", *script]), 0)
             self.assertEqual((room / "out.y4m").read_bytes(), wanted)
         # A part has 12 frames, and the one that leads, and two of them are there at a time; one more is being joined.
         self.assertLessEqual(max(sizes), header + 13 * size)
@@ -280,7 +284,7 @@ class Failures(Case):
 
     def assertFails(self, env, words=()):
         with self.within(10):
-            status, text, errors = command("cat", self.many, self.out, "--jobs", 2, *words, env=env)
+            status, text, errors = command("cat", self.many, self.out, "-y", "--jobs", 2, *words, env=env)
         self.assertEqual((status, text, self.out.read_bytes()), (2, b"", b"old"), errors)
         self.assertEqual([name for name in os.listdir(self.room) if name.startswith(".")], [])
         return errors
@@ -304,7 +308,7 @@ class Failures(Case):
     def test_a_full_disk(self):
         limit = ["sh", "-c", 'ulimit -f 8; exec "$@"', "sh"]
         env = dict(os.environ, PYTHONPATH=str(programs.TREE / "clients/python"))
-        words = ["python3", "-m", "wokureti", "cat", str(self.many), str(self.out)]
+        words = ["python3", "-m", "wokureti", "cat", str(self.many), str(self.out), "-y"]
         done = subprocess.run(limit + words, env=env, capture_output=True, timeout=20 * SLOW, check=False)
         self.assertEqual((done.returncode, self.out.read_bytes()), (2, b"old"), done.stderr)
         self.assertEqual(sorted(os.listdir(self.room)), ["in.ivf", "out.y4m"])
@@ -328,7 +332,7 @@ class Failures(Case):
         pids = self.room / "pids"
         env["PIDS"], env["TMPDIR"] = str(pids), str(self.room / "tmp")
         (self.room / "tmp").mkdir()
-        process = start("cat", SCENES, self.out, "--jobs", 2, stderr=subprocess.PIPE, env=env)
+        process = start("cat", SCENES, self.out, "-y", "--jobs", 2, stderr=subprocess.PIPE, env=env)
         self.addCleanup(process.kill)
         while not pids.exists() or len(pids.read_text().split()) < 3:
             time.sleep(0.02)
@@ -387,6 +391,84 @@ class Machines(Case):
         text = "".join(call.args[0] for call in said.write.call_args_list)
         for sentence in ("none cannot be reached: ssh: no such host", "rsync has no rsync", "program has no vp8serve: install it there", "slow does not answer in 0.5 seconds"):
             self.assertIn(f"wokureti: {sentence}", text)
+
+
+    def test_what_counts_is_the_file(self):
+        """A machine that dies may leave a status of 0 in parallel's log, and no file: another one decodes its part."""
+        room = self.folder()
+        for name in ("ssh", "rsync"):
+            (room / name).write_text("#!/bin/sh\n")
+        # parallel with one process: parts 1 and 2 are lost by the machine `dead`, each once it is there.
+        (room / "parallel").write_text(f"""#!{sys.executable}
+import subprocess, sys
+words = sys.argv[1:]
+logins = [words[place + 1] for place, word in enumerate(words) if word == "--sshlogin"]
+with open(words[words.index("--joblog") + 1], "w") as log:
+    log.write("head\\n")
+    for place, number in enumerate(sys.stdin.read().split(), 1):
+        host = logins[0].rpartition("/")[2]
+        subprocess.run(["sh", "-c", words[-1].replace("{{}}", number)], check=True)
+        if host == "dead" and number in "12":
+            subprocess.run(["rm", f"{{number}}.replies", *([f"{{number}}.y4m"] if number == "2" else [])], check=True)
+        log.write(f"{{place}}\\t{{host}}\\t0\\t0\\t0\\t0\\t0\\t0\\tcommand\\n")
+        log.flush()
+""")
+        for name in ("ssh", "rsync", "parallel"):
+            (room / name).chmod(0o755)
+        env = {"PATH": f"{room}:{os.environ['PATH']}", "PARALLEL_SSH": str(room / "ssh"), "VP8SERVE": programs.find("vp8serve")}
+        many = write_packets(room / "in.ivf", 6 * packets_of(SMALL))
+        words = ["cat", many, "--remote", programs.find("vp8serve")]
+        status, out, errors = command(*words, "--sshlogin", "2/dead,good", env=env)
+        self.assertEqual((status, out == whole_text(many)), (0, True), errors)
+        self.assertEqual(errors, "".join(f"wokureti: part {number} did not come back from dead: it is decoded again\n" for number in (1, 2)))
+        status, _, errors = command(*words, "--sshlogin", "2/dead", env=env)
+        self.assertEqual((status, errors), (2, "wokureti: part 1 did not come back from dead\n"))
+
+
+class Rooms(Case):
+    """Folders for temporary files that a program left, and those of programs that run."""
+
+    def sweep(self, room, **env):
+        code = "import tempfile\nfrom wokureti.tools import rooms\nrooms.sweep()"
+        process = start_python("-c", code, env={"TMPDIR": str(room), **env})
+        self.assertEqual(process.wait(20 * SLOW), 0)
+
+    def test_only_a_folder_whose_program_is_gone_is_removed(self):
+        room = self.folder()
+        code = "import sys\nfrom wokureti.tools import rooms\nroom = rooms.Room()\nprint(room.name, flush=True)\nsys.stdin.read()"
+        process = start_python("-c", code, env={"TMPDIR": str(room)}, stdin=subprocess.PIPE, stdout=subprocess.PIPE)
+        name = pathlib.Path(process.stdout.readline().decode().strip())
+        # Where locks are not made, as on some file systems, each program finds the lock free.
+        with open(name / ".lock", "rb") as file:
+            text = file.read()
+        self.sweep(room)
+        self.assertTrue(name.is_dir())
+        copy = room / "wokureti-copy"
+        copy.mkdir()
+        (copy / ".lock").write_bytes(text)
+        self.sweep(room)
+        self.assertTrue(copy.is_dir(), "its program runs, although nobody has the lock")
+        process.kill()
+        process.wait()
+        process.stdin.close()
+        process.stdout.close()
+        # Those of another machine, or of a version that did not say whose it is, may be used.
+        other, old = room / "wokureti-other", room / "wokureti-old"
+        for folder, data in ((other, text.replace(text.split(b"\n")[0], b"another start")), (old, b"")):
+            folder.mkdir()
+            (folder / ".lock").write_bytes(data)
+        self.sweep(room)
+        self.assertEqual(sorted(path.name for path in room.iterdir()), ["wokureti-old", "wokureti-other"])
+
+    def test_a_system_without_locks(self):
+        from wokureti.tools import rooms
+
+        room = self.folder()
+        with mock.patch.object(rooms.fcntl, "flock", side_effect=OSError(38, "Function not implemented")), mock.patch.object(tempfile, "tempdir", str(room)):
+            with rooms.Room() as folder:
+                rooms.sweep()
+                self.assertTrue(os.path.isdir(folder))
+        self.assertEqual(os.listdir(room), [])
 
 
 class Progress(Case):

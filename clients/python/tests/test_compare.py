@@ -349,7 +349,8 @@ class Containers(Case):
         super().setUp()
         self.room = self.folder()
         self.clip = self.room / "a clip.webm"
-        self.clip.write_bytes(b"\x1a\x45\xdf\xa3" + SMALL.read_bytes())
+        # The head of a container, and nothing more.
+        self.clip.write_bytes(b"\x1a\x45\xdf\xa3\x80")
         (self.room / "bin").mkdir()
         # Python's av, which may be here, is not found.
         (self.room / "av.py").write_text("raise ImportError")
@@ -384,7 +385,7 @@ class Containers(Case):
         self.assertEqual((status, out, "no such codec" in errors), (2, b"", True))
 
     def test_mkvextract(self):
-        self.tool("mkvextract", f'out=${{3#0:}}\n[ "$2" = tracks ] && tail -c +5 "$1" > "$out"')
+        self.tool("mkvextract", f'out=${{3#0:}}\n[ "$2" = tracks ] && cp {SMALL} "$out"')
         status, out, errors = self.run_it("cat", self.clip)
         self.assertEqual((status, out, "mkvextract" in errors), (0, whole_text(SMALL), True))
 

@@ -8,6 +8,7 @@ import random
 import shutil
 import subprocess
 import tempfile
+import time
 import unittest
 from array import array
 from unittest import mock
@@ -86,8 +87,18 @@ class Durations(Case):
         self.assertEqual(list(times.durations([], [], 1)), [])
 
     def test_new_stamps(self):
-        stamps, end = times.stamps_of([(False, 5), (True, 40), (False, 7), (True, 30), (False, 9)])
+        packets = [(False, 5), (True, 40), (False, 7), (True, 30), (False, 9)]
+        stamps, end = times.stamps_of([(*packet, (20, 1)) for packet in packets], (20, 1))
         self.assertEqual((list(stamps), end), ([0, 0, 40, 40, 70], 70))
+
+    def test_new_stamps_of_two_rates(self):
+        # Three frames of 1/20 second and three of 1/7 in ticks of 1/30: 1.5, 3 and 4.5, and with these 4.5 + 4.29, rounded apart.
+        twenty, seven = (True, 1, (20, 1)), (True, 1, (7, 1))
+        stamps, end = times.stamps_of([twenty] * 3 + [seven] * 3, (30, 1))
+        self.assertEqual((list(stamps), end), ([0, 2, 3, 5, 9, 14], 18))
+        # A frame lasts one tick at least.
+        stamps, end = times.stamps_of([(True, 1, (1000, 1))] * 3, (30, 1))
+        self.assertEqual((list(stamps), end), ([0, 1, 2], 3))
 
     def test_other_rates(self):
         heads = [ivf.Head(0, 0, *rate) for rate in ((30, 1), (1000, 1), (30000, 1001), (0, 0), (1, 10))]
@@ -610,7 +621,18 @@ class Blocks(Case):
             for path in (clip(name), room / "live.mkv", room / "merged.mkv", room / "laced.mkv"):
                 found = blocks.find(path.read_bytes())
                 track = blocks.video_track(found)
+                self.assertIsNone(blocks.damage(path.read_bytes()), path.name)
                 self.assertEqual((found.gaps, [block.data for block in found.blocks if block.track == track]), ([], wanted), path.name)
+
+    def test_a_file_that_ends_in_the_middle_is_damaged(self):
+        data, _ = self.file()
+        self.assertIsNone(blocks.damage(data))
+        start = data.index(bytes.fromhex(matroska.CLUSTER))
+        for length in range(start + 1, len(data), 37):
+            found = blocks.damage(data[:length])
+            self.assertTrue(found is not None and found.is_cut, length)
+        for at in range(start, start + 4):
+            self.assertEqual(blocks.damage(data[:at] + b"\0" + data[at + 1 :]).is_cut, False)
 
     def test_half_of_a_file(self):
         data, made = self.file()
@@ -636,6 +658,72 @@ class Blocks(Case):
         out = self.folder() / "out.ivf"
         with self.assertRaisesRegex(ivf.NotIvf, "no packet of VP8"):
             blocks.as_file(blocks.find(bytes(100)), "", str(out))
+
+
+@needs_ffmpeg
+class Cut(Case):
+    """A file that ends in the middle is damage in each command that reads it."""
+
+    LIMIT = 90
+
+    def cut(self):
+        """Half of a WebM file, of two kinds: it ends in a block, and between two."""
+        data, room = clip("talk.webm").read_bytes(), self.folder()
+        between = next(block.place for block in blocks.find(data).blocks if block.place > len(data) // 2)
+        for name, length in (("inside.webm", len(data) // 2 + 1), ("between.webm", between)):
+            (room / name).write_bytes(data[:length])
+            yield room / name
+
+    def test_the_status_of_commands(self):
+        for path in self.cut():
+            out = path.parent / "out.webm"
+            commands = {
+                "export": ("export", path, out), "cut": ("cut", path, out, "--from", "0", "--to", "0.5"), "join": ("join", path, path, out),
+                "cat": ("cat", path, path.parent / "out.y4m"), "png": ("png", path, "0", path.parent / "out.png"), "compare": ("compare", path, path),
+            }  # fmt: skip
+            for name, words in commands.items():
+                wanted = 2 if name == "compare" else 1
+                for more, status in (((), wanted), (("--anyway",), 0)):
+                    for old in (out, path.parent / "out.y4m", path.parent / "out.png"):
+                        old.unlink(missing_ok=True)
+                    found, _, errors = command(*words, *more)
+                    self.assertEqual(found, status, (name, errors))
+                    self.assertIn(f"{path} ends in the middle", errors)
+
+    def test_an_ivf_file(self):
+        path = self.folder() / "cut.ivf"
+        path.write_bytes(SMALL.read_bytes()[:-5])
+        for more, status in (((), 1), (("--anyway",), 0)):
+            out = path.parent / f"out{status}.ivf"
+            found, _, errors = command("export", path, out, *more)
+            self.assertEqual((found, len(packets_of(out))), (status, 11))
+            self.assertIn(f"{path} ends in the middle of packet 11: ", errors)
+
+    def test_a_repair_says_so(self):
+        for path in self.cut():
+            status, said, _ = command("repair", path, path.parent / "out.webm", "-y")
+            self.assertEqual(status, 1, said)
+
+    def test_the_page_has_a_finding(self):
+        from wokureti.page.opened import Opened
+
+        self.hush()
+        for path in self.cut():
+            live = Opened({"stream": path})
+            try:
+                check = live.checked()
+                limit = time.monotonic() + 20 * SLOW
+                while not check.is_over and time.monotonic() < limit:
+                    time.sleep(0.02)
+                self.assertEqual((check.error, check.damage), (None, 1))
+                self.assertEqual([finding["kind"] for finding in check.findings if finding["severity"] == "damage"], ["container"])
+                self.assertIn("ends in the middle", check.findings[-1]["text"])
+                _, lines = live.findings()
+                self.assertEqual([line for line in lines if "ends in the middle" in line][0][:8], "damage: ")
+                self.assertIn("damage: 1,", lines[-1])
+                self.assertTrue(any("ends in the middle" in text for _, text in live.notices))
+            finally:
+                live.close()
 
 
 @needs_ffmpeg

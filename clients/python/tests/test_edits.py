@@ -12,10 +12,10 @@ import unittest
 from unittest import mock
 
 from support import DATA, ODD, SLOW, SMALL, TOP, Case, list_of, packets_of, process_of, serve, write_packets
-from wokureti import Ended, Refused, Script, Session
+from wokureti import Ended, Refused, Script, Session, Unexported
 from wokureti.session import edit_files
 from wokureti.session.contents import Contents
-from wokureti.tools import programs
+from wokureti.tools import ivf, programs
 from wokureti.session.errors import OtherStream
 
 HIDDEN = DATA / "hidden-altref.ivf"
@@ -445,6 +445,72 @@ class Packets(Case):
                 stream.packet(11)
 
 
+def uneven(choose, path, clip, count):
+    """Some packets of a clip with time stamps whose steps vary."""
+    packets, stamp, found = packets_of(clip)[:count], 0, []
+    for data in packets:
+        found.append((stamp, data))
+        stamp += choose.choice((1, 1, 1, 2, 7))
+    with open(path, "wb") as file:
+        file.writelines(ivf.pieces(ivf.Head(16, 16, 30, 1), len(found), found))
+    return path
+
+
+class Durations(Case):
+    LIMIT = 240
+
+    def written(self, stream, name):
+        """The files of the packets of both sources with new time stamps, and of the frames."""
+        found = []
+        for source in range(2):
+            stream.save(self.room / name, restamp=True, source=source)
+            found.append((self.room / name).read_bytes())
+        try:
+            stream.export(self.room / name)
+            found.append((self.room / name).read_bytes())
+        except Unexported as error:
+            found.append(str(error))
+        return found
+
+    def test_a_packet_that_is_there_again_has_its_own_duration(self):
+        self.room = self.folder()
+        path = self.room / "uneven.ivf"
+        with open(path, "wb") as file:
+            file.writelines(ivf.pieces(ivf.Head(176, 144, 30, 1), 5, zip((0, 1, 2, 9, 10), packets_of(SMALL))))
+        stream = self.session(path)
+
+        def stamps():
+            stream.save(self.room / "out.ivf", restamp=True)
+            return [stamp for stamp, _ in ivf.read_packets(self.room / "out.ivf")[1]]
+
+        self.assertEqual(stamps(), [0, 1, 2, 9, 10])
+        stream.delete(2)
+        stream.undo()
+        self.assertEqual(stamps(), [0, 1, 2, 9, 10])
+        with self.assertRaises(Refused):
+            stream.delete(range(1, 9))
+        self.assertEqual(stamps(), [0, 1, 2, 9, 10])
+        stream.export(self.room / "frames.ivf")
+        self.assertEqual([stamp for stamp, _ in ivf.read_packets(self.room / "frames.ivf")[1]], [0, 1, 2, 9, 10])
+
+    def test_five_hundred_random_sessions(self):
+        """After undo and redo the files are those of a session that only made the edits that are left."""
+        self.room = self.folder()
+        for turn in range(500):
+            choose = random.Random(f"durations {turn}")
+            paths = [uneven(choose, self.room / f"{name}.ivf", clip, 8) for name, clip in (("one", SMALL), ("two", ODD))]
+            with Session(paths[0], sources=[paths[1]]) as stream:
+                for _ in range(8):
+                    edit(choose, stream, 1)
+                    for _ in range(choose.randrange(3)):
+                        choose.choice((stream.undo, stream.undo, stream.redo))()
+                lines, found = list(stream.edits), self.written(stream, "found.ivf")
+            with Session(paths[0], sources=[paths[1]]) as stream:
+                for line in lines:
+                    stream.request(line)
+                self.assertTrue(found == self.written(stream, "wanted.ivf"), f"session {turn}: {lines}")
+
+
 class Saving(Case):
     def test_as_the_program_saves(self):
         room = self.folder()
@@ -681,6 +747,34 @@ class Lists(Case):
             self.assertEqual(list(stream.edits), ["delete 3"])
         with self.session(ODD, edits=room / "list", anyway=True) as stream:
             self.assertEqual(list(stream.edits), ["delete 3"])
+
+    def test_a_list_names_its_sources(self):
+        room = self.folder()
+        one, two = (write_packets(room / f"{name}.ivf", packets_of(path)) for name, path in (("one", SMALL), ("two", ODD)))
+        with self.session(one, sources=[two], edits=room / "list") as stream:
+            stream.delete(3)
+            stream.copy(1, 0, 3)
+            stream.undo()
+            stream.undo()
+            stream.copy(1, 2, 0)
+            wanted = state(stream, 2)
+        named = [line for line in (room / "list").read_text().splitlines() if line.startswith("# source ")]
+        self.assertEqual([line.split()[2:5] + line.split()[-1:] for line in named], [["1:", str(len(packets_of(ODD))), "packets,", '"two.ivf"']])
+        with self.session(one, edits=room / "list") as stream:
+            self.assertEqual(state(stream, 2), wanted)
+            stream.undo()
+            self.assertEqual((room / "list").read_text(), "")
+            stream.delete(0)
+        self.assertIn('"two.ivf"', (room / "list").read_text())
+        # The program reads the list too.
+        self.assertEqual(serve(one, (room / "list").read_text().splitlines(), "--sources", two), ["ok 11"])
+        with self.assertRaisesRegex(OtherStream, "another source 1: of two.ivf"):
+            Session(one, sources=[one], edits=room / "list")
+        with self.session(one, sources=[one], edits=room / "list", anyway=True) as stream:
+            self.assertEqual(len(stream.edits), 1)
+        two.unlink()
+        with self.assertRaisesRegex(ValueError, "list names source 1: two.ivf, which is not there"):
+            Session(one, edits=room / "list")
 
     def test_a_list_that_was_made_here_goes_if_it_has_nothing(self):
         room = self.folder()

@@ -34,11 +34,18 @@ class Places(Case):
 
     def test_frames_and_times(self):
         # 12 frames of 40 ms.
-        found, cases = self.frames(), {"0": (0, 0), "5": (5, 5), "99": (12, 12), "0.0": (0, 0), "0:00.2": (5, 5), "0.21": (5, 6), "0:0:0.239": (5, 6), "00:00:00.240": (6, 6), "0.47": (11, 12), "1:0.0": (12, 12)}
+        found, cases = self.frames(), {"f0": (0, 0), "f5": (5, 5), "f99": (12, 12), "0": (0, 0), "1": (12, 12), "210ms": (5, 6), "0.2s": (5, 5), "40000us": (1, 1), "0.0": (0, 0), "0:00.2": (5, 5), "0.21": (5, 6), "0:0:0.239": (5, 6), "00:00:00.240": (6, 6), "0.47": (11, 12), "1:0.0": (12, 12)}
         self.assertEqual({text: (found.place(text, False), found.place(text, True)) for text in cases}, cases)
-        for text in ("-1", "x", "1:2:3:4", "1:x", "", "3s"):
-            with self.assertRaisesRegex(exports.Failed, "is no frame and no time"):
+        for text in ("-1", "x", "1:2:3:4", "1:x", "", "3m", "f", "f1.5", "1:00ms", "F3"):
+            with self.assertRaisesRegex(exports.Failed, "is no time and no frame"):
                 found.place(text, False)
+
+    def test_seconds_that_were_frames(self):
+        room = self.folder()
+        status, _, errors = wokureti("cut", SMALL, room / "out.ivf", "--from", "0", "--to", "2", "--from", "0.1", "--to", "3")
+        self.assertEqual((status, errors), (0, "wokureti: 2 is a time in seconds, as in ffmpeg; frame 2 is f2\n"))
+        self.assertEqual(len(packets_of(room / "out.ivf")), 24)
+        self.assertEqual([exports.seconds_text(words) for words in (["0", None], ["00", "f3"], ["1.0", "0:02"])], [None, None, None])
 
     def test_times_of_a_rate_that_varies(self):
         packets = [(stamp, data) for stamp, data in zip((0, 40, 200, 240), packets_of(SMALL))]
@@ -50,15 +57,13 @@ class Places(Case):
 
     def test_scripts(self):
         found = self.frames()
-        self.assertEqual(exports.cut_script(found, [("3", "8")]), "trim 0 3 5")
-        self.assertEqual(exports.cut_script(found, [(None, "0.08"), ("5", None), ("0", "1")]), "trim 0 0 2; trim 0 5 7; trim 0 0 1; splice 1 2; splice 4 3")
-        self.assertEqual(len(exports.cut_script(found, [("1", "2")] * 8).split(";")), 15)
-        for parts, why in (([("3", "3")], "there is no frame from 3 to 3"), ([("20", None)], "from 20 to the end: the stream has 12 frames, 0:00:00.480"), ([("1", "2")] * 9, "1 to 8 parts"), ([], "1 to 8 parts")):
+        self.assertEqual(exports.cut_script(found, [("f3", "f8")]), "trim 0 3 5")
+        self.assertEqual(exports.cut_script(found, [(None, "0.08"), ("f5", None), ("f0", "f1")]), "trim 0 0 2; trim 0 5 7; trim 0 0 1; splice 1 2; splice 4 3")
+        self.assertEqual(len(exports.cut_script(found, [("f1", "f2")] * 8).split(";")), 15)
+        for parts, why in (([("f3", "f3")], "there is no frame from f3 to f3"), ([("20", None)], "from 20 to the end: the stream has 12 frames, 0:00:00.480"), ([("f1", "f2")] * 9, "1 to 8 parts"), ([], "1 to 8 parts")):
             with self.assertRaisesRegex(exports.Failed, why):
                 exports.cut_script(found, parts)
         self.assertEqual([exports.join_script(count) for count in (1, 2, 3)], ["-", "source 1; splice 0 1", "source 1; source 2; splice 0 1; splice 3 2"])
-        with self.assertRaisesRegex(exports.Failed, "at most 8 streams"):
-            exports.join_script(9)
 
     def test_what_is_said(self):
         told = exports.Told(14_400 * MS, 361, 400, 39, 5000, 50000)
@@ -106,7 +111,7 @@ class Stamps(Case):
             # The header counts more packets than there are: the sign that some were lost.
             path.write_bytes(b"".join(ivf.pieces(ivf.Head(16, 16, 30, 1), len(packets), found)))
             for second in ((), ("--second", whole)):
-                self.assertIn(command("repair", path, room / "out.ivf", *second, "--edits", edits)[0], (1, 2))
+                self.assertIn(command("repair", path, room / "out.ivf", *second, "--edits", edits, "-y")[0], (1, 2))
                 sources = ("--sources", whole) if second else ()
                 serve(path, edits.read_text().splitlines(), *sources, "--save", room / "program.ivf", "--restamp")
                 mended = ivf.read_packets(room / "program.ivf")[1]
@@ -128,14 +133,14 @@ class Ivf(Case):
 
     def test_a_cut(self):
         room, whole = self.folder(), self.served(SMALL)
-        status, out, errors = wokureti("cut", SMALL, room / "out.ivf", "--from", "3", "--to", "8")
+        status, out, errors = wokureti("cut", SMALL, room / "out.ivf", "--from", "f3", "--to", "f8")
         self.assertEqual((status, errors), (0, ""))
         self.assertEqual(out.decode(), f"0:00:00.167, 5 frames, in 8 packets, 3 of them hidden: {sum(map(len, packets_of(SMALL)[:3])):,} bytes, {100 * sum(map(len, packets_of(SMALL)[:3])) / sum(map(len, packets_of(SMALL)[:8])):.1f} % of the file\n")
         self.assertEqual(self.served(room / "out.ivf"), whole[3:8])
 
     def test_several_parts_and_a_join(self):
         room, whole = self.folder(), self.served(SMALL)
-        self.assertEqual(wokureti("cut", SMALL, room / "one.ivf", "--from", "9", "--to", "11", "--from", "2", "--to", "4")[0], 0)
+        self.assertEqual(wokureti("cut", SMALL, room / "one.ivf", "--from", "f9", "--to", "f11", "--from", "f2", "--to", "f4")[0], 0)
         self.assertEqual(self.served(room / "one.ivf"), whole[9:11] + whole[2:4])
         self.assertEqual(wokureti("join", room / "one.ivf", SMALL, room / "one.ivf", room / "two.ivf")[0], 0)
         self.assertEqual(self.served(room / "two.ivf"), [*whole[9:11], *whole[2:4], *whole, *whole[9:11], *whole[2:4]])
@@ -149,21 +154,21 @@ class Ivf(Case):
     def test_what_cannot_be_exported(self):
         room = self.folder()
         (room / "out.ivf").write_text("before")
-        status, out, errors = wokureti("export", SMALL, room / "out.ivf", "--script", "fade 0 0 5 0 256")
+        status, out, errors = wokureti("export", SMALL, room / "out.ivf", "--script", "fade 0 0 5 0 256", "-y")
         self.assertEqual((status, out, (room / "out.ivf").read_text()), (2, b"", "before"))
         self.assertRegex(errors, "frame 0.*node 1|node 1.*frame 0")
         for words, why in (
-            (("cut", SMALL, room / "out.ivf"), "each part has a --from and a --to"),
+            (("cut", SMALL, room / "out.ivf"), "say which part is kept: for example --from 0:03.3 --to 0:17.7, or frames, --from f83 --to f443"),
             (("cut", SMALL, room / "out.ivf", "--from", "1", "--from", "2", "--to", "3"), "each part has a --from and a --to"),
             (("cut", SMALL, SMALL, "--from", "1"), "the output is"),
-            (("cut", SMALL, room / "out.ivf", "--from", "soon"), "'soon' is no frame and no time"),
+            (("cut", SMALL, room / "out.ivf", "--from", "soon"), "'soon' is no time and no frame"),
             (("export", SMALL, room / "out.ivf", "--script", "trim 9 0 1"), "refused Reference"),
             (("join", SMALL, room / "none.ivf", room / "out.ivf"), "none.ivf"),
             (("cut", SMALL, room / "out.mp4", "--from", "3"), "no .mp4 file is written. Name it .webm or .mkv"),
             (("repair", SMALL, room / "out.MOV"), "no .mov file is written"),
             (("join", SMALL, SMALL, "-"), "the output is a file: name it"),
         ):
-            status, out, errors = wokureti(*words)
+            status, out, errors = wokureti(*words, "-y")
             self.assertEqual((status, out, (room / "out.ivf").read_text()), (2, b"", "before"))
             self.assertIn(why, errors)
 
@@ -307,10 +312,22 @@ class WithSound(Case):
         self.assertLessEqual(abs(before.sounds[0].times[first] / MS + 6.5 - first_frame), 11)
         self.assertLessEqual(abs(20 * len(theirs) - 1600), 20 + 7)
 
+    def test_times_are_those_of_a_player(self):
+        """The picture begins half a second after the sound, with which the file begins: a frame is shown at the time stamp of its packet."""
+        room, whole = self.folder(), frames(clip("late.webm"))
+        found, path = media(clip("late.webm"), room)
+        stamps = [stamp for stamp, data in ivf.read_packets(path)[1] if ivf.is_shown(data)]
+        self.assertTrue(490 <= stamps[0] <= 540 and abs(found.sounds[0].times[0] / MS + 6.5) < 1, (stamps[0], found.sounds[0].times[0]))
+        for start, stop in ((0.95, 1.3), (0.2, 0.7), (3.3, 3.6)):
+            first = max((place for place, stamp in enumerate(stamps) if stamp <= 1000 * start), default=0)
+            end = next(place for place, stamp in enumerate(stamps) if stamp >= 1000 * stop)
+            status, _, errors = wokureti("cut", clip("late.webm"), room / f"{start}.webm", "--from", start, "--to", stop)
+            self.assertEqual((status, frames(room / f"{start}.webm")), (0, whole[first:end]), errors)
+
     def test_parts_that_are_joined_keep_picture_and_sound_together(self):
         room, source = self.folder(), clip("talk.webm")
         parts = [(70, 80), (12, 31), (50, 51), (52, 60), (3, 9)]
-        words = [word for start, stop in parts for word in ("--from", start, "--to", stop)]
+        words = [word for start, stop in parts for word in ("--from", f"f{start}", "--to", f"f{stop}")]
         self.assertEqual(wokureti("cut", source, room / "out.webm", *words)[0], 0)
         whole = frames(source)
         self.assertEqual(frames(room / "out.webm"), [one for start, stop in parts for one in whole[start:stop]])
@@ -334,7 +351,7 @@ class WithSound(Case):
         self.assertEqual(frames(room / "out.webm"), frames(clip("talk.webm")) + frames(clip("late.webm")))
         found, path = media(room / "out.webm", room)
         self.assertEqual((found.rate, found.tags.get("title"), len(found.sounds)), ((25, 1), "A talk", 1))
-        status, _, errors = wokureti("join", clip("talk.webm"), clip("vorbis.webm"), room / "out.webm", "--sound", "copy")
+        status, _, errors = wokureti("join", clip("talk.webm"), clip("vorbis.webm"), room / "out.webm", "--sound", "copy", "-y")
         self.assertEqual(status, 2)
         self.assertIn("sound track 0 cannot be copied: the recordings have sound of different codecs", errors)
 

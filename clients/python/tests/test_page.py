@@ -23,7 +23,7 @@ from support import DATA, ENGINE, ODD, SLOW, SMALL, Case, children_of, command, 
 from test_serve import TOKEN, ServerCase
 from wokureti import Refused, Script, Session
 from wokureti.page import views
-from wokureti.tools import ivf, programs
+from wokureti.tools import ivf, programs, times
 from wokureti.page.opened import Opened
 from wokureti.page.pages import KINDS, PageRoutes, files_of_page
 from wokureti.server.web import Server
@@ -39,6 +39,10 @@ SCENES = write_packets(
 
 class PageCase(ServerCase):
     """A server with a page, in this process."""
+
+    def setUp(self):
+        super().setUp()
+        self.hush()
 
     def serve(self, stream=SMALL, edits=None, save=None, stems=(), **options):
         self.live = Opened({"stream": stream, **options}, edits, save, stems=stems)
@@ -307,9 +311,22 @@ class Views(PageCase):
         self.assertEqual(self.next_other(end), None)
         self.assertEqual(self.next_other(len(packets) - 1, -1), end - 1)
 
-    def next_other(self, frame, step=1):
+    def test_the_next_frame_that_differs_from_a_source(self):
+        packets = packets_of(SCENES)
+        other = write_packets(self.folder() / "other.ivf", [*packets[:16], *packets[20:]])
+        self.serve(SCENES, sources=[str(other)])
+        self.assertEqual(self.next_other(0), None)
+        mine, theirs = (frames_of(path, range(36)) for path in (SCENES, other))
+        wanted = [frame for frame in range(36) if mine[frame] != theirs[frame]]
+        self.assertEqual(self.next_other(0, more="&against=1"), wanted[0])
+        self.assertEqual(self.next_other(wanted[0] + 1, more="&against=1"), wanted[1])
+        self.assertEqual(self.next_other(wanted[0] - 1, -1, "&against=1"), None)
+        self.assertEqual(self.next_other(0, more="&against=0"), None)
+        self.assertEqual(self.ask("/differs?from=0&against=2")[0], 404)
+
+    def next_other(self, frame, step=1, more=""):
         while True:
-            found = self.members(f"/differs?from={frame}&step={step}")
+            found = self.members(f"/differs?from={frame}&step={step}{more}")
             if found["next"] is None:
                 return found["frame"]
             frame = found["next"]
@@ -960,7 +977,7 @@ class Checks(PageCase):
             self.step(*found["lines"])
             room = self.folder()
             words = ["--second", second[0]] if second == (SCENES,) else []
-            status, out, errors = command("repair", path, room / "out.ivf", "--no-scan", *words)
+            status, out, errors = command("repair", path, room / "out.ivf", "--no-scan", "-y", *words)
             self.assertEqual((status, errors), (1, ""))
             (room / "mine.ivf").write_bytes(self.ask("/stream.ivf")[2])
             self.assertEqual(packets_of(room / "mine.ivf"), packets_of(room / "out.ivf"))
@@ -1154,8 +1171,8 @@ class Killed(PageCase):
 
     def test_a_save_finds_the_time_stamps_once(self):
         self.serve(SCENES, save=self.folder() / "out.ivf")
-        real, found = self.live.contents().durations, []
-        with mock.patch.object(self.live.contents(), "durations", lambda *given: found.append(given) or real(*given)):
+        real, found = times.stamps_of, []
+        with mock.patch.object(times, "stamps_of", lambda *given: found.append(given) or real(*given)):
             for line, is_other in (("delete 3", True), ("undo", False), ("move 3 9", True)):
                 found.clear()
                 self.change(line)
@@ -1279,6 +1296,32 @@ class MoreSources(PageCase):
         self.assertEqual(self.post_to("/sources", file=3)[0], 400)
 
 
+class Overwritten(PageCase):
+    def test_edits_are_taken_back_after_the_file_was_overwritten(self):
+        room = self.folder()
+        clip = write_packets(room / "clip.ivf", packets_of(SMALL))
+        self.serve(str(clip), edits=room / "clip.edits", stems=[str(room / "clip")])
+        before = self.ask("/frames/11.i420")[2]
+        with self.live.lock:
+            self.live.contents()
+        self.step("delete 3")
+        self.step("delete 7", "delete 6", "replace 5 -", "hide 4")
+        write_packets(clip, packets_of(ODD))
+        os.utime(clip, (1, 1))
+        self.step("delete 2", "hide 1")
+        self.step("delete 0")
+        self.assertEqual(self.live.run("save"), str(room / "clip-edited.ivf"))
+        self.assertEqual(len(packets_of(room / "clip-edited.ivf")), 7)
+        for _ in range(4):
+            self.change("undo")
+        self.assertEqual(self.members("/edits")["edits"], [])
+        self.assertEqual([self.live.session.ask(f"packet {n}").split()[2] for n in range(12)], [data.hex() for data in packets_of(SMALL)])
+        self.assertEqual(self.ask("/frames/11.i420")[2], before)
+        for _ in range(4):
+            self.change("redo")
+        self.assertEqual(self.members("/session")["packets"], 7)
+
+
 class TheCommand(Case):
     LIMIT = 40
 
@@ -1325,6 +1368,36 @@ class TheCommand(Case):
             self.assertIn(str(room / "a clip.edits"), errors)
         self.assertEqual(list_of(room / "a clip.edits"), "delete 3\ndelete 3\n")
         self.assertEqual(sorted(path.name for path in room.iterdir()), ["a clip.edits", "a clip.ivf"])
+
+    def test_a_list_names_its_sources(self):
+        room = self.folder()
+        (room / "in").mkdir()
+        clip, other = write_packets(room / "in/a.ivf", packets_of(SMALL)), write_packets(room / "in/b \"ü.ivf", packets_of(ODD))
+        process, host, token = self.open(clip, "--source", other)
+        self.assertEqual(self.ask(host, f"/{token}/edits", "script source 1; splice 0 1")[0], 200)
+        self.end(process)
+        # The folder may be moved.
+        os.rename(room / "in", room / "moved")
+        clip, other = room / "moved/a.ivf", room / "moved" / other.name
+        process, host, token = self.open(clip)
+        found = json.loads(self.ask(host, f"/{token}/session")[1])
+        self.assertEqual((found["names"], found["sources"], found["script"]), (["a.ivf", other.name], [12, len(packets_of(ODD))], "source 1; splice 0 1"))
+        self.end(process)
+        # One that is missing is named, and so is another one in its place.
+        os.rename(other, room / "elsewhere.ivf")
+        status, _, errors = command("open", clip, "--no-browser")
+        self.assertEqual(status, 2)
+        self.assertIn("a.edits names source 1: ", errors)
+        self.assertIn("ü.ivf, which is not there", errors)
+        self.assertIn("name it with --source", errors)
+        process, host, token = self.open(clip, "--source", room / "elsewhere.ivf")
+        self.end(process)
+        status, _, errors = command("open", clip, "--source", clip, "--no-browser")
+        self.assertEqual((status, "another source 1" in errors), (2, True), errors)
+        # A list as an earlier version wrote it.
+        (room / "moved/a.edits").write_text("script source 1; splice 0 1\n")
+        status, _, errors = command("open", clip, "--no-browser")
+        self.assertEqual((status, "name it with --source" in errors, "not of this stream" in errors), (2, True, False), errors)
 
     def test_it_saves_to_a_new_file(self):
         room = self.folder()
@@ -1385,6 +1458,61 @@ class TheCommand(Case):
         self.assertEqual(list_of(room / "other.edits"), "delete 3\n")
         for child in children:
             self.assertGone(child)
+
+    def test_the_stream_itself_is_not_saved_to(self):
+        room = self.folder()
+        clip, other = (write_packets(room / f"{name}.ivf", packets_of(SMALL)) for name in ("clip", "other"))
+        os.link(other, room / "link.ivf")
+        for name in ("open", "serve"):
+            for save in (clip, room / "link.ivf"):
+                status, out, errors = command(name, clip, "--source", other, "--save", save, *(["--no-browser"] * (name == "open")))
+                self.assertEqual((status, out), (2, b""))
+                self.assertIn("which is only read here: name another file", errors)
+        self.assertEqual(packets_of(clip), packets_of(SMALL))
+
+    def test_the_address_is_kept_for_a_day(self):
+        room = self.folder()
+        clip, other = (write_packets(room / f"{name}.ivf", packets_of(SMALL)) for name in ("clip", "other"))
+        with mock.patch.dict(os.environ, {"XDG_STATE_HOME": str(room / "state")}):
+            process, *address = self.open(clip)
+            # Both are open at a time, so one that has another list has another address.
+            process_of_other, *of_other = self.open(other)
+            self.assertNotEqual(address, of_other)
+            process.kill()
+            process.communicate()
+            process, *again = self.open(clip)
+            self.assertEqual(again, address)
+            self.end(process)
+            kept = {path.name: path.stat() for path in (room / "state/wokureti/pages").iterdir()}
+            self.assertEqual(([found.st_mode & 0o777 for found in kept.values()], (room / "state/wokureti").stat().st_mode & 0o777), ([0o600, 0o600], 0o700))
+            self.end(process_of_other)
+            # A port that another program has by now, a file that others may read, and one that is older than a day.
+            with socket.create_server(("127.0.0.1", int(address[0].rpartition(":")[2]))):
+                process, *another = self.open(clip)
+                self.assertNotEqual(another, address)
+                self.end(process)
+            for change in (lambda path: path.chmod(0o640), lambda path: os.utime(path, (time.time() - 25 * 3600,) * 2), lambda path: path.write_text("{}")):
+                for path in (room / "state/wokureti/pages").iterdir():
+                    change(path)
+                process, *found = self.open(clip)
+                self.assertNotEqual(found[1], another[1])
+                another = found
+                self.end(process)
+
+    def test_the_list_of_edits_is_its_owners(self):
+        room = self.folder()
+        clip = write_packets(room / "clip.ivf", packets_of(SMALL))
+        process, host, token = self.open(clip)
+        self.ask(host, f"/{token}/edits", "delete 3")
+        self.assertEqual((room / "clip.edits").stat().st_mode & 0o777, 0o600)
+        # A forwarded port has another Host: the refusal names the address.
+        one = http.client.HTTPConnection(host, timeout=10 * SLOW)
+        one.request("GET", f"/{token}/page/", headers={"Host": "127.0.0.1:1"})
+        response = one.getresponse()
+        self.assertEqual(response.status, 421)
+        self.assertIn(f"open http://{host}/. With ssh, forward this port to the same one: ssh -L {host.rpartition(':')[2]}:{host} MACHINE", response.read().decode())
+        one.close()
+        self.end(process)
 
     def test_it_does_not_start(self):
         room = self.folder()

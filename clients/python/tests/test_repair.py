@@ -49,12 +49,12 @@ class RepairCase(Case):
         if out.exists():
             out.unlink()
         edits = self.room / "list"
-        status, text, errors = command("repair", self.room / "in.ivf", out, *words)
+        status, text, errors = command("repair", self.room / "in.ivf", out, "-y", *words)
         self.assertEqual(errors, "")
         packets = ivf.read_packets(out)[1]
         # The same with a list of edits, which makes the same packets.
         if salvage.plain(data) is not None:
-            self.assertEqual(command("repair", self.room / "in.ivf", out, "--edits", edits, *words)[:2], (status, text))
+            self.assertEqual(command("repair", self.room / "in.ivf", out, "-y", "--edits", edits, *words)[:2], (status, text))
             serve(self.room / "in.ivf", edits.read_text().splitlines(), "--save", self.room / "edited.ivf")
             self.assertEqual(ivf.read_packets(self.room / "edited.ivf")[1], packets)
         lines = text.decode().splitlines()
@@ -77,7 +77,7 @@ class Sound(Case):
             self.assertEqual([(packet.stamp, packet.data) for packet in found.packets], ivf.read_packets(path)[1])
             count += 1
         self.assertGreater(count, 10)
-        self.assertEqual(command("repair", CLEAN, out)[::2], (0, ""))
+        self.assertEqual(command("repair", CLEAN, out, "-y")[::2], (0, ""))
         self.assertEqual(out.read_bytes(), CLEAN.read_bytes())
 
 
@@ -195,7 +195,7 @@ class Second(RepairCase):
 
     def test_another_stream(self):
         (self.room / "second.ivf").write_bytes(SMALL.read_bytes())
-        status, _, errors = command("repair", CLEAN, self.room / "out.ivf", "--second", self.room / "second.ivf")
+        status, _, errors = command("repair", CLEAN, self.room / "out.ivf", "-y", "--second", self.room / "second.ivf")
         self.assertEqual((status, "no packet of the second recording" in errors), (2, True))
         self.assertFalse((self.room / "out.ivf").exists())
 
@@ -270,9 +270,9 @@ class Records(RepairCase):
         self.assertEqual((status, lines[0]), (1, "the header is lost: the size is that of the first key packet, the rate 30 frames a second"))
         self.assertTrue(set(packets) <= set(self.packets))
         self.assertEqual(ivf.read_packets(self.room / "out.ivf")[0], ivf.Head(*ivf.key_size(self.packets[0][1]), 30, 1))
-        status, _, errors = command("repair", self.room / "in.ivf", self.room / "out.ivf", "--edits", self.room / "list")
+        status, _, errors = command("repair", self.room / "in.ivf", self.room / "out.ivf", "-y", "--edits", self.room / "list")
         self.assertEqual((status, "no list of edits" in errors), (2, True))
-        self.assertEqual(command("repair", self.room / "in.ivf", self.room / "out.ivf", "--no-scan")[0], 2)
+        self.assertEqual(command("repair", self.room / "in.ivf", self.room / "out.ivf", "-y", "--no-scan")[0], 2)
 
     def test_random_damage_ends(self):
         choose = random.Random(5)
@@ -298,9 +298,9 @@ class Commands(RepairCase):
         out = self.room / "out.ivf"
         for data in (b"", b"text" * 100, bytes(100000), text_of([]), random.Random(1).randbytes(100000), b"\x1a\x45\xdf\xa3"):
             (self.room / "in").write_bytes(data)
-            status, text, errors = command("repair", self.room / "in", out, env={"PATH": "/nowhere"})
+            status, text, errors = command("repair", self.room / "in", out, "-y", env={"PATH": "/nowhere"})
             self.assertEqual((status, text, bool(errors)), (2, b"", True))
-        self.assertEqual(command("repair", self.room / "none", out)[0], 2)
+        self.assertEqual(command("repair", self.room / "none", out, "-y")[0], 2)
         self.assertFalse(out.exists())
 
     def test_the_output_is_no_input(self):
@@ -308,7 +308,7 @@ class Commands(RepairCase):
         path.write_bytes(self.data)
         os.link(path, self.room / "link")
         for words in ([path, path], [path, self.room / "link"], [SMALL, path, "--second", path], [path, self.room / "x", "--edits", path], [path, self.room / "x", "--edits", self.room / "x"]):
-            status, _, errors = command("repair", *words)
+            status, _, errors = command("repair", *words, "-y")
             self.assertEqual((status, "file" in errors), (2, True))
         self.assertEqual((path.read_bytes(), (self.room / "x").exists()), (self.data, False))
 
@@ -321,6 +321,32 @@ class Commands(RepairCase):
             self.assertEqual((process.returncode, out), (70, b""), words)
             found = re.fullmatch(r"wokureti: a mistake of wokureti itself: ZeroDivisionError: division by zero; the rest is in (.*)\n", errors.decode())
             self.assertIn("Traceback", pathlib.Path(found.group(1)).read_text())
+
+
+class Long(Case):
+    def test_a_long_damaged_stream_is_checked_three_times_at_most(self):
+        """In parts until damage is seen, then as a whole, and once more when it was mended."""
+        packets = list(enumerate(3 * packets_of(CLEAN)))
+        packets[20] = (20, packets[20][1][:2])
+        # Damage inside a packet stays.
+        inside = bytearray(packets[-5][1])
+        inside[len(inside) // 2 :] = bytes(255 - value for value in inside[len(inside) // 2 :])
+        packets[-5] = (packets[-5][0], bytes(inside))
+        data, checked, run = b"".join(ivf.pieces(ivf.Head(16, 16, 30, 1), len(packets), packets)), [], subprocess.run
+
+        def counted(words, *given, **more):
+            if "--check" in words:
+                with open(words[1], "rb") as file:
+                    checked.append(len(ivf.read_index(file.fileno())[1]))
+            return run(words, *given, **more)
+
+        with mock.patch.object(repair, "PART", 1), mock.patch.object(repair, "LEAST_PART", 1), mock.patch.object(repair.facts.subprocess, "run", counted):
+            found = repair.repair(data, programs.find("vp8serve"), programs.find("vp8list"))
+        self.assertGreater(found.changes, 0)
+        self.assertGreater(len(checked), 3)
+        overlap = repair.OVERLAP * len(checked)
+        self.assertLessEqual(sum(checked), 3 * (len(packets) + 10) + overlap, checked)
+        self.assertGreater(found.left, 0)
 
 
 class NoKeyFrames(RepairCase):
@@ -338,13 +364,13 @@ class NoKeyFrames(RepairCase):
     def test_there_is_nothing_to_mend_from(self):
         for packets in (self.broken(), self.broken(50), [packet for packet in self.broken() if not ivf.is_key(packet[1])], [(0, b"")] * 3):
             (self.room / "in.ivf").write_bytes(text_of(packets))
-            status, out, errors = command("repair", self.room / "in.ivf", self.room / "out.ivf")
+            status, out, errors = command("repair", self.room / "in.ivf", self.room / "out.ivf", "-y")
             self.assertEqual((status, out, (self.room / "out.ivf").exists()), (2, b"", False))
             self.assertIn("no key frame survives", errors)
             self.assertNotIn("Traceback", errors)
         # Without holding, the packets are written, and the status says that they are damaged.
         (self.room / "in.ivf").write_bytes(text_of(self.broken()))
-        status, out, _ = command("repair", self.room / "in.ivf", self.room / "out.ivf", "--no-hold")
+        status, out, _ = command("repair", self.room / "in.ivf", self.room / "out.ivf", "-y", "--no-hold")
         self.assertEqual((status, b"not mended" in out), (2, True))
 
     def test_the_second_recording_has_them(self):
@@ -369,7 +395,7 @@ class NoKeyFrames(RepairCase):
             out = self.room / "out.ivf"
             out.unlink(missing_ok=True)
             (self.room / "in.ivf").write_bytes(data)
-            status, _, errors = command("repair", self.room / "in.ivf", out)
+            status, _, errors = command("repair", self.room / "in.ivf", out, "-y")
             self.assertIn(status, (0, 1, 2), errors)
             self.assertNotIn("Traceback", errors)
             statuses.add(status)

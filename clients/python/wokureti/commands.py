@@ -11,7 +11,7 @@ import threading
 import traceback
 
 from . import __version__
-from .session import checks
+from .session import checks, named
 from .tools import cat, containers, convert, excerpts, files, ivf, muxing, programs, rooms, sounds
 from .session.errors import Ended, Lost, Refused, sentence
 from .tools.progress import say
@@ -24,6 +24,10 @@ VP8LIST, or installed with it, or on the PATH. An exit status of 70 says that wo
 MISTAKE = 70
 # Bytes of a file that is mapped and not read, at least.
 LEAST_MAPPED = 64 << 20
+
+
+# Endings of files of packets, which `cat` does not write.
+PACKETS = (".webm", ".mkv", ".ivf", ".mp4", ".m4v", ".mov", ".avi", ".ogv", ".ogg", ".flv", ".vp8")
 
 
 # What each command reads.
@@ -40,7 +44,7 @@ def add_edits(parser):
     """The arguments that name other streams, and edits."""
     parser.add_argument("--source", action="append", default=[], metavar="B", help="another stream: source 1, 2, and so on")
     parser.add_argument("--edits", metavar="FILE", help="a list of edits, made first")
-    parser.add_argument("--anyway", action="store_true", help="makes the edits of a list that is of another stream")
+    parser.add_argument("--anyway", action="store_true", help="makes the edits of a list that is of another stream, and damage of a file is no exit status")
     parser.add_argument("--script", metavar="TEXT", help="the script, for example 'trim 0 0 50'")
     parser.add_argument("--tables", metavar="FILE", help="3012 bytes that replace the long tables of RFC 6386")
 
@@ -66,15 +70,40 @@ def add_cat(commands):
         "carried there and back",
     )
     add_constant(parser)
+    add_replace(parser)
+    parser.add_argument("--per-size", action="store_true", help="of a stream whose size changes: writes a file for each size, OUT-WIDTHxHEIGHT.y4m for OUT.y4m")
     parser.add_argument("--remote", default="vp8serve", metavar="PATH", help="vp8serve on these machines; the one on their PATH if missing")
     parser.set_defaults(run=run_cat)
 
 
+def add_named(given):
+    """Adds the sources that the list of edits names."""
+    if given.edits is not None:
+        given.source = named.with_named(given.source, given.edits)
+
+
 def opened(given, folder):
     """The session of the arguments, with their edits and script. The output may be none of the inputs."""
+    return opener(given, folder)()
+
+
+def opener(given, folder):
+    """A function that opens such a session."""
+    add_named(given)
     cat.check_output(given.out, [given.stream, *given.source, given.edits, given.tables])
     stream, *sources = (convert.as_ivf(path, folder) for path in [given.stream, *given.source])
-    return cat.open_session(stream, sources, given.edits, given.script, given.tables, programs.find("vp8serve"), given.anyway)
+    return lambda: cat.open_session(stream, sources, given.edits, given.script, given.tables, programs.find("vp8serve"), given.anyway)
+
+
+def status_of(session, is_anyway):
+    """The exit status of a command that read the streams of a session: 1 if the file of one of them ends in the middle or is damaged, which is said."""
+    found = 0
+    for item in session.edits.contents().inputs.all:
+        for text in item.damage():
+            if text not in containers.damage_of(item.path):
+                say(text)
+            found = 1
+    return 0 if is_anyway else found
 
 
 def run_cat(given):
@@ -84,25 +113,44 @@ def run_cat(given):
     jobs = given.jobs or len(os.sched_getaffinity(0))
     if jobs < 1:
         raise cat.Failed("--jobs is 1 or more")
-    if muxing.ending_of(given.out) is not None:
-        raise cat.Failed(f"cat writes frames, and not {given.out}: `wokureti export` writes packets")
-    with rooms.Room() as folder, opened(given, folder) as session:
+    cat.check_output(given.out, [given.stream, *given.source, given.edits, given.tables])
+    ending = os.path.splitext(given.out)[1].lower()
+    if ending in PACKETS:
+        raise cat.Failed(f"cat writes frames, YUV4MPEG2, and not {given.out}: `wokureti export` writes packets; for frames name it .y4m")
+    if given.per_size and (given.out == "-" or given.constant):
+        raise cat.Failed("--per-size writes files: name OUT; and it is not together with --constant")
+    check_replaced(given, given.out)
+    with rooms.Room() as folder, (again := opener(given, folder))() as session:
         paces.warn(session.edits.contents(), given.constant, say)
+        status = status_of(session, given.anyway)
         if given.constant:
-            return cat.write_constant(session, given.out)
+            return max(status, cat.write_constant(session, given.out))
         if given.sshlogin:
             from .tools import machines
 
             logins = [login for words in given.sshlogin for login in words.split(",") if login]
-            workers = machines.workers_of(session, logins, given.remote, given.tables)
+
+            def workers_of(session):
+                return machines.workers_of(session, logins, given.remote, given.tables)
         else:
-            workers = cat.here(session, jobs, program, given.tables)
-        refusals = cat.write(session, given.out, workers)
+
+            def workers_of(session):
+                return cat.here(session, jobs, program, given.tables)
+
+        runs = cat.size_runs(session)
+        if given.per_size:
+            outs = cat.names_of_sizes(given.out, runs)
+            check_replaced(given, *outs)
+            refusals = cat.write_sizes(again, runs, outs, workers_of)
+        else:
+            if len(runs) > 1:
+                say(cat.sizes_text(runs))
+            refusals = cat.write(session, given.out, workers_of(session))
     for line in refusals[:10]:
         say(line)
     if len(refusals) > 10:
         say(f"{len(refusals) - 10} more frames were refused")
-    return 1 if refusals else 0
+    return 1 if refusals else status
 
 
 def add_served(parser):
@@ -119,6 +167,10 @@ def add_served(parser):
 
 def add_constant(parser):
     parser.add_argument("--constant", action="store_true", help="of a stream whose rate varies: frames are repeated or left out, so that each is at the nearest time")
+
+
+def add_replace(parser):
+    parser.add_argument("-y", dest="replace", action="store_true", help="replaces a file that is there")
 
 
 def add_sound(parser):
@@ -152,9 +204,18 @@ def add_open(commands):
     parser.set_defaults(run=run_open)
 
 
+def check_save(given):
+    """The file that is saved to must be none of those that are only read."""
+    for path in (given.stream, *given.source):
+        if given.save is not None and path != "-" and checks.is_same_file(given.save, path):
+            raise cat.Failed(f"--save names {path}, which is only read here: name another file, or use `vp8serve IN LIST - --save IN`")
+
+
 def run_open(given):
     from .page import opening
 
+    given.source = named.with_named(given.source, given.edits or f"{opening.stem_of(given.stream)}.edits")
+    check_save(given)
     with rooms.Room() as folder:
         options = served(given, folder)
         titles = [given.stream, *given.source]
@@ -179,6 +240,8 @@ def add_serve(commands):
 def run_serve(given):
     from .server import serve
 
+    add_named(given)
+    check_save(given)
     with rooms.Room() as folder:
         options = {**served(given, folder), "anyway": given.anyway}
         return serve.run(options, given.edits, given.save, given.port, given)
@@ -208,6 +271,7 @@ def run_mount(given):
     from .tools import paces
 
     mount.fuse_module()
+    add_named(given)
     with rooms.Room() as folder:
         live = opened.Opened({**served(given, folder), "anyway": given.anyway}, given.edits)
         live.keeps_stamps, live.sound, live.is_constant = given.keep_stamps, given.sound, given.constant
@@ -221,9 +285,11 @@ def add_export_options(parser, script=False):
     if script:
         add_edits(parser)
     else:
+        parser.add_argument("--anyway", action="store_true", help="damage of a file that is read is no exit status")
         parser.add_argument("--tables", metavar="FILE", help="3012 bytes that replace the long tables of RFC 6386")
     parser.add_argument("--no-pad", action="store_true", help="packets that hold the picture are written as they are, and libvpx does not show them")
     add_sound(parser)
+    add_replace(parser)
 
 
 EXPORTED = (
@@ -237,11 +303,12 @@ def add_cut(commands):
     parser = commands.add_parser(
         "cut",
         help="parts of a stream, at any frame, without coding again",
-        description=f"Writes the frames of IN from F to T, T not included; several --from and --to keep several parts. {EXPORTED}",
+        description="Writes the frames of IN from F to T, T not included; several --from and --to keep several parts. F and T are times as ffmpeg takes them and "
+        f"a player shows them, in seconds or as 1:02:03.4, or frames, as f83. {EXPORTED}",
     )
     parser.add_argument("stream", metavar="IN", help=STREAM)
     parser.add_argument("out", metavar="OUT", help="the file to write")
-    parser.add_argument("--from", dest="starts", action="append", default=[], metavar="F", help="a frame, as 83, or a time, as 0:03.3; the beginning if missing")
+    parser.add_argument("--from", dest="starts", action="append", default=[], metavar="F", help="a time of the player, as 3.3 or 0:03.3, or a frame, as f83; the beginning if missing")
     parser.add_argument("--to", dest="ends", action="append", default=[], metavar="T", help="the same for the first frame that is left out; the end if missing")
     add_export_options(parser)
     parser.set_defaults(run=run_cut)
@@ -252,8 +319,12 @@ def run_cut(given):
 
     counts = {len(given.starts), len(given.ends)}
     if not any(counts) or (len(counts) > 1 and max(counts) > 1):
-        raise cat.Failed("each part has a --from and a --to; only a single part may leave one of them out")
+        what = "say which part is kept" if not any(counts) else "each part has a --from and a --to; only a single part may leave one of them out"
+        raise cat.Failed(f"{what}: for example --from 0:03.3 --to 0:17.7, or frames, --from f83 --to f443")
     parts = list(itertools.zip_longest(given.starts, given.ends))
+    text = exports.seconds_text([*given.starts, *given.ends])
+    if text is not None:
+        say(text)
     return run_script(given, [given.stream], lambda frames: exports.cut_script(frames, parts))
 
 
@@ -272,7 +343,29 @@ def add_join(commands):
 def run_join(given):
     from .tools import exports
 
-    return run_script(given, given.streams, lambda frames: exports.join_script(len(given.streams)))
+    with rooms.Room() as room:
+        streams, count = given.streams, len(given.streams)
+        # The programs read eight streams at a time: more of them are joined in steps.
+        for step in itertools.count():
+            if len(streams) <= exports.MOST_STREAMS:
+                break
+            groups = [streams[place : place + exports.MOST_STREAMS] for place in range(0, len(streams), exports.MOST_STREAMS)]
+            streams = [join_step(given, group, os.path.join(room, f"{step}-{place}")) for place, group in enumerate(groups)]
+        script = exports.join_script(len(streams))
+        return run_script(given, streams, lambda frames: script, given.streams)
+
+
+def join_step(given, streams, path):
+    """Joins some streams into a file that is joined with others: with their sound, if they have some and OUT has it."""
+    if len(streams) == 1:
+        return streams[0]
+    from .tools import exports
+
+    has_sound = muxing.ending_of(given.out) is not None and given.sound != "none" and any(convert.is_container(stream) for stream in streams)
+    out = path + (".mkv" if has_sound else ".ivf")
+    step = argparse.Namespace(**{**vars(given), "out": out, "replace": True, "is_step": True})
+    given.status = max(getattr(given, "status", 0), run_script(step, streams, lambda frames: exports.join_script(len(streams))))
+    return out
 
 
 def add_export(commands):
@@ -289,29 +382,40 @@ def add_export(commands):
 
 
 def run_export(given):
+    add_named(given)
     return run_script(given, [given.stream, *given.source], None)
 
 
-def run_script(given, streams, script_of):
+def check_replaced(given, *outs):
+    """A file that is there is replaced only if that was asked for."""
+    for out in outs:
+        if out is not None and out != "-" and not given.replace and os.path.isfile(out):
+            raise cat.Failed(f"{out} is there already: -y replaces it")
+
+
+def run_script(given, streams, script_of, inputs=()):
     """Writes OUT of the frames of a script, which is made of the frames of the streams, or that of the arguments."""
     from .tools import exports, progress
 
     edits, script = getattr(given, "edits", None), getattr(given, "script", None)
-    cat.check_output(given.out, [*streams, edits, given.tables])
+    cat.check_output(given.out, [*streams, *inputs, edits, given.tables])
     muxing.check_ending(given.out)
+    check_replaced(given, given.out)
     program = programs.find("vp8serve")
     exports.check_program(program)
     with rooms.Room() as room, progress.Stages() as stages:
         stages.stage("reading the packets")
         paths = [convert.as_ivf(path, room) for path in streams]
-        with cat.open_session(paths[0], paths[1:], edits, script, given.tables, program, getattr(given, "anyway", False)) as session:
+        with cat.open_session(paths[0], paths[1:], edits, script, given.tables, program, given.anyway) as session:
             if script_of is not None:
                 session.request(f"script {script_of(exports.Frames(session.edits.contents()))}")
             stages.stage(f"exporting {session.count().frames:,} frames")
             out = exports.Output(given.out, not given.no_pad, given.sound, say)
             told = exports.export(session.edits.contents(), list(session.edits), out, room)
-    print(told.text())
-    return 0
+            status = status_of(session, given.anyway)
+    if not getattr(given, "is_step", False):
+        print(told.text())
+    return max(status, getattr(given, "status", 0))
 
 
 def add_repair(commands):
@@ -334,6 +438,7 @@ def add_repair(commands):
     parser.add_argument("--no-hold", action="store_true", help="no picture is held, and nothing is removed at the beginning")
     parser.add_argument("--tables", metavar="FILE", help="3012 bytes that replace the long tables of RFC 6386")
     add_sound(parser)
+    add_replace(parser)
     parser.set_defaults(run=run_repair)
 
 
@@ -345,6 +450,7 @@ def run_repair(given):
         if out is not None:
             cat.check_output(out, inputs)
     muxing.check_ending(given.out)
+    check_replaced(given, given.out, given.edits)
     if given.edits is not None and checks.is_same_file(given.out, given.edits):
         raise cat.Failed("OUT and the list of edits are one file")
     steps = {name for name in ("scan", "double", "sort", "hold") if not getattr(given, f"no_{name}")}
@@ -416,7 +522,7 @@ def add_compare(commands):
         description="Compares the frames of A and B, each an IVF file, a YUV4MPEG2 file, a URL, or `-`, a decoder under test on a pipe. Prints the first "
         "frame that differs, with the first sample and, of IVF files, the record of the first macroblock that differs; how many frames and samples "
         "differ, and the PSNR. With --decoder A is a folder of streams, and each is compared with the frames of that decoder. Exit status 0 if all are "
-        "the same, 1 if not, 2 for an error.",
+        "the same, 1 if not, 2 for an error or for a file that ends in the middle or is damaged.",
     )
     parser.add_argument("one", metavar="A")
     parser.add_argument("other", metavar="B", nargs="?")
@@ -428,6 +534,7 @@ def add_compare(commands):
     )
     parser.add_argument("--jobs", type=int, default=0, metavar="N", help="with --decoder: streams at a time; as many as processors if missing")
     parser.add_argument("--junit", metavar="FILE", help="with --decoder: the results as JUnit has them")
+    parser.add_argument("--anyway", action="store_true", help="without --decoder: a file that ends in the middle or is damaged is no error")
     parser.add_argument("--png", metavar="DIR", help="writes the first two frames that differ, and their difference, as PNG")
     parser.add_argument("--tables", metavar="FILE", help="3012 bytes that replace the long tables of RFC 6386")
     parser.set_defaults(run=run_compare)
@@ -460,6 +567,10 @@ def run_compare(given):
     found = compare.compare(given.one, given.other, given.png, given.tables)
     for line in found.lines():
         print(line)
+    for text in found.damage:
+        say(text)
+    if found.damage and not given.anyway:
+        return 2
     return 0 if found.is_same else 1
 
 
@@ -484,9 +595,10 @@ def run_png(given):
     with rooms.Room() as folder:
         with opened(given, folder) as session:
             text = png.of_frame(session.frame(given.number), given.matrix, given.full)
+            status = status_of(session, given.anyway)
         with cat.output(given.out) as file:
             file.write(text)
-    return 0
+    return status
 
 
 def parser_of():
@@ -520,9 +632,16 @@ def main(words=None):
     except KeyboardInterrupt:
         return 130
     except (cat.Failed, Ended, Lost, Refused, OSError, ValueError) as error:
-        return stop(sentence(error))
+        return stop(f"{sentence(error)}{where_full(error)}")
     except Exception as error:
         return mistake(error)
+
+
+def where_full(error):
+    """What a message says more if there is no room, and no file is named: it is that of the folder for temporary files."""
+    if not isinstance(error, OSError) or error.errno not in files.FULL or error.filename is not None:
+        return ""
+    return f" in the folder for temporary files, {tempfile.gettempdir()}: name another one in the variable TMPDIR"
 
 
 def end_by_signals():

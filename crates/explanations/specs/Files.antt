@@ -6,8 +6,8 @@ use Rattle.stream_files.specs.Ivf.{HasRecord, Records, body, header_length}
 use Rattle.stream_files.specs.declared.ivf.IvfFault.{IvfFault}
 use Rattle.stream_files.specs.declared.ivf.IvfFault.TheVariants as faults
 use Rattle.stream_files.specs.declared.packets.Packet.{Packet}
-use Rattle.program_parts.specs.Formats.{format_of}
-use Rattle.program_parts.specs.declared.formats.Format.{Format}
+use Rattle.command_lines.specs.Formats.{format_of}
+use Rattle.command_lines.specs.declared.formats.Format.{Format}
 use Rattle.explanations.specs.Lines.{is_binary}
 use Rattle.explanations.specs.declared.files.CutRecord.{CutRecord}
 use Rattle.explanations.specs.declared.files.StreamReason.{StreamReason}

@@ -7,7 +7,7 @@ ghost use Rattle.explanations.specs.Files.{EndsWhole, IsCutRecord, given_length,
 
 use crate::lines::is_binary;
 use byteorder::{ByteOrder, LittleEndian};
-use program_parts::{Format, format_of};
+use command_lines::{Format, format_of};
 use stream_files::IvfFault;
 
 /// Why the bytes of a file are not read as a stream.

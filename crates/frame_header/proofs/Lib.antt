@@ -7,3 +7,5 @@ mod OverLemmas
 pub mod PaddingLemmas
 pub mod PartitionLemmas
 mod OutlineLemmas
+pub mod ShowBytes
+pub mod ShowTags

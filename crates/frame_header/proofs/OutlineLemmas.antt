@@ -22,7 +22,7 @@ use Rattle.frame_header.specs.declared.fields.Colors.{Colors}
 use Rattle.frame_header.specs.declared.fields.Filter.{Filter}
 use Rattle.frame_header.specs.declared.header.Header.{Header}
 use Rattle.frame_header.specs.declared.outline.Outline.{Outline}
-use Rattle.frame_header.specs.declared.places.Place.{Place}
+use Rattle.frame_header.specs.declared.places.PartitionRange.{PartitionRange}
 use Rattle.frame_header.specs.declared.references.ReferenceUpdates.{ReferenceUpdates}
 use Rattle.frame_header.specs.declared.start.Start.{Start}
 use Rattle.frame_header.proofs.PartitionLemmas.{segmentation_same, adjustment_same, count_same}
@@ -65,7 +65,7 @@ abbrev outline_with : Colors → ℕ → ℕ → ℕ → ReferenceUpdates → Ou
 outline_with colors partitions quantizer level references = record { colors = colors; partitions = partitions; quantizer = quantizer; level = level; references = references }
 
 -- the outline of a header of these parts, next to the one that is read after another context
-parts_same : (tables : TableEntries) (c c' : Context) (start : Start) (r : Reader) (partitions : ArrayVec Place)
+parts_same : (tables : TableEntries) (c c' : Context) (start : Start) (r : Reader) (partitions : ArrayVec PartitionRange)
     → (let read = fields start.tag.key c r in let trailing = trailing_fields start.tag.key tables.updates read.0.1 read.1 in outline_with read.0.0.colors (length partitions.items) trailing.0.0.quantizers.y_ac_index read.0.0.filter.level trailing.0.0.references)
     ≡ (let read = fields start.tag.key c' r in let index = quantizers read.1 in outline_with read.0.0.colors (length partitions.items) index.0.y_ac_index read.0.0.filter.level (refreshes start.tag.key read.0.1.sign_biases index.1).0.0.references)
 parts_same tables c c' start r partitions =
@@ -74,13 +74,13 @@ parts_same tables c c' start r partitions =
     let read' = fields key c' r in
     rw (index_in key tables.updates read.0.1 read.1, references_in key tables.updates read.0.1 read.1, references_same key read.0.1.sign_biases read'.0.1.sign_biases (quantizers read.1).1, reader_same key c c' r, filter_same key c c' r, colors_same key c c' r) refl
 
-ranges_by : (header : ArrayVec Place → Header) (outline : ArrayVec Place → Outline) → ((partitions : ArrayVec Place) → outlined (Ok (header partitions)) ≡ Ok (outline partitions)) → (ranges : Result (ArrayVec Place) Cause)
+ranges_by : (header : ArrayVec PartitionRange → Header) (outline : ArrayVec PartitionRange → Outline) → ((partitions : ArrayVec PartitionRange) → outlined (Ok (header partitions)) ≡ Ok (outline partitions)) → (ranges : Result (ArrayVec PartitionRange) Cause)
     → outlined (ranges >>= (λ partitions. Ok (header partitions))) ≡ (ranges >>= (λ partitions. Ok (outline partitions)))
 ranges_by header outline same (Ok partitions) = same partitions
 ranges_by header outline same (Err cause) = refl
 
 -- the outline of each start and end, after any context
-outline_after : (start : Start) (r : Reader) → ArrayVec Place → Outline
+outline_after : (start : Start) (r : Reader) → ArrayVec PartitionRange → Outline
 outline_after start r partitions =
     let read = fields start.tag.key zero_context r in
     let index = quantizers read.1 in

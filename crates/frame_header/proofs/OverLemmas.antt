@@ -9,7 +9,7 @@ use Rattle.frame_header.specs.Header.{◌>>=◌, HeadersAreOverTheirOwn, first_e
 use Rattle.frame_header.specs.declared.cause.Cause.{Cause}
 use Rattle.frame_header.specs.declared.cause.Cause.TheVariants.{FirstPartition}
 use Rattle.frame_header.specs.declared.context.Context.{Context}
-use Rattle.frame_header.specs.declared.places.Place.{Place}
+use Rattle.frame_header.specs.declared.places.PartitionRange.{PartitionRange}
 use Rattle.frame_header.specs.declared.start.Start.{Start}
 
 end_by : (is_past : Bool) (x end : ℕ) → ◌≡◌ {A = Result ℕ Cause} (if is_past then Err FirstPartition else Ok x) (Ok end) → x ≡ end
@@ -28,7 +28,7 @@ unfolding header_over
 over_own tables before packet start end start_is end_is_found = rw (start_is, end_is_found, end_is start packet end end_is_found) refl
 
 -- the first partition between the start and this end
-abbrev own_place : Start → ℕ → Result Place Cause
+abbrev own_place : Start → ℕ → Result PartitionRange Cause
 own_place start end = Ok (record { start = start.place; length = end - start.place })
 
 after_end : (tables : TableEntries) (before : Option Context) (packet : List ℕ) (start : Start) (found : Result ℕ Cause) → start_of before packet ≡ Ok start → first_end start packet ≡ found

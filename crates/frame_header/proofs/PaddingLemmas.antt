@@ -23,7 +23,7 @@ use Rattle.frame_header.specs.declared.cause.Cause.{Cause}
 use Rattle.frame_header.specs.declared.cause.Cause.TheVariants.{ShortPacket, Version, StartCode, Size, FirstPartition}
 use Rattle.frame_header.specs.declared.context.Context.{Context}
 use Rattle.frame_header.specs.declared.header.Header.{Header}
-use Rattle.frame_header.specs.declared.places.Place.{Place}
+use Rattle.frame_header.specs.declared.places.PartitionRange.{PartitionRange}
 use Rattle.frame_header.specs.declared.start.Start.{Start}
 use Rattle.frame_header.specs.declared.tag_fields.Tag.{Tag}
 
@@ -62,7 +62,7 @@ sizes_at-zero : (count at : ℕ) (packet : List ℕ) → sizes_at count at (with
 sizes_at-zero zero at packet = refl
 sizes_at-zero (suc more) at packet = ap (λ (size : ℕ). size ∷ sizes_at more (at + 3) (with_zero packet)) (number_at-zero packet at) ∙ ap (λ (sizes : List ℕ). number_at packet at ∷ sizes) (sizes_at-zero more (at + 3) packet)
 
-one_longer-more : (place : Place) (start : ℕ) (sizes : List ℕ) (end : ℕ) → one_longer (place ∷ places_of start sizes end) ≡ place ∷ one_longer (places_of start sizes end)
+one_longer-more : (place : PartitionRange) (start : ℕ) (sizes : List ℕ) (end : ℕ) → one_longer (place ∷ places_of start sizes end) ≡ place ∷ one_longer (places_of start sizes end)
 one_longer-more place start [] end = refl
 one_longer-more place start (size ∷ sizes) end = refl
 
@@ -90,9 +90,9 @@ places_of-longer start k (size ∷ sizes) end inside =
           let rest : position_from (is_past end) (k + 1) (places_of (start + size) sizes end) ≡ None = rw (le-ltb end (start + size) within) at inside in
           let longer : AreLonger (start + size) (k + 1) sizes end = places_of-longer (start + size) (k + 1) sizes end rest in
           let still : start + size ≤ end + 1 = omega arith in
-          let place : Place = record { start = start; length = size } in
+          let place : PartitionRange = record { start = start; length = size } in
           record {
-            places = ap (λ (places : List Place). place ∷ places) longer.places ∙ sym (one_longer-more place (start + size) sizes end);
+            places = ap (λ (places : List PartitionRange). place ∷ places) longer.places ∙ sym (one_longer-more place (start + size) sizes end);
             inside = rw (le-ltb (end + 1) (start + size) still) longer.inside;
           }
     ]
@@ -102,7 +102,7 @@ ranged : (packet : List ℕ) (first : ℕ) (sizes : List ℕ) (found : Option �
 ranged packet first sizes (Some k) is = tt
 ranged packet first sizes None is =
     let longer : AreLonger first 0 sizes (length packet) = places_of-longer first 0 sizes (length packet) is in
-    rw longer.inside (ap (λ (places : List Place). Ok (record { items = places })) longer.places)
+    rw longer.inside (ap (λ (places : List PartitionRange). Ok (record { items = places })) longer.places)
 
 token_ranges-zero : (packet : List ℕ) (at count : ℕ) → IfOk (token_ranges packet at count) (λ partitions. token_ranges (with_zero packet) at count ≡ Ok (record { items = one_longer partitions.items }))
 unfolding token_ranges
@@ -229,7 +229,7 @@ partition_readers-zero start k (size ∷ sizes) packet inside =
       | inr within ↦
           let rest : position_from (is_past (length packet)) (k + 1) (places_of (start + size) sizes (length packet)) ≡ None = rw (le-ltb (length packet) (start + size) within) at inside in
           let later = partition_readers-zero (start + size) (k + 1) sizes packet rest in
-          let place : Place = record { start = start; length = size } in
+          let place : PartitionRange = record { start = start; length = size } in
           let here : take (start + size - start) (drop start (with_zero packet)) ≡ take (start + size - start) (drop start packet) = part-zero (start + size - start) start packet (omega arith) in
           ap (readers_of (with_zero packet)) (one_longer-more place (start + size) sizes (length packet))
           ∙ ap (λ (bytes : List ℕ). started bytes ∷ readers_of (with_zero packet) (one_longer (places_of (start + size) sizes (length packet)))) here
@@ -254,7 +254,7 @@ pub readers_of-zero : (tables : TableEntries) (before : Option Context) (packet 
 unfolding header_of
 readers_of-zero tables before packet =
     let P : Header → Type 0 = λ header. readers_of (with_zero packet) (one_longer header.partitions.items) ≡ readers_of packet header.partitions.items in
-    let Q : ArrayVec Place → Type 0 = λ partitions. readers_of (with_zero packet) (one_longer partitions.items) ≡ readers_of packet partitions.items in
+    let Q : ArrayVec PartitionRange → Type 0 = λ partitions. readers_of (with_zero packet) (one_longer partitions.items) ≡ readers_of packet partitions.items in
     IfOk-then P (start_of before packet) _ (λ start. IfOk-then P (first_end start packet) _ (λ end. IfOk-following Q P (token_ranges packet end _) _ (token_ranges-readers packet end _) (λ partitions kept. kept)))
 
 pub shown_is_kept : ShownIsKept

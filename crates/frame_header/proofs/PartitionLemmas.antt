@@ -23,7 +23,7 @@ use Rattle.frame_header.specs.declared.context.FilterDeltas.{FilterDeltas}
 use Rattle.frame_header.specs.declared.context.Segments.{Segments}
 use Rattle.frame_header.specs.declared.fields.Segmentation.{Segmentation}
 use Rattle.frame_header.specs.declared.header.Header.{Header}
-use Rattle.frame_header.specs.declared.places.Place.{Place}
+use Rattle.frame_header.specs.declared.places.PartitionRange.{PartitionRange}
 use Rattle.frame_header.specs.declared.start.Start.{Start}
 use Rattle.frame_header.specs.declared.tag_fields.Tag.{Tag}
 use Rattle.frame_header.proofs.PaddingLemmas.{header_of-zero, tag_of-zero}
@@ -85,8 +85,8 @@ count_same is_key c c' r =
     ap (λ (t : Reader). (partition_count (adjustment c.deltas (filter t).1).1).0) (segmentation_same c.segments c'.segments color)
     ∙ ap (λ (t : Reader). (partition_count t).0) (adjustment_same c.deltas c'.deltas (filter (segmentation c'.segments color).1).1)
 
-ranges_by : (header : ArrayVec Place → Header) → ((partitions : ArrayVec Place) → (header partitions).partitions ≡ partitions) → (ranges : Result (ArrayVec Place) Cause) → partitions_in (ranges >>= (λ partitions. Ok (header partitions))) ≡ ranges
-ranges_by header own (Ok partitions) = ap (λ (ps : ArrayVec Place). Ok ps) (own partitions)
+ranges_by : (header : ArrayVec PartitionRange → Header) → ((partitions : ArrayVec PartitionRange) → (header partitions).partitions ≡ partitions) → (ranges : Result (ArrayVec PartitionRange) Cause) → partitions_in (ranges >>= (λ partitions. Ok (header partitions))) ≡ ranges
+ranges_by header own (Ok partitions) = ap (λ (ps : ArrayVec PartitionRange). Ok ps) (own partitions)
 ranges_by header own (Err cause) = refl
 
 -- the partitions of each start, after any context

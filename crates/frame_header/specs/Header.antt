@@ -12,7 +12,7 @@ use Rattle.frame_header.specs.declared.cause.Cause.{Cause}
 use Rattle.frame_header.specs.declared.cause.Cause.TheVariants.{FirstPartition}
 use Rattle.frame_header.specs.declared.context.Context.{Context}
 use Rattle.frame_header.specs.declared.fields.Fields.{Fields}
-use Rattle.frame_header.specs.declared.places.Place.{Place}
+use Rattle.frame_header.specs.declared.places.PartitionRange.{PartitionRange}
 use Rattle.frame_header.specs.declared.start.Start.{Start}
 use Rattle.frame_header.specs.declared.trailing_fields.TrailingFields.{TrailingFields}
 use Rattle.frame_header.specs.declared.header.Header.{Header}
@@ -35,7 +35,7 @@ abbrev pub context_left : Context → TrailingFields → Context → Context
 context_left before trailing context = if trailing.refreshes_entropy then context else record context { probabilities = before.probabilities }
 
 -- a header of these parts
-abbrev pub header_in : Start → Fields × Context → ArrayVec Place → (TrailingFields × Context) × Reader → Header
+abbrev pub header_in : Start → Fields × Context → ArrayVec PartitionRange → (TrailingFields × Context) × Reader → Header
 header_in start (fields, before) partitions ((trailing, context), reader) = record {
   is_key = start.tag.key;
   version = start.tag.version;
@@ -88,7 +88,7 @@ header_over tables before packet first = do
   header_from tables (first_context tables (has_key_tag packet) before) packet start end first
 
 -- the first partition of a packet, which follows its tag, or the first cause against the packet up to the end of it
-abbrev pub first_partition : Option Context → List ℕ → Result Place Cause
+abbrev pub first_partition : Option Context → List ℕ → Result PartitionRange Cause
 first_partition before packet = do
   start ← start_of before packet
   end ← first_end start packet

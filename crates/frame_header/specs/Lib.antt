@@ -15,3 +15,6 @@ pub mod InterFrames
 pub mod WorkedInter
 pub mod Padding
 pub mod Outlines
+pub mod ShowBits
+pub mod ShowFaults
+pub mod ShowLaws

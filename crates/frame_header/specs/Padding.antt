@@ -14,7 +14,7 @@ use Rattle.frame_header.specs.Tags.{has_key_tag, is_shown, key_size_of}
 use Rattle.frame_header.specs.declared.cause.Cause.{Cause}
 use Rattle.frame_header.specs.declared.context.Context.{Context}
 use Rattle.frame_header.specs.declared.header.Header.{Header}
-use Rattle.frame_header.specs.declared.places.Place.{Place}
+use Rattle.frame_header.specs.declared.places.PartitionRange.{PartitionRange}
 
 -- bytes, and a byte 00 after them
 abbrev pub with_zero : List ℕ → List ℕ
@@ -30,14 +30,14 @@ zero_context = record {
 }
 
 -- the token partitions of a packet after a key frame, or the first cause against it; they are the same after every context
-abbrev pub partitions_of : List ℕ → Result (ArrayVec Place) Cause
+abbrev pub partitions_of : List ℕ → Result (ArrayVec PartitionRange) Cause
 partitions_of packet = do
   start ← start_of (Some zero_context) packet
   end ← first_end start packet
   token_ranges packet end (fields start.tag.key zero_context (started (slice_range packet start.place end))).0.0.partition_count
 
 -- the last of these partitions has no byte
-abbrev pub is_last_empty : List Place → Bool
+abbrev pub is_last_empty : List PartitionRange → Bool
 is_last_empty places = option_map_or (λ place. place.length == 0) (slice_get places (length places - 1)) false
 
 -- a packet that is accepted after a key frame and whose last token partition has no byte
@@ -49,7 +49,7 @@ abbrev pub padded : List ℕ → List ℕ
 padded packet = if ends_empty packet then with_zero packet else packet
 
 -- partitions, of which the last is one byte longer
-abbrev pub one_longer : List Place → List Place
+abbrev pub one_longer : List PartitionRange → List PartitionRange
 one_longer [] = []
 one_longer (place ∷ []) = record place { length = place.length + 1 } ∷ []
 one_longer (place ∷ next ∷ rest) = place ∷ one_longer (next ∷ rest)
@@ -68,7 +68,7 @@ abbrev pub PaddingKeepsHeaders : Type 0
 PaddingKeepsHeaders = (tables : TableEntries) (before : Option Context) (packet : List ℕ) → header_of tables before (padded packet) ≡ header_padded packet (header_of tables before packet)
 
 -- the partitions of a header
-abbrev pub partitions_in : Result Header Cause → Result (ArrayVec Place) Cause
+abbrev pub partitions_in : Result Header Cause → Result (ArrayVec PartitionRange) Cause
 partitions_in (Ok header) = Ok header.partitions
 partitions_in (Err cause) = Err cause
 
@@ -81,7 +81,7 @@ abbrev pub ZerosKeepHeaders : Type 0
 ZerosKeepHeaders = (tables : TableEntries) (before : Option Context) (packet : List ℕ) → IfOk (header_of tables before packet) (λ header. header_of tables before (with_zero packet) ≡ Ok (with_longer_last header))
 
 -- the readers of token partitions
-abbrev pub readers_of : List ℕ → List Place → List Reader
+abbrev pub readers_of : List ℕ → List PartitionRange → List Reader
 readers_of packet partitions = map (λ place. started (slice_range packet place.start (place.start + place.length))) partitions
 
 -- and its token partitions are read as before

@@ -8,7 +8,7 @@ use crate::cause::Cause;
 use crate::context::{Context, first_context};
 use crate::fields::{Colors, Filter, Segmentation, read_fields};
 use crate::inter_fields::ReferenceProbabilities;
-use crate::places::{Place, token_ranges};
+use crate::places::{PartitionRange, token_ranges};
 use crate::references::ReferenceUpdates;
 use crate::start::{Start, start_of};
 use crate::trailing_fields::{Quantizers, read_trailing_fields};
@@ -48,7 +48,7 @@ pub struct Header<'a> {
     /// The probabilities of a macroblock's reference; each 0 on a key frame.
     pub reference_probabilities: ReferenceProbabilities,
     /// The positions of the 1 to 8 token partitions in the packet.
-    pub partitions: ArrayVec<Place, 8>,
+    pub partitions: ArrayVec<PartitionRange, 8>,
     /// The context for this frame.
     pub context: Context,
     /// The context that the frame leaves for the next: its own, but with the probabilities before
@@ -124,13 +124,13 @@ fn header_from<'a>(
 
 /// The position of a packet's first partition, which follows its tag (RFC 6386, section 9.1), after a
 /// context or none. An `Err` is the first cause against the packet up to the end of it.
-pub fn first_partition(context: Option<&Context>, packet: &[u8]) -> Result<Place, Cause>
+pub fn first_partition(context: Option<&Context>, packet: &[u8]) -> Result<PartitionRange, Cause>
     ensures value { result ≡ first_partition (option_copied context.entry) packet.now }
     ensures inside { IfOk result (λ place. place.start + place.length ≤ length packet.now) }
 {
     let start = start_of(context, packet)?;
     let end = first_end(&start, packet)?;
-    Ok(Place {
+    Ok(PartitionRange {
         start: start.place,
         length: end - start.place,
     })

@@ -6,7 +6,7 @@ use crate::cause::Cause;
 use crate::context::{Context, FilterDeltas, Probabilities, Segments, SignBiases};
 use crate::fields::read_fields;
 use crate::header::first_end;
-use crate::places::{Place, token_ranges};
+use crate::places::{PartitionRange, token_ranges};
 use crate::start::start_of;
 use arrayvec::ArrayVec;
 use bool_coder::Decoder;
@@ -39,7 +39,7 @@ pub(crate) fn zero_context() -> Context
 }
 
 /// The token partitions of a packet after a key frame, or the first cause against it.
-fn read_partitions(packet: &[u8]) -> Result<ArrayVec<Place, 8>, Cause>
+fn read_partitions(packet: &[u8]) -> Result<ArrayVec<PartitionRange, 8>, Cause>
     ensures { result ≡ partitions_of packet.now }
 {
     let mut context = zero_context();
@@ -51,7 +51,7 @@ fn read_partitions(packet: &[u8]) -> Result<ArrayVec<Place, 8>, Cause>
 }
 
 /// Whether the last of these partitions is empty.
-fn is_last_empty(places: &[Place]) -> bool
+fn is_last_empty(places: &[PartitionRange]) -> bool
     ensures { result ≡ is_last_empty places.now }
 {
     places.last().is_some_and(|place| place.length == 0)

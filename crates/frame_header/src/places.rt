@@ -7,7 +7,7 @@ use arrayvec::ArrayVec;
 
 /// The position of a partition in its packet, in bytes.
 #[derive(Clone, Copy, Debug, Default, PartialEq, Eq)]
-pub struct Place {
+pub struct PartitionRange {
     /// The index of its first byte.
     pub start: usize,
     /// How many bytes it has.
@@ -19,7 +19,7 @@ pub(crate) fn token_ranges(
     packet: &[u8],
     at: usize,
     count: usize,
-) -> Result<ArrayVec<Place, 8>, Cause>
+) -> Result<ArrayVec<PartitionRange, 8>, Cause>
     requires some { 0 < count }
     requires few { count ≤ 8 }
     requires inside { at ≤ length packet.now }
@@ -38,10 +38,10 @@ pub(crate) fn token_ranges(
         if length > packet.len() - start {
             return Err(Cause::TokenPartition(k as u8));
         }
-        places.push(Place { start, length });
+        places.push(PartitionRange { start, length });
         start += length;
     }
     let length = packet.len() - start;
-    places.push(Place { start, length });
+    places.push(PartitionRange { start, length });
     Ok(places)
 }

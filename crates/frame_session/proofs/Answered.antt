@@ -18,20 +18,20 @@ use Rattle.request_lines.specs.declared.edit.Edit.TheVariants as edits
 use Rattle.frame_session.specs.declared.refusal.Refusal.{Refusal}
 use Rattle.frame_session.specs.declared.refusal.Refusal.TheVariants as refusals
 use Rattle.frame_session.specs.declared.size.Size.{Size}
-use Rattle.state_cache.specs.Decoding.{Outcome}
+use Rattle.stream_steps.specs.Decoding.{Outcome}
 use Rattle.frame_session.specs.IsOrNoMemory.{IsOrNoMemory}
 use Rattle.packet_edits.specs.declared.entry.Entry.{Entry}
 use Rattle.packet_edits.specs.declared.fault.EditFault.TheVariants as faults
 use Rattle.packet_edits.specs.Edits.{Listing}
 use Rattle.packet_edits.specs.Sizes.{size_at}
 use Rattle.macroblock_lists.specs.declared.layouts.What.TheVariants as what
-use Rattle.packet_lists.specs.Details.{detail_text}
-use Rattle.packet_lists.specs.Findings.{check_lines}
-use Rattle.packet_lists.specs.Lines.{lines_from}
+use Rattle.session_questions.specs.Details.{detail_text}
+use Rattle.session_questions.specs.Findings.{check_lines}
+use Rattle.session_questions.specs.Lines.{lines_from}
 use Rattle.packet_forge.specs.declared.faults.ForgeFault.{ForgeFault}
 use Rattle.packet_forge.specs.declared.faults.ForgeFault.TheVariants as forging
 use Rattle.packet_forge.specs.Packets.{blank_of}
-use Rattle.show_bits.specs.ShowBits.{has_show_bit}
+use Rattle.frame_header.specs.ShowBits.{has_show_bit}
 use Rattle.vp8_tables.specs.declared.tables.Tables.{Tables}
 use Rattle.frame_session.proofs.Forging.{blank_lacks_none, held_lacks_none}
 use Rattle.frame_session.specs.Edits.{WrittenAnswers, edit_of, hold_bytes_at, refusal_by, refused_forged, count_unless}

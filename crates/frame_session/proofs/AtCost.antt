@@ -6,8 +6,8 @@ use Rattle.std.proofs.KnownBytes.{Appends-kept, Appends-nil}
 use Rattle.pixel_planes.specs.Pictures.{PictureSamples}
 use Rattle.vp8_tables.specs.declared.tables.Tables.{Tables}
 use Rattle.stream_files.specs.Y4m.{frame_text}
-use Rattle.stream_files.specs.declared.ivf.Head.{Head}
-use Rattle.stream_files.specs.declared.ivf.Ivf.{Ivf}
+use Rattle.stream_files.specs.declared.streams.FrameRate.{FrameRate}
+use Rattle.stream_files.specs.declared.streams.Stream.{Stream}
 use Rattle.script_nodes.specs.Shown.{Shown}
 use Rattle.request_lines.specs.Requests.{asked_by}
 use Rattle.request_lines.specs.declared.lines.Line.{Line}
@@ -22,7 +22,7 @@ use Rattle.frame_session.specs.Noted.{is_frame, refuses_frame}
 use Rattle.frame_session.specs.Told.{is_refusal}
 use Rattle.frame_session.specs.Questions.{GainsAnswer, answer_to}
 use Rattle.frame_session.specs.Replies.{refused_line, edit_line, served_line}
-use Rattle.frame_session.specs.Sessions.{IsAfterFrame, choice_answer, current_list, now_after_choice, now_after_edit, now_after_script, frame_of, head_due, script_answer, size_given}
+use Rattle.frame_session.specs.Sessions.{IsAfterFrame, choice_answer, current_list, now_after_choice, now_after_edit, now_after_script, frame_of, rate_due, script_answer, size_given}
 use Rattle.frame_session.specs.Cached.{FrameCosts, SessionValue, begun, needs_picture, packet_of_frame}
 use Rattle.frame_session.specs.Answers.{Answer, Answers, AreIvfs, WritesAnswers, WritesAnswer, answer_to_frame, opening, reply_only, requests_of}
 use Rattle.frame_session.specs.LineCosts.{AnswersAtCost, EditCosts, LineCosts, MeansAtCost, RunCosts, RunsAtCost}
@@ -97,13 +97,13 @@ module _ {E : Type 0} (w : Result (Option Refusal) E) (old : SessionValue) (f f'
   }
 
   -- a frame, written with the head that is due
-  pub frame_at_cost : (n : ℕ) (picture : PictureSamples) (new : SessionValue) (head : Option Head) → head ≡ head_due old.state → IsFrameOrNoMemory (frame_of old.state n) (Ok picture) → IsAfterFrame old.state (size_given (Ok picture)) new.state → FrameCosts (packet_of_frame old.state n) old (Ok picture) new
+  pub frame_at_cost : (n : ℕ) (picture : PictureSamples) (new : SessionValue) (head : Option FrameRate) → head ≡ rate_due old.state → IsFrameOrNoMemory (frame_of old.state n) (Ok picture) → IsAfterFrame old.state (size_given (Ok picture)) new.state → FrameCosts (packet_of_frame old.state n) old (Ok picture) new
       → OnOk w (Appends f f' (opening head picture.width picture.height ++ frame_text picture)) → OnOk w (Appends r r' (served_line n)) → IfOk w (λ told. told ≡ None) → AnswersAtCost old (requests.Frame n) f f' r r' w new
   frame_at_cost n picture new head is returned after costs shown said told = record {
     answer = answer_to_frame old.state n (Ok returned.0);
     means = (Ok returned.0, returned.1, refl, subst (λ size. IsAfterFrame old.state size new.state) (size_same picture returned.0 returned.2) after);
     costs = (Ok returned.0, refl, costs_alike {A = PictureSamples} {B = Shown} (packet_of_frame old.state n) old new (Ok picture) (Ok returned.0) refl costs);
-    shown = subst (λ (text : List ℕ). OnOk w (Appends f f' text)) (ap (λ (h : Option Head). opening h picture.width picture.height ++ frame_text picture) is ∙ frame_same old.state n picture returned.0 returned.3 returned.2) shown;
+    shown = subst (λ (text : List ℕ). OnOk w (Appends f f' text)) (ap (λ (h : Option FrameRate). opening h picture.width picture.height ++ frame_text picture) is ∙ frame_same old.state n picture returned.0 returned.3 returned.2) shown;
     said = said;
     told = frame_told w n (answer_to_frame old.state n (Ok returned.0)) None told refl;
   }
@@ -151,7 +151,7 @@ all_at_cost old new done left all f f' r r' none whole ran costs =
     subst (λ (ls : List Line). RunsAtCost old ls f f' r r' new) same (record { runs = ran; costs = costs })
 
 -- a run from its first session
-pub means_at_cost : (tables : Tables) (capacity : Capacity) (sources : List (List ℕ)) (requests : List ℕ) (f f' r r' : Option (List ℕ)) (files : List Ivf) (first end : SessionValue) → AreIvfs sources files → first ≡ begun tables capacity files → RunsAtCost first (requests_of requests) f f' r r' end → MeansAtCost tables capacity sources requests f f' r r' end
+pub means_at_cost : (tables : Tables) (capacity : Capacity) (sources : List (List ℕ)) (requests : List ℕ) (f f' r r' : Option (List ℕ)) (files : List Stream) (first end : SessionValue) → AreIvfs sources files → first ≡ begun tables capacity files → RunsAtCost first (requests_of requests) f f' r r' end → MeansAtCost tables capacity sources requests f f' r r' end
 means_at_cost tables capacity sources requests f f' r r' files first end are is ran =
     let so : RunsAtCost (begun tables capacity files) (requests_of requests) f f' r r' end = subst (λ (v : SessionValue). RunsAtCost v (requests_of requests) f f' r r' end) is ran in
     record { means = record { files = files; are = are; runs = so.runs }; costs = so.costs }

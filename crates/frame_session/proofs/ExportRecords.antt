@@ -7,7 +7,7 @@ use Rattle.std.proofs.KnownBytes.{Appends-trans}
 use Rattle.packet_edits.specs.Saved.{padded_if}
 use Rattle.stream_files.specs.declared.packets.Packet.{Packet}
 use Rattle.stream_files.specs.Texts.{header_text, record_text, records_text, written_text}
-use Rattle.stream_files.specs.declared.ivf.Head.{Head}
+use Rattle.stream_files.specs.declared.streams.Head.{Head}
 
 records_more : (pads : Bool) (packets : List Packet) (i : ℕ) (d : Packet) → i < length packets → records_text (map (padded_if pads) (take (i + 1) packets)) ≡ records_text (map (padded_if pads) (take i packets)) ++ record_text (padded_if pads (get_or packets i d))
 records_more pads packets i d within =

@@ -8,9 +8,9 @@ use Rattle.pixel_planes.specs.Pictures.{PictureSamples}
 use Rattle.pixel_planes.specs.declared.pictures.Component.{Component}
 use Rattle.pixel_planes.specs.declared.pictures.Component.TheVariants.{Luma, Cb, Cr}
 use Rattle.packet_edits.specs.Edits.{Listing}
-use Rattle.packet_times.specs.Stamps.{stamp_after, stamped, units_after, units_first}
+use Rattle.packet_times.specs.Stamps.{stamped, stamps_after}
 use Rattle.packet_edits.specs.Shown.{shown_indexes, stream_of}
-use Rattle.state_cache.specs.Decoding.{Outcome, outcomes}
+use Rattle.stream_steps.specs.Decoding.{Outcome, outcomes}
 use Rattle.lossless_cuts.specs.Exports.{AreDecoded, HasBytes, IsDecoded}
 use Rattle.lossless_cuts.specs.Laws.{ExportsShowTheirFrames}
 use Rattle.lossless_cuts.specs.Plans.{exported, stream_at, streams_of}
@@ -250,9 +250,9 @@ streams_same [] = refl
 streams_same (store ∷ stores) = ap (λ (ss : List (List (List ℕ))). stream_of store.list ∷ ss) (streams_same stores)
 
 -- each packet gets a time stamp
-pub stamped_length : (stamp : ℕ) (units : List ℕ) (packets : List (List ℕ)) → length (stamped stamp units packets) ≡ length packets
-stamped_length stamp units [] = refl
-stamped_length stamp units (packet ∷ packets) = ap suc (stamped_length (stamp_after stamp packet (units_first units)) (units_after packet units) packets)
+pub stamped_length : (stamps : List ℕ) (packets : List (List ℕ)) → length (stamped stamps packets) ≡ length packets
+stamped_length stamps [] = refl
+stamped_length stamps (packet ∷ packets) = ap suc (stamped_length (stamps_after packet stamps) packets)
 
 -- only the number of steps made changes
 pub steps_only : (old mid new : SessionState) → mid ≡ record old { decoded = mid.decoded } → new ≡ record mid { decoded = new.decoded } → new ≡ record old { decoded = new.decoded }

@@ -16,7 +16,7 @@ use Rattle.frame_session.specs.declared.refusal.Refusal.{Refusal}
 use Rattle.frame_session.specs.declared.refusal.Refusal.TheVariants as refusals
 use Rattle.frame_session.specs.declared.size.Size.{Size}
 use Rattle.state_cache.specs.Costs.{Costs}
-use Rattle.state_cache.specs.Decoding.{Outcome, outcomes}
+use Rattle.stream_steps.specs.Decoding.{Outcome, outcomes}
 use Rattle.state_cache.specs.Walks.{IsWalk}
 use Rattle.frame_session.specs.Cached.{FrameCosts, LeavesOthers, SessionValue, packet_of_frame, store_at}
 use Rattle.frame_session.specs.IsOrNoMemory.{IsFrameOrNoMemory}

@@ -18,3 +18,4 @@ pub mod Noted
 pub mod ExportedFrames
 pub mod Listed
 pub mod ExportRecords
+pub mod RefusedScripts

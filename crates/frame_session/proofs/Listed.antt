@@ -17,9 +17,9 @@ use Rattle.stream_checks.specs.Packets.{findings_of_each, joined}
 use Rattle.stream_checks.specs.Packets.{first_position as checked_first}
 use Rattle.stream_checks.specs.Stamps.{pace_of}
 use Rattle.macroblock_lists.specs.declared.layouts.What.{What}
-use Rattle.packet_lists.specs.Findings.{check_lines, finding_lines, findings_from}
-use Rattle.packet_lists.specs.Lines.{first_record, lines_from, lines_of}
-use Rattle.packet_lists.proofs.Found.{each_counted}
+use Rattle.session_questions.specs.Findings.{check_lines, finding_lines, findings_from}
+use Rattle.session_questions.specs.Lines.{first_record, lines_from, lines_of}
+use Rattle.session_questions.proofs.Found.{each_counted}
 use Rattle.frame_session.specs.Origins.{origin_line, origins_answer}
 use Rattle.request_lines.specs.declared.question.Question.TheVariants as questions
 use Rattle.frame_session.specs.Questions.{GainsAnswer, check_answer, detail_answer, list_answer}

@@ -8,7 +8,7 @@ use Rattle.std.specs.Io.KnownBytes.{Appends, Consumes, IsAtEnd}
 use Rattle.std.specs.Str.Lines.{lines, strip_carriage_return}
 use Rattle.std.proofs.KnownBytes.{Appends-trans, Consumes-nil, Consumes-trans}
 use Rattle.vp8_tables.specs.declared.tables.Tables.{Tables}
-use Rattle.stream_files.specs.declared.ivf.Ivf.{Ivf}
+use Rattle.stream_files.specs.declared.streams.Stream.{Stream}
 use Rattle.request_lines.specs.declared.lines.Line.{Line}
 use Rattle.state_cache.specs.declared.capacity.Capacity.{Capacity}
 use Rattle.frame_session.specs.declared.live.LiveFault.{LiveFault}
@@ -274,7 +274,7 @@ read_all (Some xs) None text taken end = absurd taken
 read_all (Some xs) (Some ys) text taken end = sym (taken ∙ ap (λ rest. text ++ rest) end ∙ append-nil text)
 
 -- a run of live lines from its first session
-module _ (tables : Tables) (capacity : Capacity) (sources : List (List ℕ)) (a b f f' r r' : Option (List ℕ)) (seen seen' : Bool) (files : List Ivf) (first end : SessionValue) (are : AreIvfs sources files) (is : first ≡ begun tables capacity files) (ran : RunsText 0 first end a b f f' r r' false seen seen') where
+module _ (tables : Tables) (capacity : Capacity) (sources : List (List ℕ)) (a b f f' r r' : Option (List ℕ)) (seen seen' : Bool) (files : List Stream) (first end : SessionValue) (are : AreIvfs sources files) (is : first ≡ begun tables capacity files) (ran : RunsText 0 first end a b f f' r r' false seen seen') where
   so : RunsText 0 (begun tables capacity files) end a b f f' r r' false seen seen'
   so = subst (λ (v : SessionValue). RunsText 0 v end a b f f' r r' false seen seen') is ran
 

@@ -1,7 +1,7 @@
 -- What the observer of a run has seen.
 use Rattle.std.proofs.Common.{◌≡◌, ℕ, Bool, true, false, ◌&&◌, ◌||◌, is_some, List, [], ◌∷◌, ◌++◌, map, Option, refl, sym, ap, ◌∙◌, subst, append-nil}
 use Rattle.vp8_tables.specs.declared.tables.Tables.{Tables}
-use Rattle.stream_files.specs.declared.ivf.Ivf.{Ivf}
+use Rattle.stream_files.specs.declared.streams.Stream.{Stream}
 use Rattle.request_lines.specs.Requests.{asked_by}
 use Rattle.request_lines.specs.declared.lines.Line.{Line}
 use Rattle.request_lines.specs.declared.lines.Line.TheVariants as requests
@@ -61,7 +61,7 @@ all_noted old new done left all f f' r r' seen seen' none whole ran noted =
     subst (λ (ls : List Line). RunsNoted old ls f f' r r' new seen seen') same (record { runs = ran; noted = noted })
 
 -- a run from its first session
-pub means_noted : (tables : Tables) (capacity : Capacity) (sources : List (List ℕ)) (requests : List ℕ) (f f' r r' : Option (List ℕ)) (files : List Ivf) (first : SessionValue) (end : SessionState) (seen seen' : Bool) → AreIvfs sources files → first ≡ begun tables capacity files → RunsNoted first.state (requests_of requests) f f' r r' end seen seen' → MeansNoted tables sources requests f f' r r' end seen seen'
+pub means_noted : (tables : Tables) (capacity : Capacity) (sources : List (List ℕ)) (requests : List ℕ) (f f' r r' : Option (List ℕ)) (files : List Stream) (first : SessionValue) (end : SessionState) (seen seen' : Bool) → AreIvfs sources files → first ≡ begun tables capacity files → RunsNoted first.state (requests_of requests) f f' r r' end seen seen' → MeansNoted tables sources requests f f' r r' end seen seen'
 means_noted tables capacity sources requests f f' r r' files first end seen seen' are is ran =
     let so : RunsNoted (start tables files) (requests_of requests) f f' r r' end seen seen' = subst (λ (v : SessionValue). RunsNoted v.state (requests_of requests) f f' r r' end seen seen') is ran in
     record { means = record { files = files; are = are; runs = so.runs }; noted = so.noted }

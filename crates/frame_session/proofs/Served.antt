@@ -7,7 +7,7 @@ use Rattle.std.proofs.KnownBytes.{Appends-nil, Appends-trans}
 use Rattle.pixel_planes.specs.Pictures.{IsWholePicture, PictureSamples}
 use Rattle.script_nodes.specs.Shown.{Shown, Shows}
 use Rattle.stream_files.specs.Y4m.{frame_text}
-use Rattle.stream_files.specs.declared.ivf.Head.{Head}
+use Rattle.stream_files.specs.declared.streams.FrameRate.{FrameRate}
 use Rattle.request_lines.specs.declared.lines.Line.{Line}
 use Rattle.request_lines.specs.declared.lines.Line.TheVariants as requests
 use Rattle.request_lines.specs.declared.edit.Edit.{Edit}
@@ -19,7 +19,7 @@ use Rattle.frame_session.specs.IsOrNoMemory.{IsOrNoMemory, IsFrameOrNoMemory}
 use Rattle.frame_session.specs.Edits.{WrittenAnswers}
 use Rattle.frame_session.specs.Questions.{GainsAnswer}
 use Rattle.frame_session.specs.Replies.{refused_line, edit_line, served_line}
-use Rattle.frame_session.specs.Sessions.{IsAfterFrame, SessionState, choice_answer, current_list, now_after_choice, now_after_edit, now_after_script, frame_of, head_due, script_answer, size_given, size_served}
+use Rattle.frame_session.specs.Sessions.{IsAfterFrame, SessionState, choice_answer, current_list, now_after_choice, now_after_edit, now_after_script, frame_of, rate_due, script_answer, size_given, size_served}
 use Rattle.frame_session.specs.Answers.{Answer, Answers, AnswersEach, WritesAnswers, WritesAnswer, WritesFrameFirst, answer_to_frame, frames_of, opening, replies_of, reply_only}
 use Rattle.frame_session.proofs.Texts.{text_same}
 
@@ -29,11 +29,11 @@ size_same picture shown shows =
     let size : ℕ → ℕ → Option Size = λ w h. Some (record { width = w; height = h }) in
     ap (λ (w : ℕ). size w picture.height) shows.wide ∙ ap (λ (h : ℕ). size shown.width h) shows.high
 
-pub frame_same : (old : SessionState) (n : ℕ) (picture : PictureSamples) (shown : Shown) → IsWholePicture picture → Shows picture shown → opening (head_due old) picture.width picture.height ++ frame_text picture ≡ (answer_to_frame old n (Ok shown)).frames
+pub frame_same : (old : SessionState) (n : ℕ) (picture : PictureSamples) (shown : Shown) → IsWholePicture picture → Shows picture shown → opening (rate_due old) picture.width picture.height ++ frame_text picture ≡ (answer_to_frame old n (Ok shown)).frames
 frame_same old n picture shown whole shows =
-    ap (λ (w : ℕ). opening (head_due old) w picture.height ++ frame_text picture) shows.wide
-    ∙ ap (λ (h : ℕ). opening (head_due old) shown.width h ++ frame_text picture) shows.high
-    ∙ ap (λ (t : List ℕ). opening (head_due old) shown.width shown.height ++ t) (text_same picture shown whole shows)
+    ap (λ (w : ℕ). opening (rate_due old) w picture.height ++ frame_text picture) shows.wide
+    ∙ ap (λ (h : ℕ). opening (rate_due old) shown.width h ++ frame_text picture) shows.high
+    ∙ ap (λ (t : List ℕ). opening (rate_due old) shown.width shown.height ++ t) (text_same picture shown whole shows)
 
 module _ (old : SessionState) (f f' r r' : Option (List ℕ)) where
   -- a line that only has a reply
@@ -52,7 +52,7 @@ module _ (old : SessionState) (f f' r r' : Option (List ℕ)) where
     said = said;
   }
 
-  pub serves_frame : (n : ℕ) (picture : PictureSamples) (new : SessionState) → IsFrameOrNoMemory (frame_of old n) (Ok picture) → IsAfterFrame old (size_given (Ok picture)) new → Appends f f' (opening (head_due old) picture.width picture.height ++ frame_text picture) → Appends r r' (served_line n) → WritesAnswer old (requests.Frame n) f f' r r' new
+  pub serves_frame : (n : ℕ) (picture : PictureSamples) (new : SessionState) → IsFrameOrNoMemory (frame_of old n) (Ok picture) → IsAfterFrame old (size_given (Ok picture)) new → Appends f f' (opening (rate_due old) picture.width picture.height ++ frame_text picture) → Appends r r' (served_line n) → WritesAnswer old (requests.Frame n) f f' r r' new
   serves_frame n picture new returned after shown said = record {
     answer = answer_to_frame old n (Ok returned.0);
     means = (Ok returned.0, returned.1, refl, subst (λ size. IsAfterFrame old size new) (size_same picture returned.0 returned.2) after);
@@ -85,16 +85,16 @@ module _ (old : SessionState) (f f' r r' : Option (List ℕ)) where
   }
 
 -- a frame and its reply, written with the head that is due
-module _ (old : SessionState) (f f' r r' : Option (List ℕ)) (n : ℕ) (picture : PictureSamples) (new : SessionState) (head : Option Head) where
-  pub frame_and_reply : {A E : Type 0} (w : Result A E) → head ≡ head_due old → IsFrameOrNoMemory (frame_of old n) (Ok picture) → IsAfterFrame old (size_given (Ok picture)) new → OnOk w (Appends f f' (opening head picture.width picture.height ++ frame_text picture)) → OnOk w (Appends r r' (served_line n)) → OnOk w (WritesAnswer old (requests.Frame n) f f' r r' new)
+module _ (old : SessionState) (f f' r r' : Option (List ℕ)) (n : ℕ) (picture : PictureSamples) (new : SessionState) (head : Option FrameRate) where
+  pub frame_and_reply : {A E : Type 0} (w : Result A E) → head ≡ rate_due old → IsFrameOrNoMemory (frame_of old n) (Ok picture) → IsAfterFrame old (size_given (Ok picture)) new → OnOk w (Appends f f' (opening head picture.width picture.height ++ frame_text picture)) → OnOk w (Appends r r' (served_line n)) → OnOk w (WritesAnswer old (requests.Frame n) f f' r r' new)
   frame_and_reply (Ok _) is returned after shown said =
-      serves_frame old f f' r r' n picture new returned after (subst (λ (h : Option Head). Appends f f' (opening h picture.width picture.height ++ frame_text picture)) is shown) said
+      serves_frame old f f' r r' n picture new returned after (subst (λ (h : Option FrameRate). Appends f f' (opening h picture.width picture.height ++ frame_text picture)) is shown) said
   frame_and_reply (Err _) is returned after shown said = tt
 
-  pub frame_or_no_reply : head ≡ head_due old → IsFrameOrNoMemory (frame_of old n) (Ok picture) → IsAfterFrame old (size_given (Ok picture)) new → Keeps r r' ⊎ Appends f f' (opening head picture.width picture.height ++ frame_text picture) → WritesFrameFirst old (requests.Frame n) f f' r r' new
+  pub frame_or_no_reply : head ≡ rate_due old → IsFrameOrNoMemory (frame_of old n) (Ok picture) → IsAfterFrame old (size_given (Ok picture)) new → Keeps r r' ⊎ Appends f f' (opening head picture.width picture.height ++ frame_text picture) → WritesFrameFirst old (requests.Frame n) f f' r r' new
   frame_or_no_reply is returned after (inl kept) = inl kept
   frame_or_no_reply is returned after (inr shown) =
-      inr (serves_frame old f f' None None n picture new returned after (subst (λ (h : Option Head). Appends f f' (opening h picture.width picture.height ++ frame_text picture)) is shown) tt)
+      inr (serves_frame old f f' None None n picture new returned after (subst (λ (h : Option FrameRate). Appends f f' (opening h picture.width picture.height ++ frame_text picture)) is shown) tt)
 
 -- one more line
 pub run_more : (old mid new : SessionState) (lines : List Line) (answers : List Answer) (line : Line) (answer : Answer) → AnswersEach old lines answers mid → Answers mid line answer new → AnswersEach old (lines ++ line ∷ []) (answers ++ answer ∷ []) new

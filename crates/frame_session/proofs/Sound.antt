@@ -9,7 +9,7 @@ use Rattle.std.specs.Result.{result_unwrap_or}
 use Rattle.vp8_tables.specs.declared.tables.Tables.{Tables}
 use Rattle.packet_times.specs.declared.durations.Duration.{Duration}
 use Rattle.packet_edits.specs.declared.entry.Entry.{Entry}
-use Rattle.stream_files.specs.declared.ivf.Ivf.{Ivf}
+use Rattle.stream_files.specs.declared.streams.Stream.{Stream}
 use Rattle.packet_edits.specs.declared.fault.EditFault.TheVariants as faults
 use Rattle.packet_edits.specs.Edits.{Listing, copied, inserted_for, refused_copy, refused_insertion}
 use Rattle.packet_edits.specs.Laws.{HasOwnIds}
@@ -17,10 +17,10 @@ use Rattle.packet_edits.specs.Marks.{StoreValue, marks_inserted}
 use Rattle.packet_forge.specs.Packets.{blank_of}
 use Rattle.pixel_planes.specs.Pictures.{PictureSamples}
 use Rattle.state_cache.specs.declared.outcomes.Kept.{Kept}
-use Rattle.state_cache.specs.declared.outcomes.Broken.{Broken}
+use Rattle.stream_steps.specs.declared.broken.Broken.{Broken}
 use Rattle.state_cache.specs.declared.outcomes.ReachFault.TheVariants.{Refused, NoMemory, TooManyShares}
 use Rattle.state_cache.specs.Costs.{Costs, IsIdOf}
-use Rattle.state_cache.specs.Decoding.{Outcome}
+use Rattle.stream_steps.specs.Decoding.{Outcome}
 use Rattle.state_cache.specs.declared.outcomes.PacketKey.{PacketKey}
 use Rattle.state_cache.specs.EditLaws.{DropsKeepCoherence, EditsKeepCoherence, EditsKeepIds, IsViewWithout, IsMarked, NextIdIsNotCached, AreOfPackets, after_insertion, after_move, after_show_bit, id_at}
 use Rattle.state_cache.specs.Reaching.{CacheValue, OthersDrop, ReachAnswers, view_of}
@@ -108,7 +108,7 @@ module _ (tables : Tables) where
       nothing_is_cached list id None e some = cc
       nothing_is_cached list id (Some kept) e some = cc
 
-  pub begun_session : (files : List Ivf) (stores : List StoreValue) (cache : CacheValue) → stores ≡ map store_of_file files → (1 ≤ length files) × (length files ≤ 8) → cache.entries ≡ [] → IsSession tables stores 0 cache
+  pub begun_session : (files : List Stream) (stores : List StoreValue) (cache : CacheValue) → stores ≡ map store_of_file files → (1 ≤ length files) × (length files ≤ 8) → cache.entries ≡ [] → IsSession tables stores 0 cache
   begun_session files stores cache are sources none =
       let long : length stores ≡ length files = ap length are ∙ length-map files store_of_file in
       record { sound = begun_sound stores cache none; few = omega (arith, long, sources.1); current_exists = omega (arith, long, sources.0) }

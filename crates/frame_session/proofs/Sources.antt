@@ -2,27 +2,27 @@
 use Rattle.std.proofs.Common.{◌≡◌, ℕ, zero, suc, ◌+◌, ◌<◌, ◌≤◌, List, [], ◌∷◌, ◌++◌, Some, length, map, slice_get, take, refl, sym, ap, subst, ◌∙◌, arith}
 use Rattle.std.proofs.lemmas.List.{map_more}
 use Rattle.std.specs.Prelude.{slice_index_or}
-use Rattle.stream_files.specs.declared.ivf.Ivf.{Ivf}
+use Rattle.stream_files.specs.declared.streams.Stream.{Stream}
 use Rattle.stream_files.specs.declared.ivf.IvfFault.{IvfFault}
 use Rattle.stream_files.specs.Ivf.{IsIvf, IvfRefuses}
 use Rattle.frame_session.specs.Answers.{AreIvfs, SourceRefuses}
 
 -- one more file
-pub are_more : (texts : List (List ℕ)) (files : List Ivf) (bytes : List ℕ) (file : Ivf) → AreIvfs texts files → IsIvf bytes file → AreIvfs (texts ++ bytes ∷ []) (files ++ file ∷ [])
+pub are_more : (texts : List (List ℕ)) (files : List Stream) (bytes : List ℕ) (file : Stream) → AreIvfs texts files → IsIvf bytes file → AreIvfs (texts ++ bytes ∷ []) (files ++ file ∷ [])
 are_more [] [] bytes file are is = (is, tt)
 are_more [] (f ∷ files) bytes file are is = absurd are
 are_more (t ∷ texts) [] bytes file are is = absurd are
 are_more (t ∷ texts) (f ∷ files) bytes file are is = (are.0, are_more texts files bytes file are.1 is)
 
 -- one file for each source
-pub are_as_many : (texts : List (List ℕ)) (files : List Ivf) → AreIvfs texts files → length files ≡ length texts
+pub are_as_many : (texts : List (List ℕ)) (files : List Stream) → AreIvfs texts files → length files ≡ length texts
 are_as_many [] [] are = refl
 are_as_many [] (f ∷ files) are = absurd are
 are_as_many (t ∷ texts) [] are = absurd are
 are_as_many (t ∷ texts) (f ∷ files) are = ap suc (are_as_many texts files are.1)
 
 -- no file has too many packets
-pub are_few : (texts : List (List ℕ)) (files : List Ivf) → AreIvfs texts files → (k : ℕ) (other : Ivf) → k < length files → length (slice_index_or files k other).packets ≤ 1048576
+pub are_few : (texts : List (List ℕ)) (files : List Stream) → AreIvfs texts files → (k : ℕ) (other : Stream) → k < length files → length (slice_index_or files k other).packets ≤ 1048576
 are_few [] [] are k other h = absurd (omega (arith, h))
 are_few [] (f ∷ files) are k other h = absurd are
 are_few (t ∷ texts) [] are k other h = absurd are
@@ -48,7 +48,7 @@ module _ {X : Type 0} (bytes_of : X → List ℕ) where
   as_many (s ∷ sources) (suc n) h = ap suc (as_many sources n (omega (arith, h)))
 
   -- an error of a source, after files of the sources before it
-  pub refused_at : (sources : List X) (n source : ℕ) (d : X) (files : List Ivf) (fault : IvfFault) → n < length sources → d ≡ slice_index_or sources n d → source ≡ length files → AreIvfs (map bytes_of (take n sources)) files → IvfRefuses (bytes_of d) fault → SourceRefuses (map bytes_of sources) source fault
+  pub refused_at : (sources : List X) (n source : ℕ) (d : X) (files : List Stream) (fault : IvfFault) → n < length sources → d ≡ slice_index_or sources n d → source ≡ length files → AreIvfs (map bytes_of (take n sources)) files → IvfRefuses (bytes_of d) fault → SourceRefuses (map bytes_of sources) source fault
   refused_at sources n source d files fault within here_is is are refuses =
       let here : source ≡ n = is ∙ are_as_many (map bytes_of (take n sources)) files are ∙ as_many sources n within in
       record {
@@ -60,9 +60,9 @@ module _ {X : Type 0} (bytes_of : X → List ℕ) where
       }
 
   -- one more source
-  pub read_more : (sources : List X) (n : ℕ) (d : X) (files more : List Ivf) (file : Ivf) → n < length sources → d ≡ slice_index_or sources n d → AreIvfs (map bytes_of (take n sources)) files → IsIvf (bytes_of d) file → more ≡ files ++ file ∷ [] → AreIvfs (map bytes_of (take (n + 1) sources)) more
+  pub read_more : (sources : List X) (n : ℕ) (d : X) (files more : List Stream) (file : Stream) → n < length sources → d ≡ slice_index_or sources n d → AreIvfs (map bytes_of (take n sources)) files → IsIvf (bytes_of d) file → more ≡ files ++ file ∷ [] → AreIvfs (map bytes_of (take (n + 1) sources)) more
   read_more sources n d files more file within here_is are is pushed =
       let texts : map bytes_of (take (n + 1) sources) ≡ map bytes_of (take n sources) ++ bytes_of d ∷ [] =
       map_more bytes_of sources n d within ∙ ap (λ (x : X). map bytes_of (take n sources) ++ bytes_of x ∷ []) (sym here_is) in
-      subst (λ (l : List Ivf). AreIvfs (map bytes_of (take (n + 1) sources)) l) (sym pushed)
+      subst (λ (l : List Stream). AreIvfs (map bytes_of (take (n + 1) sources)) l) (sym pushed)
       (subst (λ (ts : List (List ℕ)). AreIvfs ts (files ++ file ∷ [])) (sym texts) (are_more (map bytes_of (take n sources)) files (bytes_of d) file are is))

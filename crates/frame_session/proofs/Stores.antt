@@ -4,7 +4,7 @@ use Rattle.std.proofs.lemmas.List.{get_or-set_other, get_or-set_same, map-set, s
 use Rattle.std.proofs.Math.ListN.{get_or-map}
 use Rattle.std.proofs.Math.Seq.{map-set_same}
 use Rattle.vp8_tables.specs.declared.tables.Tables.{Tables}
-use Rattle.stream_files.specs.declared.ivf.Ivf.{Ivf}
+use Rattle.stream_files.specs.declared.streams.Stream.{Stream}
 use Rattle.packet_edits.specs.Edits.{Listing, copied}
 use Rattle.packet_edits.specs.Marks.{StoreValue, marks_inserted}
 use Rattle.packet_edits.specs.Shown.{shown_indexes, stream_of}
@@ -120,6 +120,6 @@ counts_same [] = refl
 counts_same (s ∷ stores) = ap (λ (l : List ℕ). length (shown_indexes (stream_of s.list)) ∷ l) (counts_same stores)
 
 -- the lists of new stores
-pub begun_lists : (files : List Ivf) → lists_of (map store_of_file files) ≡ map list_of_file files
+pub begun_lists : (files : List Stream) → lists_of (map store_of_file files) ≡ map list_of_file files
 begun_lists [] = refl
 begun_lists (file ∷ files) = ap (λ (l : List Listing). list_of_file file ∷ l) (begun_lists files)

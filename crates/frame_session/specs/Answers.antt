@@ -6,8 +6,8 @@ use Rattle.std.specs.Io.KnownBytes.{Appends, Keeps}
 use Rattle.std.specs.Str.Lines.{lines}
 use Rattle.vp8_tables.specs.declared.tables.Tables.{Tables}
 use Rattle.script_nodes.specs.Shown.{Shown}
-use Rattle.stream_files.specs.declared.ivf.Head.{Head}
-use Rattle.stream_files.specs.declared.ivf.Ivf.{Ivf}
+use Rattle.stream_files.specs.declared.streams.FrameRate.{FrameRate}
+use Rattle.stream_files.specs.declared.streams.Stream.{Stream}
 use Rattle.stream_files.specs.declared.ivf.IvfFault.{IvfFault}
 use Rattle.stream_files.specs.Ivf.{IsIvf, IvfRefuses}
 use Rattle.stream_files.specs.Y4m.{y4m_line}
@@ -24,7 +24,7 @@ use Rattle.frame_session.specs.Edits.{WrittenAnswers}
 use Rattle.frame_session.specs.Frames.{shown_text}
 use Rattle.frame_session.specs.Questions.{AnswersQuestion}
 use Rattle.frame_session.specs.Replies.{refused_line, served_line, edit_line, count_line, stats_line}
-use Rattle.frame_session.specs.Sessions.{IsAfterFrame, SessionState, choice_answer, current_list, now_after_choice, now_after_edit, now_after_script, frame_count, frame_of, head_due, packet_count, script_answer, size_served, start}
+use Rattle.frame_session.specs.Sessions.{IsAfterFrame, SessionState, choice_answer, current_list, now_after_choice, now_after_edit, now_after_script, frame_count, frame_of, rate_due, packet_count, script_answer, size_served, start}
 
 -- the requests of a text, line by line
 abbrev pub requests_of : List ℕ → List Line
@@ -39,14 +39,14 @@ pub record Answer : Type 0 where
 abbrev pub reply_only : List ℕ → Answer
 reply_only reply = record { reply = reply; frames = [] }
 
--- the line that opens the frames, if it is still to be written with a head
-abbrev pub opening : Option Head → ℕ → ℕ → List ℕ
+-- the line that opens the frames, if it is still to be written with a frame rate
+abbrev pub opening : Option FrameRate → ℕ → ℕ → List ℕ
 opening None width height = []
-opening (Some head) width height = y4m_line width height head.rate head.scale
+opening (Some frames) width height = y4m_line width height frames.rate frames.scale
 
 -- the answer to a request for frame n
 abbrev pub answer_to_frame : SessionState → ℕ → Result Shown Refusal → Answer
-answer_to_frame now n (Ok shown) = record { reply = served_line n; frames = opening (head_due now) shown.width shown.height ++ shown_text shown }
+answer_to_frame now n (Ok shown) = record { reply = served_line n; frames = opening (rate_due now) shown.width shown.height ++ shown_text shown }
 answer_to_frame now n (Err refusal) = reply_only (refused_line refusal)
 
 -- an edit and its result, with the answer and the new state
@@ -126,7 +126,7 @@ abbrev pub texts_of : List (Bor (List ℕ)) → List (List ℕ)
 texts_of sources = map (λ bytes. bytes.now) sources
 
 -- files are read from these bytes, one for each
-abbrev pub AreIvfs : List (List ℕ) → List Ivf → Type 0
+abbrev pub AreIvfs : List (List ℕ) → List Stream → Type 0
 AreIvfs [] [] = Unit {0}
 AreIvfs (bytes ∷ more) (file ∷ files) = IsIvf bytes file × AreIvfs more files
 AreIvfs [] (file ∷ files) = ⊥
@@ -134,7 +134,7 @@ AreIvfs (bytes ∷ more) [] = ⊥
 
 -- the requests of this text were answered over the files of these bytes
 pub record Means (tables : Tables) (sources : List (List ℕ)) (requests : List ℕ) (frames frames' replies replies' : Option (List ℕ)) (end : SessionState) : Type 0 where
-  pub files : List Ivf
+  pub files : List Stream
   pub are : AreIvfs sources files
   pub runs : WritesAnswers (start tables files) (requests_of requests) frames frames' replies replies' end
 
@@ -143,7 +143,7 @@ pub record SourceRefuses (sources : List (List ℕ)) (source : ℕ) (fault : Ivf
   pub bytes : List ℕ
   pub is_its : slice_get sources source ≡ Some bytes
   pub refuses : IvfRefuses bytes fault
-  pub files : List Ivf
+  pub files : List Stream
   pub earlier : AreIvfs (take source sources) files
 
 -- how a run ends without a session. If a source is not a file, the error is the first one's; otherwise all are files. Nothing is
@@ -151,6 +151,6 @@ pub record SourceRefuses (sources : List (List ℕ)) (source : ℕ) (fault : Ivf
 -- frame is written
 abbrev pub RunStops : Tables → (sources : List (List ℕ)) → (requests : List ℕ) → (frames frames' replies replies' : Option (List ℕ)) → RunFault → Type 0
 RunStops tables sources requests frames frames' replies replies' (faults.Ivf source fault) = SourceRefuses sources source fault × Keeps frames frames' × Keeps replies replies'
-RunStops tables sources requests frames frames' replies replies' faults.NoMemory = (files : List Ivf) × AreIvfs sources files × Keeps frames frames' × Keeps replies replies'
+RunStops tables sources requests frames frames' replies replies' faults.NoMemory = (files : List Stream) × AreIvfs sources files × Keeps frames frames' × Keeps replies replies'
 RunStops tables sources requests frames frames' replies replies' faults.Write =
-    (files : List Ivf) × AreIvfs sources files × WritesUntilError (start tables files) (requests_of requests) frames frames' replies replies'
+    (files : List Stream) × AreIvfs sources files × WritesUntilError (start tables files) (requests_of requests) frames frames' replies replies'

@@ -3,9 +3,9 @@ use Rattle.std.specs.Prelude.{◌≡◌, ℕ, ◌<◌, ◌≤◌, Bool, true, fa
 pub use Rattle.state_cache.specs.Reaching.{of_bytes, of_states}
 pub use Rattle.state_cache.specs.declared.capacity.Capacity.{Capacity}
 use Rattle.vp8_tables.specs.declared.tables.Tables.{Tables}
-use Rattle.stream_files.specs.declared.ivf.Ivf.{Ivf}
-use Rattle.packet_lists.specs.declared.lister.Lister.{Lister}
-use Rattle.packet_lists.specs.Kept.{IsLister}
+use Rattle.stream_files.specs.declared.streams.Stream.{Stream}
+use Rattle.session_questions.specs.declared.lister.Lister.{Lister}
+use Rattle.session_questions.specs.Kept.{IsLister}
 use Rattle.packet_times.specs.Durations.{one_frame}
 use Rattle.packet_edits.specs.Edits.{Listing, copied, starting}
 use Rattle.packet_edits.specs.Marks.{StoreValue, marks_deleted, marks_inserted, marks_moved, marks_pushed, marks_replaced}
@@ -39,11 +39,11 @@ pub record SessionValue : Type 0 where
   pub cache : CacheValue
 
 -- the packets of a file, none of them marked
-abbrev pub store_of_file : Ivf → StoreValue
+abbrev pub store_of_file : Stream → StoreValue
 store_of_file file = record { list = list_of_file file; marks = marks_pushed file.packets [] }
 
 -- a new session: no packet is marked, and no outcome is cached
-abbrev pub begun : Tables → Capacity → List Ivf → SessionValue
+abbrev pub begun : Tables → Capacity → List Stream → SessionValue
 begun tables capacity files = record {
   state = start tables files;
   stores = map store_of_file files;

@@ -12,9 +12,12 @@ use Rattle.lossless_cuts.specs.declared.targets.Target.{Target}
 use Rattle.script_nodes.specs.Frames.{Origin, traced}
 use Rattle.script_nodes.specs.NodeSteps.{changed_nodes, keeps_samples, node_steps}
 use Rattle.script_nodes.specs.Shown.{Shown, Shows}
-use Rattle.packet_times.specs.Durations.{units_in}
+use Rattle.packet_times.specs.Durations.{one_frame}
+use Rattle.packet_times.specs.Heads.{IsHeadFor}
 use Rattle.packet_times.specs.Stamps.{stamped}
-use Rattle.stream_files.specs.declared.ivf.Head.{Head}
+use Rattle.packet_times.specs.Sums.{bases_of, stamps_of}
+use Rattle.packet_times.specs.declared.durations.Duration.{Duration}
+use Rattle.stream_files.specs.declared.streams.Head.{Head}
 use Rattle.std.specs.Option.{option_map_or}
 use Rattle.frame_session.specs.declared.export.Export.{Export}
 use Rattle.frame_session.specs.declared.session.exports.ExportFault.{ExportFault}
@@ -75,24 +78,25 @@ abbrev pub HaveTargets : SessionState → ℕ → List Target → Type 0
 HaveTargets now n [] = Unit {0}
 HaveTargets now n (target ∷ targets) = HasTarget now n target × HaveTargets now (n + 1) targets
 
--- how long the packet of a frame is shown, in the units of the head of source 0
-abbrev pub units_at : SessionState → Target → ℕ
-units_at now target = option_map_or (λ entry. units_in now.head entry.duration) (slice_get (list_at now.lists target.source).entries target.place) 0
+-- how long the packet of a frame is shown
+abbrev pub duration_at : SessionState → Target → Duration
+duration_at now target = option_map_or (λ entry. entry.duration) (slice_get (list_at now.lists target.source).entries target.place) one_frame
 
 -- the rate and scale of a head, and the size of the first frame, 0x0 if there is none
 abbrev pub export_head : Head → List Target → Head
 export_head head [] = record head { width = 0; height = 0 }
 export_head head (target ∷ targets) = record head { width = target.width; height = target.height }
 
--- a file that shows exactly the frames of a session, each as long as its packet is shown
+-- a file that shows exactly the frames of a session, each as long as its packet is shown: its head has the time base of source 0, or one of which the
+-- durations are whole numbers, and the time stamp of a frame is the time after the frames before it
 pub record IsExportFile (now : SessionState) (file : Export) : Type 0 where
   pub packets : List (List ℕ)
   pub shows : IsExport now packets
   pub targets : List Target
   pub frames : HaveTargets now 0 targets
   pub all : length targets ≡ frame_count now
-  pub stamps : file.packets ≡ stamped 0 (map (units_at now) targets) packets
-  pub head : file.head ≡ export_head now.head targets
+  pub stamps : file.packets ≡ stamped (stamps_of file.head (map (duration_at now) targets)) packets
+  pub head : IsHeadFor (export_head now.head targets) (bases_of (map (duration_at now) targets)) file.head
 
 -- the picture of the packet from which a frame with this origin comes, before the steps of the script
 abbrev pub source_picture : SessionState → Option Origin → Result PictureSamples Refusal

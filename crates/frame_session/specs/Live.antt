@@ -6,7 +6,7 @@ use Rattle.std.specs.Io.{IsEmptyOrEndsWith}
 use Rattle.std.specs.Io.KnownBytes.{Consumes, Keeps}
 use Rattle.std.specs.Str.Lines.{lines}
 use Rattle.vp8_tables.specs.declared.tables.Tables.{Tables}
-use Rattle.stream_files.specs.declared.ivf.Ivf.{Ivf}
+use Rattle.stream_files.specs.declared.streams.Stream.{Stream}
 use Rattle.request_lines.specs.declared.lines.Line.{Line}
 use Rattle.request_lines.specs.Lost.{lost_by}
 use Rattle.request_lines.specs.Requests.{asked_by}
@@ -49,7 +49,7 @@ pub record LiveMeans (tables : Tables) (sources : List (List ℕ)) (left left' f
   pub text : List ℕ
   pub taken : Consumes left left' text
   pub all : IfSome left (λ bytes. text ≡ bytes)
-  pub files : List Ivf
+  pub files : List Stream
   pub are : AreIvfs sources files
   pub answers : AnswersText (start tables files) text frames frames' replies replies' end
 
@@ -92,9 +92,9 @@ LeavesAll left left' frames frames' replies replies' = (left' ≡ left) × Keeps
 -- at the start, or lines were not answered
 abbrev pub LiveStops : Tables → (sources : List (List ℕ)) → (left left' frames frames' replies replies' : Option (List ℕ)) → LiveFault → Type 0
 LiveStops tables sources left left' frames frames' replies replies' (faults.Ivf source fault) = SourceRefuses sources source fault × LeavesAll left left' frames frames' replies replies'
-LiveStops tables sources left left' frames frames' replies replies' faults.NoMemory = (files : List Ivf) × AreIvfs sources files × LeavesAll left left' frames frames' replies replies'
+LiveStops tables sources left left' frames frames' replies replies' faults.NoMemory = (files : List Stream) × AreIvfs sources files × LeavesAll left left' frames frames' replies replies'
 LiveStops tables sources left left' frames frames' replies replies' fault =
-    (files : List Ivf) × AreIvfs sources files × LiveEnds (start tables files) left left' frames frames' replies replies' fault
+    (files : List Stream) × AreIvfs sources files × LiveEnds (start tables files) left left' frames frames' replies replies' fault
 
 -- a run's error as that of a live run
 abbrev pub live_fault_by : RunFault → LiveFault

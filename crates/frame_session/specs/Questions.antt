@@ -6,9 +6,9 @@ use Rattle.packet_edits.specs.Edits.{Listing}
 use Rattle.vp8_tables.specs.Tables.{TableEntries}
 use Rattle.macroblock_lists.specs.declared.layouts.What.{What}
 use Rattle.macroblock_lists.specs.declared.layouts.What.TheVariants as what
-use Rattle.packet_lists.specs.Details.{detail_text}
-use Rattle.packet_lists.specs.Findings.{check_lines}
-use Rattle.packet_lists.specs.Lines.{lines_from}
+use Rattle.session_questions.specs.Details.{detail_text}
+use Rattle.session_questions.specs.Findings.{check_lines}
+use Rattle.session_questions.specs.Lines.{lines_from}
 use Rattle.request_lines.specs.declared.lines.Line.{Line}
 use Rattle.request_lines.specs.declared.lines.Line.TheVariants as requests
 use Rattle.request_lines.specs.declared.question.Question.{Question}

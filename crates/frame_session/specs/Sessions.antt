@@ -3,13 +3,14 @@ use Rattle.std.specs.Prelude.{◌≡◌, ℕ, ◌≤◌, ◌==◌, ◌&&◌, Boo
 use Rattle.std.specs.Result.{result_unwrap_or}
 use Rattle.vp8_tables.specs.declared.tables.Tables.{Tables}
 use Rattle.pixel_planes.specs.Pictures.{PictureSamples}
-use Rattle.stream_files.specs.declared.ivf.Head.{Head}
-use Rattle.stream_files.specs.declared.ivf.Ivf.{Ivf}
+use Rattle.stream_files.specs.declared.streams.FrameRate.{FrameRate}
+use Rattle.stream_files.specs.declared.streams.Head.{Head}
+use Rattle.stream_files.specs.declared.streams.Stream.{Stream}
 use Rattle.frame_session.specs.declared.refusal.Refusal.{Refusal}
 use Rattle.frame_session.specs.declared.refusal.Refusal.TheVariants as refusals
 use Rattle.frame_session.specs.declared.size.Size.{Size}
 use Rattle.request_lines.specs.declared.edit.Edit.{Edit}
-use Rattle.state_cache.specs.Decoding.{Outcome, outcomes}
+use Rattle.stream_steps.specs.Decoding.{Outcome, outcomes}
 use Rattle.packet_times.specs.Medians.{usual_of}
 use Rattle.packet_edits.specs.Edits.{Listing, starting_with}
 use Rattle.packet_edits.specs.Shown.{shown_indexes, stream_of}
@@ -22,12 +23,13 @@ use Rattle.script_nodes.specs.Shown.{Shown, shown_in, steps_shown}
 use Rattle.frame_session.specs.Edits.{edit_of, edited, list_at}
 use Rattle.frame_session.specs.Scripts.{script_reported}
 
--- the state that answers depend on: the tables, the head of source 0, the packet list of each source, the current source, on
+-- the state that answers depend on: the tables, the head of source 0 and the rate of its frames, the packet list of each source, the current source, on
 -- which edits act, the script, the number of trailing bytes of all files, the size that the first frame served has fixed, and the
 -- number of steps made
 pub record SessionState : Type 0 where
   pub tables : Tables
   pub head : Head
+  pub frame_rate : FrameRate
   pub lists : List Listing
   pub current : ℕ
   pub script : List Node
@@ -36,27 +38,33 @@ pub record SessionState : Type 0 where
   pub decoded : ℕ
 
 -- the head of the first file; each session has one, so the first line is never used
-abbrev pub head_of_first : List Ivf → Head
+abbrev pub head_of_first : List Stream → Head
 head_of_first [] = record { width = 0; height = 0; rate = 0; scale = 0 }
 head_of_first (file ∷ files) = file.head
+
+-- the rate of the frames of the first file
+abbrev pub rate_of_first : List Stream → FrameRate
+rate_of_first [] = record { rate = 0; scale = 0 }
+rate_of_first (file ∷ files) = file.frame_rate
 
 -- the greatest number of trailing bytes that is reported
 abbrev pub most_spare : ℕ
 most_spare = 2 ^ 64 - 1
 
 -- the number of trailing bytes of all files
-abbrev pub spare_of : List Ivf → ℕ
+abbrev pub spare_of : List Stream → ℕ
 spare_of files = min (sum (map (λ file. file.spare) files)) most_spare
 
 -- the packets of a file, with ids starting at 0; a packet that has no duration of its own has the median step of the file
-abbrev pub list_of_file : Ivf → Listing
+abbrev pub list_of_file : Stream → Listing
 list_of_file file = starting_with (usual_of file.head file.packets) file.packets
 
 -- a new session over these files: one source for each
-abbrev pub start : Tables → List Ivf → SessionState
+abbrev pub start : Tables → List Stream → SessionState
 start tables files = record {
   tables = tables;
   head = head_of_first files;
+  frame_rate = rate_of_first files;
   lists = map list_of_file files;
   current = 0;
   script = [];
@@ -69,9 +77,9 @@ start tables files = record {
 abbrev pub current_list : SessionState → Listing
 current_list now = list_at now.lists now.current
 
--- the head, as long as no frame was served: the line that opens the frames is still to be written with it
-abbrev pub head_due : SessionState → Option Head
-head_due now = if is_none now.size then Some now.head else None
+-- the rate of the frames, as long as no frame was served: the line that opens the frames is still to be written with it
+abbrev pub rate_due : SessionState → Option FrameRate
+rate_due now = if is_none now.size then Some now.frame_rate else None
 
 -- the outcome of shown packet n of a list, if there is one
 abbrev pub outcome_in : Tables → Listing → ℕ → Option Outcome

@@ -4,7 +4,7 @@ ghost use Rattle.std.specs.Prelude.{◌≡◌, ◌<◌, ◌≤◌, OnErr, is_ok,
 ghost use Rattle.packet_edits.specs.Laws.{HasOwnIds};
 ghost use Rattle.packet_edits.specs.Shown.{stream_of};
 ghost use Rattle.state_cache.specs.Costs.{Costs};
-ghost use Rattle.state_cache.specs.Decoding.{outcomes};
+ghost use Rattle.stream_steps.specs.Decoding.{outcomes};
 ghost use Rattle.state_cache.specs.EditLaws.{id_at};
 ghost use Rattle.state_cache.specs.Reaching.{OthersDrop};
 ghost use Rattle.state_cache.specs.Walks.{IsWalk};

@@ -24,7 +24,7 @@ use state_cache::Capacity;
 use std::alloc::Global;
 use std::io::Write;
 use stream_files::{
-    FileBytes, Head, Ivf, IvfFault, WriteFault, ivf_read_from, y4m_frame, y4m_header,
+    FileBytes, FrameRate, IvfFault, Stream, WriteFault, ivf_read_from, y4m_frame, y4m_header,
 };
 use thiserror::Error;
 use vp8_tables::Tables;
@@ -80,35 +80,35 @@ impl Flushing {
     }
 }
 
-/// Writes the line that opens the frames, if its head is due.
+/// Writes the line that opens the frames, if it is due.
 fn write_opening<F: Write>(
     frames: &mut F,
-    head_due: Option<Head>,
+    rate_due: Option<FrameRate>,
     picture: &Picture,
 ) -> Result<(), WriteFault>
-    ensures { OnOk result (Appends (F.contents frames.old) (F.contents frames.new) (opening head_due picture.now.width picture.now.height)) }
+    ensures { OnOk result (Appends (F.contents frames.old) (F.contents frames.new) (opening rate_due picture.now.width picture.now.height)) }
 {
-    match head_due {
-        Some(head) => y4m_header(
+    match rate_due {
+        Some(rate) => y4m_header(
             frames,
             picture.width(),
             picture.height(),
-            head.rate,
-            head.scale,
+            rate.rate,
+            rate.scale,
         ),
         None => Ok(()),
     }
 }
 
-/// Writes a frame, after the line that opens the frames if its head is due.
+/// Writes a frame, after the line that opens the frames if it is due.
 fn write_frame<F: Write>(
     frames: &mut F,
-    head_due: Option<Head>,
+    rate_due: Option<FrameRate>,
     picture: &Picture,
 ) -> Result<(), WriteFault>
-    ensures { OnOk result (Appends (F.contents frames.old) (F.contents frames.new) (opening head_due picture.now.width picture.now.height ++ frame_text picture.now)) }
+    ensures { OnOk result (Appends (F.contents frames.old) (F.contents frames.new) (opening rate_due picture.now.width picture.now.height ++ frame_text picture.now)) }
 {
-    write_opening(frames, head_due, picture)?;
+    write_opening(frames, rate_due, picture)?;
     y4m_frame(frames, picture)
 }
 
@@ -117,18 +117,18 @@ fn write_frame<F: Write>(
 fn write_answer<F: Write, P: Write>(
     frames: &mut F,
     replies: &mut P,
-    head_due: Option<Head>,
+    rate_due: Option<FrameRate>,
     picture: &Picture,
     n: u64,
     flushing: Flushing,
 ) -> Result<Option<Refusal>, WriteFault>
-    ensures frame { OnOk result (Appends (F.contents frames.old) (F.contents frames.new) (opening head_due picture.now.width picture.now.height ++ frame_text picture.now)) }
+    ensures frame { OnOk result (Appends (F.contents frames.old) (F.contents frames.new) (opening rate_due picture.now.width picture.now.height ++ frame_text picture.now)) }
     ensures reply { OnOk result (Appends (P.contents replies.old) (P.contents replies.new) (served_line n)) }
-    ensures frame_first { Keeps (P.contents replies.old) (P.contents replies.new) ⊎ Appends (F.contents frames.old) (F.contents frames.new) (opening head_due picture.now.width picture.now.height ++ frame_text picture.now) }
+    ensures frame_first { Keeps (P.contents replies.old) (P.contents replies.new) ⊎ Appends (F.contents frames.old) (F.contents frames.new) (opening rate_due picture.now.width picture.now.height ++ frame_text picture.now) }
     ensures told { IfOk result (Tells (P.contents replies.old) (P.contents replies.new)) }
     ensures none { IfOk result (λ refusal. refusal ≡ None) }
 {
-    write_frame(frames, head_due, picture)?;
+    write_frame(frames, rate_due, picture)?;
     flushing.flush(frames)?;
     write_served(replies, n)
 }
@@ -147,9 +147,9 @@ fn serve_frame<F: Write, P: Write>(
     ensures capacity { session.new.cache.capacity ≡ session.old.cache.capacity }
     ensures told { IfOk result (Tells (P.contents replies.old) (P.contents replies.new)) }
 {
-    let head_due = session.head_due();
+    let rate_due = session.rate_due();
     match session.frame(n) {
-        Ok(picture) => write_answer(frames, replies, head_due, &picture, n, flushing),
+        Ok(picture) => write_answer(frames, replies, rate_due, &picture, n, flushing),
         Err(refusal) => write_refused(replies, refusal),
     }
 }
@@ -275,7 +275,7 @@ pub(crate) fn serve_all<F: Write, P: Write, V: Observer>(
 ///
 /// `RunFault::Ivf` with the first source whose bytes are not an IVF file, or for whose packets there is no
 /// memory.
-pub(crate) fn read_sources<B: FileBytes>(alloc: Global, ivfs: &[B]) -> Result<Vec<Ivf>, RunFault>
+pub(crate) fn read_sources<B: FileBytes>(alloc: Global, ivfs: &[B]) -> Result<Vec<Stream>, RunFault>
     ensures are { IfOk result (λ files. AreIvfs (map B.bytes ivfs.now) files.items) }
     ensures refused { IfErr result (IsSourceRefused (map B.bytes ivfs.now)) }
 {

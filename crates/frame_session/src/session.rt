@@ -4,12 +4,12 @@ ghost use Rattle.std.specs.Io.KnownBytes.{Appends};
 ghost use Rattle.stream_files.specs.Texts.{written_text};
 ghost use Rattle.packet_edits.specs.Saved.{packets_of, padded_packets_of, restamped};
 ghost use Rattle.packet_edits.specs.Shown.{shown_indexes, stream_of};
-ghost use Rattle.state_cache.specs.Decoding.{outcomes};
+ghost use Rattle.stream_steps.specs.Decoding.{outcomes};
 ghost use Rattle.state_cache.specs.Costs.{Costs};
 ghost use Rattle.state_cache.specs.Reaching.{OthersDrop, of_states};
 ghost use Rattle.state_cache.specs.Walks.{IsWalk};
 ghost use Rattle.frame_session.specs.Cached.{shown_counts_of, store_at, store_of_file};
-ghost use Rattle.frame_session.specs.Sessions.{head_of_first, spare_of};
+ghost use Rattle.frame_session.specs.Sessions.{head_of_first, rate_of_first, spare_of};
 ghost use Rattle.frame_session.specs.IsOrNoMemory.{IsOrNoMemory, IsFrameOrNoMemory};
 ghost use Rattle.frame_session.specs.Edits.{EditAnswers, WrittenAnswers};
 
@@ -23,17 +23,17 @@ use crate::refusal::Refusal;
 use crate::size::Size;
 use arrayvec::ArrayVec;
 pub use exports::ExportFault;
-use packet_edits::Store;
-use packet_lists::Lister;
+use packet_edits::{RestampFault, Store};
 use packet_times::usual_duration;
 use pixel_planes::{NoMemory, Picture};
 use request_lines::{Edit, Hex};
 use script_nodes::{Script, apply};
+use session_questions::Lister;
 use state_cache::{Cache, Capacity};
 use std::alloc::Global;
 use std::io::Write;
 use std::marker::Model;
-use stream_files::{Head, Ivf, WriteFault};
+use stream_files::{FrameRate, Head, Stream, WriteFault};
 use vp8_tables::Tables;
 
 /// The sources, 1 to 8 streams, and the edits and script applied to them so far, with decoded states that
@@ -43,6 +43,7 @@ pub struct Session {
     alloc: Global,
     tables: Tables,
     head: Head,
+    frame_rate: FrameRate,
     stores: Vec<Store>,
     current: usize,
     script: Script,
@@ -57,7 +58,7 @@ impl Model for Session {
 
     ghost Value = { SessionValue };
 
-    ghost view = { λ s. record { state = record { tables = s.tables; head = s.head; lists = lists_of s.stores.items; current = s.current; script = s.script; spare = s.spare; size = s.size; decoded = s.cache.decoded }; stores = s.stores.items; cache = s.cache } };
+    ghost view = { λ s. record { state = record { tables = s.tables; head = s.head; frame_rate = s.frame_rate; lists = lists_of s.stores.items; current = s.current; script = s.script; spare = s.spare; size = s.size; decoded = s.cache.decoded }; stores = s.stores.items; cache = s.cache } };
 
     ghost invariant = { λ s. IsOpen s.tables s.stores.items s.current s.cache s.lister };
 }
@@ -66,7 +67,7 @@ impl Session {
     ghost use Rattle.frame_session.specs.Cached.{CacheWithout, FrameCosts, IsSession, begun, id_removed, lists_of, needs_picture, packet_of_frame, store_at, stores_after};
     ghost use Rattle.frame_session.specs.Edits.{list_at};
     ghost use Rattle.frame_session.specs.Told.{packet_len};
-    ghost use Rattle.frame_session.specs.Sessions.{IsAfterFrame, choice_answer, current_list, edit_answer, now_after_choice, now_after_edit, now_after_script, fits, frame_count, frame_of, head_due, packet_count, picture_from, script_answer, shown_counts, size_given};
+    ghost use Rattle.frame_session.specs.Sessions.{IsAfterFrame, choice_answer, current_list, edit_answer, now_after_choice, now_after_edit, now_after_script, fits, frame_count, frame_of, rate_due, packet_count, picture_from, script_answer, shown_counts, size_given};
 
     /// A session over the packets of 1 to 8 files, as of `within`, that caches at most so many decoded states, 1
     /// to 4,096.
@@ -74,7 +75,7 @@ impl Session {
         alloc: Global,
         tables: Tables,
         states: u16,
-        files: Vec<Ivf>,
+        files: Vec<Stream>,
     ) -> Result<Session, NoMemory>
         requires states { (1 ≤ states) × (states ≤ 4096) }
         requires sources { (1 ≤ length files.items) × (length files.items ≤ 8) }
@@ -94,7 +95,7 @@ impl Session {
         alloc: Global,
         tables: Tables,
         capacity: Capacity,
-        files: Vec<Ivf>,
+        files: Vec<Stream>,
     ) -> Result<Session, NoMemory>
         requires capacity { (1 ≤ capacity.states) × (capacity.states ≤ 4096) }
         requires sources { (1 ≤ length files.items) × (length files.items ≤ 8) }
@@ -105,12 +106,14 @@ impl Session {
             return Err(NoMemory);
         };
         let head = head_of_first(&files);
+        let frame_rate = rate_of_first(&files);
         let spare = spare_of(&files);
         let stores = stores_of(alloc, files)?;
         Ok(Session {
             alloc,
             tables,
             head,
+            frame_rate,
             stores,
             current: 0,
             script: Script::empty(alloc),
@@ -338,12 +341,12 @@ impl Session {
         self.cache.decoded()
     }
 
-    /// The head of source 0, as long as no frame was served and the line that opens the frames is not written.
-    pub(crate) fn head_due(&self) -> Option<Head>
-        ensures { result ≡ head_due self.now.state }
+    /// The frame rate of source 0, as long as no frame was served and the line that opens the frames is not written.
+    pub(crate) fn rate_due(&self) -> Option<FrameRate>
+        ensures { result ≡ rate_due self.now.state }
     {
         match self.size {
-            None => Some(self.head),
+            None => Some(self.frame_rate),
             Some(_) => None,
         }
     }
@@ -370,13 +373,15 @@ impl Session {
     }
 
     /// Writes the current packets of source 0 as an IVF file with new time stamps, in the units of the head of its file:
-    /// the first shown packet has time stamp 0, and each other shown one that of the shown packet before it plus its
-    /// duration. A hidden packet has the time stamp of the next shown one. A packet is shown for as long as in the file
-    /// that it was read from, and any other packet for the median step of source 0. With `pads` packets are padded as in
-    /// [`save_padded`](Session::save_padded). No memory is taken, and the session does not change.
+    /// the first shown packet has time stamp 0, and each other one the time after the shown packets before it, or one more
+    /// than the time stamp before it if that is greater. For the time the units of the durations are summed for each time
+    /// base, and each sum is rounded half up. A hidden packet has the time stamp of the next shown one. A packet is shown
+    /// for as long as in the file that it was read from, and any other packet for the median step of source 0. With `pads`
+    /// packets are padded as in [`save_padded`](Session::save_padded). The session does not change.
     ///
-    /// `Write` if the writer returns an error; part of the file may have been written.
-    pub fn save_restamped<W: Write>(&self, w: &mut W, pads: bool) -> Result<(), WriteFault>
+    /// `Write` if the writer returns an error, and `NoMemory` if memory for the sums of the time bases is refused; part of
+    /// the file may have been written.
+    pub fn save_restamped<W: Write>(&self, w: &mut W, pads: bool) -> Result<(), RestampFault>
         ensures { OnOk result (Appends (W.contents w.old) (W.contents w.new) (written_text self.now.state.head (restamped pads self.now.state.head (list_at self.now.state.lists 0).entries))) }
     {
         self.stores[0].save_restamped(w, self.head, pads)
@@ -391,15 +396,23 @@ impl Session {
 }
 
 /// The head of the first file.
-fn head_of_first(files: &[Ivf]) -> Head
+fn head_of_first(files: &[Stream]) -> Head
     requires { 1 ≤ length files.now }
     ensures { result ≡ head_of_first files.now }
 {
     files[0].head
 }
 
+/// The rate of the frames of the first file.
+fn rate_of_first(files: &[Stream]) -> FrameRate
+    requires { 1 ≤ length files.now }
+    ensures { result ≡ rate_of_first files.now }
+{
+    files[0].frame_rate
+}
+
 /// The number of trailing bytes of all files, at most 18,446,744,073,709,551,615.
-fn spare_of(files: &[Ivf]) -> u64
+fn spare_of(files: &[Stream]) -> u64
     ensures { result ≡ spare_of files.now }
 {
     let mut spare: u64 = 0;
@@ -410,7 +423,7 @@ fn spare_of(files: &[Ivf]) -> u64
 }
 
 /// The packets of each file, with no mark.
-fn stores_of(alloc: Global, files: Vec<Ivf>) -> Result<Vec<Store>, NoMemory>
+fn stores_of(alloc: Global, files: Vec<Stream>) -> Result<Vec<Store>, NoMemory>
     requires { All (λ file. length file.packets ≤ 1048576) files.items }
     ensures { IfOk result (λ stores. stores.items ≡ map store_of_file files.items) }
 {
@@ -427,7 +440,7 @@ fn stores_of(alloc: Global, files: Vec<Ivf>) -> Result<Vec<Store>, NoMemory>
 }
 
 /// The packets of a file, with no mark.
-fn store_of_file(alloc: Global, file: Ivf) -> Result<Store, NoMemory>
+fn store_of_file(alloc: Global, file: Stream) -> Result<Store, NoMemory>
     requires { length file.packets ≤ 1048576 }
     ensures { IfOk result (λ store. store ≡ store_of_file file) }
 {

@@ -6,7 +6,7 @@ use packet_edits::{EditFault, Store};
 use packet_times::Duration;
 use std::alloc::Global;
 use std::io::Write;
-use stream_files::{Bytes, Ivf, IvfFault, ivf_read};
+use stream_files::{Bytes, IvfFault, Stream, ivf_read};
 
 /// A packet with no key tag, whose picture is 128 throughout after any packet of 16x16 samples.
 pub const INTER: &[u8] = &[0x11, 0, 0];
@@ -30,14 +30,14 @@ const USUAL: Duration = Duration {
 };
 
 /// The packets of an IVF file, in one attempt.
-fn try_read(alloc: Global, bytes: &[u8]) -> Result<Ivf, IvfFault>
+fn try_read(alloc: Global, bytes: &[u8]) -> Result<Stream, IvfFault>
     ensures few { IfOk result (λ file. length file.packets ≤ 1048576) }
 {
     ivf_read(alloc, bytes)
 }
 
 /// The packets of an IVF file.
-fn read(alloc: Global, bytes: &[u8]) -> Result<Ivf, IvfFault>
+fn read(alloc: Global, bytes: &[u8]) -> Result<Stream, IvfFault>
     ensures few { IfOk result (λ file. length file.packets ≤ 1048576) }
 {
     match try_read(alloc, bytes) {
@@ -47,7 +47,7 @@ fn read(alloc: Global, bytes: &[u8]) -> Result<Ivf, IvfFault>
 }
 
 /// The packets of the stream.
-pub fn stream(alloc: Global) -> Result<Ivf, IvfFault>
+pub fn stream(alloc: Global) -> Result<Stream, IvfFault>
     ensures few { IfOk result (λ file. length file.packets ≤ 1048576) }
 {
     read(alloc, &STREAM)

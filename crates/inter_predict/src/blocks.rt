@@ -8,7 +8,7 @@ use crate::kinds::Kind;
 use crate::pieces::{block_at, in_rows};
 use crate::rows::{Rows, Strip};
 use crate::samples::Pair;
-use crate::sources::{NearSource, Place, Reference, Source};
+use crate::sources::{BlockPosition, NearSource, Reference, Source};
 use crate::strips::{copy, pair_strip, strip};
 use crate::taps::{Filters, Taps};
 use pixel_planes::Plane;
@@ -132,7 +132,7 @@ fn columns<const N: usize>(source: Source, height: usize, out: &mut [u8], stride
         kind,
     } = source;
     let reference = Reference { plane, kind };
-    let place = Place { x, y };
+    let place = BlockPosition { x, y };
     if fraction(vector.0) == 0 && fraction(vector.1) == 0 {
         copied::<N>(reference, place, vector, height, out, stride);
     } else {
@@ -144,7 +144,7 @@ fn columns<const N: usize>(source: Source, height: usize, out: &mut [u8], stride
 #[inline(never)]
 fn copied<const N: usize>(
     reference: Reference,
-    place: Place,
+    place: BlockPosition,
     vector: (i32, i32),
     height: usize,
     out: &mut [u8],
@@ -187,7 +187,7 @@ fn copied<const N: usize>(
 #[inline(never)]
 fn filtered<const N: usize>(
     reference: Reference,
-    place: Place,
+    place: BlockPosition,
     vector: (i32, i32),
     height: usize,
     out: &mut [u8],

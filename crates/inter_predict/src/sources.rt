@@ -28,7 +28,7 @@ pub struct Reference<'a> {
 
 /// The place of a block among the samples of a plane: its first sample is in column `x` of row `y`.
 #[derive(Clone, Copy)]
-pub struct Place {
+pub struct BlockPosition {
     pub x: i32,
     pub y: i32,
 }

@@ -8,7 +8,7 @@ use Rattle.list_program.specs.CheckedFiles.{IsCheckedFault, IsFileChecked}
 use Rattle.list_program.specs.Details.{IsDetailFault, IsDetailed}
 use Rattle.list_program.specs.HashedFiles.{IsFileHashed, IsFileHashFault}
 use Rattle.list_program.specs.Lists.{IsListed, IsListFault}
-use Rattle.list_program.specs.Objects.{IsListedAsJson}
+use Rattle.list_program.specs.Lists.{IsListedAsJson}
 
 abbrev pub IsAnswered : Output → TableEntries → (bytes : List ℕ) → (status : ℕ) → (output output' : Option (List ℕ)) → Type 0
 IsAnswered Lines tables bytes status output output' = IsListed bytes output output' × (status ≡ 0)

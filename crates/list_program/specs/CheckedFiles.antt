@@ -2,7 +2,7 @@
 use Rattle.std.specs.Prelude.{◌≡◌, ◌==◌, ◌&&◌, ◌||◌, ℕ, Bool, not, List, Option, if◌then◌else◌}
 use Rattle.vp8_tables.specs.Tables.{TableEntries}
 use Rattle.macroblock_lists.specs.declared.layouts.Form.{Form}
-use Rattle.stream_files.specs.declared.ivf.Ivf.{Ivf}
+use Rattle.stream_files.specs.declared.streams.Stream.{Stream}
 use Rattle.stream_files.specs.Ivf.{IsIvf, IvfRefuses}
 use Rattle.stream_checks.specs.declared.fault.CheckFault.TheVariants as checks
 use Rattle.stream_checks.specs.declared.finding.Tally.{Tally}
@@ -16,7 +16,7 @@ status_of is_strict tally = if tally.damage == 0 && (not is_strict || tally.note
 
 -- the bytes are an IVF file, the output gained the text of its findings, and the status is theirs
 pub record IsFileChecked (form : Form) (is_strict : Bool) (tables : TableEntries) (bytes : List ℕ) (status : ℕ) (output output' : Option (List ℕ)) : Type 0 where
-  pub file : Ivf
+  pub file : Stream
   pub read : IsIvf bytes file
   pub tally : Tally
   pub checked : checks_of.IsChecked form tables bytes file tally output output'
@@ -24,7 +24,7 @@ pub record IsFileChecked (form : Form) (is_strict : Bool) (tables : TableEntries
 
 -- the output gained the texts of the first findings of an IVF file, or nothing
 pub record IsFileBegun (form : Form) (tables : TableEntries) (bytes : List ℕ) (output output' : Option (List ℕ)) : Type 0 where
-  pub file : Ivf
+  pub file : Stream
   pub read : IsIvf bytes file
   pub begun : checks_of.IsEarlyEnd form tables bytes file output output' checks.NoMemory
 

@@ -2,7 +2,7 @@
 use Rattle.std.specs.Prelude.{◌≡◌, ◌⊎◌, ℕ, ◌+◌, ◌-◌, ◌≤◌, min, List, length, Option, Some, None}
 use Rattle.std.specs.Io.KnownBytes.{Appends}
 use Rattle.vp8_tables.specs.Tables.{TableEntries}
-use Rattle.stream_files.specs.declared.ivf.Ivf.{Ivf}
+use Rattle.stream_files.specs.declared.streams.Stream.{Stream}
 use Rattle.stream_files.specs.Ivf.{IsIvf, IvfRefuses}
 use Rattle.macroblock_lists.specs.Fronts.{GainsFront}
 use Rattle.macroblock_lists.specs.Texts.{list_text}
@@ -38,14 +38,14 @@ IsAbsent asked count _ = ⊥
 
 -- the bytes are an IVF file that has these packets, and the output gained their text
 pub record IsDetailed (asked : Asked) (tables : TableEntries) (bytes : List ℕ) (output output' : Option (List ℕ)) : Type 0 where
-  pub file : Ivf
+  pub file : Stream
   pub read : IsIvf bytes file
   pub inside : end_of asked.last (length file.packets) ≤ length file.packets
   pub written : Appends output output' (list_text asked.what asked.form tables file.packets (start_of asked (length file.packets)) (count_of asked (length file.packets)))
 
 -- the bytes are an IVF file of so many packets that does not have this one, the first or the last that is asked for
 pub record HasNoPacket (asked : Asked) (bytes : List ℕ) (packet count : ℕ) : Type 0 where
-  pub file : Ivf
+  pub file : Stream
   pub read : IsIvf bytes file
   pub counted : length file.packets ≡ count
   pub over : count ≤ packet
@@ -53,7 +53,7 @@ pub record HasNoPacket (asked : Asked) (bytes : List ℕ) (packet count : ℕ) :
 
 -- the bytes are an IVF file that has these packets, and the output gained the front of their text
 pub record IsDetailCut (asked : Asked) (tables : TableEntries) (bytes : List ℕ) (output output' : Option (List ℕ)) : Type 0 where
-  pub file : Ivf
+  pub file : Stream
   pub read : IsIvf bytes file
   pub inside : end_of asked.last (length file.packets) ≤ length file.packets
   pub front : GainsFront (list_text asked.what asked.form tables file.packets (start_of asked (length file.packets)) (count_of asked (length file.packets))) output output'

@@ -1,7 +1,7 @@
 -- What the program writes for the frames of a file.
 use Rattle.std.specs.Prelude.{◌≡◌, ℕ, Bool, if◌then◌else◌, List, Option}
 use Rattle.vp8_tables.specs.Tables.{TableEntries}
-use Rattle.stream_files.specs.declared.ivf.Ivf.{Ivf}
+use Rattle.stream_files.specs.declared.streams.Stream.{Stream}
 use Rattle.stream_files.specs.Ivf.{IsIvf, IvfRefuses, header_length}
 use Rattle.stream_facts.specs.Facts.{facts_in}
 use Rattle.stream_facts.specs.Refusals.{has_refused}
@@ -15,14 +15,14 @@ hash_status is_refused = if is_refused then 1 else 0
 
 -- the bytes are an IVF file, the output gained the text of its frames, and the status is its packets'
 pub record IsFileHashed (tables : TableEntries) (bytes : List ℕ) (status : ℕ) (output output' : Option (List ℕ)) : Type 0 where
-  pub file : Ivf
+  pub file : Stream
   pub read : IsIvf bytes file
   pub hashed : IsHashed tables file output output'
   pub counted : status ≡ hash_status (has_refused (facts_in (header_length bytes) file.packets))
 
 -- the bytes are an IVF file, and the output gained the front of that text
 pub record IsFileCut (tables : TableEntries) (bytes : List ℕ) (output output' : Option (List ℕ)) : Type 0 where
-  pub file : Ivf
+  pub file : Stream
   pub read : IsIvf bytes file
   pub cut : IsCut tables file output output'
 

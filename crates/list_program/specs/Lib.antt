@@ -1,7 +1,6 @@
 pub mod Lists
 pub mod HashedFiles
 pub mod CheckedFiles
-pub mod Objects
 pub mod Answers
 pub mod Details
 pub mod Options

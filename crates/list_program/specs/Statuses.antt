@@ -1,8 +1,8 @@
 -- The errors of the parts as the program's.
-use Rattle.program_parts.specs.declared.fault.ArgumentFault.{ArgumentFault}
-use Rattle.program_parts.specs.declared.fault.ArgumentFault.TheVariants as arguments
-use Rattle.program_parts.specs.declared.fault.FileFault.{FileFault}
-use Rattle.program_parts.specs.declared.fault.FileFault.TheVariants as files
+use Rattle.command_lines.specs.declared.fault.ArgumentFault.{ArgumentFault}
+use Rattle.command_lines.specs.declared.fault.ArgumentFault.TheVariants as arguments
+use Rattle.command_lines.specs.declared.fault.FileFault.{FileFault}
+use Rattle.command_lines.specs.declared.fault.FileFault.TheVariants as files
 use Rattle.list_program.specs.declared.fault.Fault.{Fault}
 use Rattle.list_program.specs.declared.fault.Fault.TheVariants.{CommandLine, CannotRead, TooLong, Tables, CannotWrite, NoMemory}
 

@@ -8,12 +8,11 @@ use crate::checking::{Checking, check_to};
 use crate::details::{Asked, details_to};
 use crate::fault::Fault;
 use crate::hashing::hash_to;
-use crate::listing::list_to;
-use crate::objects::objects_to;
+use crate::listing::{list_to, objects_to};
 use std::alloc::Global;
 use std::io::{BufWriter, Write};
 use std::rc::RcSlice;
-use stream_checks::Progress;
+use stream_checks::Watch;
 use vp8_tables::Tables;
 
 /// What is written of a file.
@@ -32,7 +31,7 @@ pub enum Output {
 }
 
 /// Writes an output of a file and returns the exit status.
-fn write_output<O: Write, E: Write, G: Progress>(
+fn write_output<O: Write, E: Write, G: Watch>(
     alloc: Global,
     output: Output,
     tables: &Tables,
@@ -70,7 +69,7 @@ fn write_output<O: Write, E: Write, G: Progress>(
 /// `Fault::Input` if the bytes are not an IVF file, `Fault::NoPacket` if a packet that is asked for is not there: nothing is written then. `Fault::NoMemory` if memory
 /// runs out: the begin of the output was written, and is not flushed. `Fault::CannotWrite` if the writer
 /// returns an error.
-pub fn answer_to<W: Write + Drop, E: Write, G: Progress>(
+pub fn answer_to<W: Write + Drop, E: Write, G: Watch>(
     alloc: Global,
     output: Output,
     tables: &Tables,

@@ -7,8 +7,8 @@ use crate::checking::Checking;
 use crate::details::Asked;
 use crate::ranges::{Range, range_of};
 use clap::{Arg, ArgMatches, Command};
+use command_lines::{VERSION, flag};
 use macroblock_lists::{Form, What};
-use program_parts::{VERSION, flag};
 use std::alloc::{AllocError, Global};
 use std::convert::AsStr;
 

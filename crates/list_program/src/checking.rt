@@ -7,7 +7,7 @@ use crate::fault::Fault;
 use std::alloc::Global;
 use std::io::Write;
 use std::rc::RcSlice;
-use stream_checks::{CheckFault, Form, Progress, Tally, check};
+use stream_checks::{CheckFault, Form, Tally, Watch, check};
 use stream_files::ivf_share;
 use vp8_tables::Tables;
 
@@ -35,7 +35,7 @@ fn status_of(is_strict: bool, tally: Tally) -> u8
 /// Writes the findings of an IVF file, flushes the writer, and returns the exit status: 1 for damage,
 /// and with `is_strict` for a note too, else 0. If memory runs out, the findings before are written and
 /// not flushed.
-pub fn check_to<O: Write, G: Progress>(
+pub fn check_to<O: Write, G: Watch>(
     alloc: Global,
     checking: Checking,
     tables: &Tables,

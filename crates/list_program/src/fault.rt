@@ -2,7 +2,7 @@
 ghost use Rattle.std.specs.Prelude.{◌≡◌};
 ghost use Rattle.list_program.specs.Statuses.{argument_fault, file_fault};
 
-use program_parts::{ArgumentFault, Ending, FileFault, InLine};
+use command_lines::{ArgumentFault, Ending, FileFault, InLine};
 use std::fmt;
 use stream_files::IvfFault;
 use thiserror::Error;

@@ -7,7 +7,7 @@ use crate::fault::Fault;
 use std::alloc::Global;
 use std::io::Write;
 use std::rc::RcSlice;
-use stream_checks::{HashFault, Progress, write_hashes};
+use stream_checks::{HashFault, Watch, write_hashes};
 use stream_facts::{has_refused, write_refusals};
 use stream_files::ivf_share;
 use vp8_tables::Tables;
@@ -22,7 +22,7 @@ fn hash_status(is_refused: bool) -> u8
 /// Writes the MD5 of each frame of an IVF file, flushes the writer, and returns the exit status: 1 if a
 /// packet is refused, else 0. A line for each such packet goes to `errors`; if it refuses the text, only
 /// the status reports them.
-pub fn hash_to<O: Write, E: Write, G: Progress>(
+pub fn hash_to<O: Write, E: Write, G: Watch>(
     alloc: Global,
     tables: &Tables,
     bytes: &RcSlice<u8>,

@@ -5,13 +5,13 @@ ghost use Rattle.std.specs.Io.Buffered.{writer_buffer};
 use crate::answering::answer_to;
 use crate::arguments::{Arguments, parse};
 use crate::fault::Fault;
-use program_parts::{
+use command_lines::{
     NamedFiles, format_of, help_or_mistake, read_input, read_tables, tell, write_format,
 };
 use std::convert::AsStr;
 use std::io::{BufWriter, Read, Write};
 use std::rc::RcSlice;
-use stream_checks::Progress;
+use stream_checks::Watch;
 use stream_files::IvfFault;
 
 /// The number of bytes of the list that are buffered.
@@ -30,7 +30,7 @@ fn tell_input<E: Write>(path: &str, bytes: &[u8], fault: IvfFault, errors: &mut 
 }
 
 /// Writes what the arguments ask for, and returns the exit status, which is 2 if the bytes are not an IVF file.
-fn answer_given<'a, R: NamedFiles + AllocGlobal, I: Read, O: Write + Drop, E: Write, G: Progress>(
+fn answer_given<'a, R: NamedFiles + AllocGlobal, I: Read, O: Write + Drop, E: Write, G: Watch>(
     rt: &R,
     given: Arguments<'a>,
     input: &mut I,
@@ -63,7 +63,7 @@ fn answer_line<
     I: Read,
     O: Write + Drop,
     E: Write,
-    G: Progress,
+    G: Watch,
 >(
     rt: &R,
     words: &'a [S],
@@ -93,14 +93,7 @@ fn answer_line<
 /// The file, or the input for `-`, is read whole, up to 1,073,741,824 bytes, before the first line is written. The list,
 /// findings, help and the version go to `output`; the text of an error goes to `errors`. `progress` is
 /// called after each packet that is decoded.
-pub fn answer<
-    R: NamedFiles + AllocGlobal,
-    S: AsStr,
-    I: Read,
-    O: Write + Drop,
-    E: Write,
-    G: Progress,
->(
+pub fn answer<R: NamedFiles + AllocGlobal, S: AsStr, I: Read, O: Write + Drop, E: Write, G: Watch>(
     rt: &R,
     words: &[S],
     input: &mut I,

@@ -1,7 +1,7 @@
 // The line of progress on a terminal.
 use std::io::{IsTerminal, Write};
 use std::time::{Clock, Duration, Instant};
-use stream_checks::Progress;
+use stream_checks::Watch;
 
 /// How many milliseconds nothing is shown.
 const SILENT_FOR: u64 = 1000;
@@ -54,7 +54,7 @@ impl<'a, R: Clock, E: Write> ProgressLine<'a, R, E> {
     }
 }
 
-impl<'a, R: Clock, E: Write> Progress for ProgressLine<'a, R, E> {
+impl<'a, R: Clock, E: Write> Watch for ProgressLine<'a, R, E> {
     fn packet_done(&mut self, count: usize) {
         self.done = self.done.saturating_add(1);
         if self.done >= count {

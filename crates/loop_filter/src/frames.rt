@@ -129,7 +129,7 @@ fn macroblock_at(strides: Strides, mx: usize, my: usize) -> Macroblock
 
 /// A macroblock, by its column and its row.
 #[derive(Clone, Copy)]
-struct Place {
+struct MacroblockPosition {
     mx: usize,
     my: usize,
 }
@@ -143,7 +143,7 @@ fn filter_blocks(
     cb: &mut [u8],
     cr: &mut [u8],
     strides: Strides,
-    at: Place,
+    at: MacroblockPosition,
 )
     requires normal { all.header.now.filter.is_simple ≡ false }
     requires frame { IsFrame all }
@@ -183,7 +183,7 @@ fn filter_row(
     ensures cr { plane_in chroma all.entry strides.chroma cr.new ≡ row_of_all chroma all.entry my (plane_in chroma all.entry strides.chroma cr.old) all.entry.columns }
 {
     for mx in 0..all.columns {
-        filter_blocks(all, y, cb, cr, strides, Place { mx, my });
+        filter_blocks(all, y, cb, cr, strides, MacroblockPosition { mx, my });
     }
 }
 

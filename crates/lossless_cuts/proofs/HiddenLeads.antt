@@ -3,7 +3,7 @@ use Rattle.std.proofs.Common.{◌≡◌, ℕ, zero, suc, ◌+◌, ◌-◌, ◌�
 use Rattle.std.specs.Prelude.{slice_range}
 use Rattle.std.specs.List.{filter}
 use Rattle.std.proofs.lemmas.List.{map-append}
-use Rattle.show_bits.specs.ShowBits.{with_show_bit}
+use Rattle.frame_header.specs.ShowBits.{with_show_bit}
 use Rattle.lossless_cuts.specs.Plans.{has_bytes, hidden}
 
 by_bytes : (x : List ℕ) (xs ys : List (List ℕ)) (bytes : Bool) → filter has_bytes (xs ++ ys) ≡ filter has_bytes xs ++ filter has_bytes ys

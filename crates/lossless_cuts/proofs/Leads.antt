@@ -10,10 +10,10 @@ use Rattle.packet_forge.specs.Packets.{hold_of}
 use Rattle.reference_frames.specs.StepLaws.{KeysStepFromNone}
 use Rattle.reference_frames.specs.Steps.{step_of}
 use Rattle.reference_frames.specs.declared.states.State.{State}
-use Rattle.show_bits.specs.Laws.{ShowBitSays}
-use Rattle.show_bits.specs.ShowBits.{with_show_bit}
-use Rattle.step_laws.specs.Hidden.{ShowBitKeepsSteps}
-use Rattle.step_laws.specs.Holds.{BiasesAreSetAnew, HoldsClearBiases, unbiased}
+use Rattle.frame_header.specs.ShowLaws.{ShowBitSays}
+use Rattle.frame_header.specs.ShowBits.{with_show_bit}
+use Rattle.stream_steps.specs.Hidden.{ShowBitKeepsSteps}
+use Rattle.lossless_cuts.specs.Holds.{BiasesAreSetAnew, HoldsClearBiases, unbiased}
 use Rattle.lossless_cuts.specs.Plans.{has_bytes, hidden}
 use Rattle.lossless_cuts.proofs.Views.{has_bit}
 use Rattle.lossless_cuts.proofs.Runs.{FromKey, FromState, Steps}

@@ -1,3 +1,5 @@
+pub mod Biases
+pub mod HeldHeaders
 pub mod Views
 pub mod HiddenLeads
 pub mod Runs

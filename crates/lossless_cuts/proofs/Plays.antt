@@ -10,7 +10,7 @@ use Rattle.packet_edits.specs.Shown.{shown_from, shown_indexes}
 use Rattle.reference_frames.specs.StepLaws.{KeysStepFromNone}
 use Rattle.reference_frames.specs.Steps.{step_of}
 use Rattle.reference_frames.specs.declared.states.State.{State}
-use Rattle.state_cache.specs.Decoding.{Outcome, Progress, following, left_by, outcome, outcomes, outcomes_from, reported_at}
+use Rattle.stream_steps.specs.Decoding.{Outcome, Progress, following, left_by, outcome, outcomes, outcomes_from, reported_at}
 use Rattle.lossless_cuts.specs.Exports.{ShowsExactly, outcome_shown}
 
 -- the pictures with one more, if it is shown

@@ -9,7 +9,7 @@ use Rattle.pixel_planes.specs.Pictures.{PictureSamples}
 use Rattle.packet_edits.specs.Sizes.{key_tag_at}
 use Rattle.reference_frames.specs.Steps.{step_of}
 use Rattle.reference_frames.specs.declared.states.State.{State}
-use Rattle.state_cache.specs.Decoding.{Outcome, Progress, following, left_by, outcome, outcomes, outcomes_from, reported_at}
+use Rattle.stream_steps.specs.Decoding.{Outcome, Progress, following, left_by, outcome, outcomes, outcomes_from, reported_at}
 use Rattle.lossless_cuts.proofs.Views.{needs_state}
 
 -- the first packet is accepted, and this holds of the state after it

@@ -19,8 +19,8 @@ use Rattle.frame_header.proofs.KeyLemmas.{IfOk-following}
 use Rattle.pixel_planes.specs.Pictures.{PictureSamples}
 use Rattle.reference_frames.specs.Steps.{decoded, decoded_by, decoded_picture, step_of}
 use Rattle.reference_frames.specs.declared.states.State.{State}
-use Rattle.show_bits.specs.ShowBits.{has_show_bit}
-use Rattle.step_laws.proofs.Starts.{Start, either_ok}
+use Rattle.frame_header.specs.ShowBits.{has_show_bit}
+use Rattle.stream_steps.proofs.Starts.{Start, either_ok}
 use Rattle.lossless_cuts.specs.Plans.{has_bytes, leaves_last}
 
 -- an accepted step: a dropped frame, a key frame, or a later frame, with its header

@@ -6,7 +6,7 @@ use Rattle.pixel_planes.specs.Pictures.{IsWholePicture, PictureSamples}
 use Rattle.reference_frames.specs.declared.states.State.{State}
 use Rattle.packet_edits.specs.Shown.{shown_indexes}
 use Rattle.packet_forge.specs.Laws.{AreBytes}
-use Rattle.state_cache.specs.Decoding.{Outcome, outcomes}
+use Rattle.stream_steps.specs.Decoding.{Outcome, outcomes}
 use Rattle.lossless_cuts.specs.declared.targets.Target.{Target}
 use Rattle.lossless_cuts.specs.Plans.{stream_at}
 

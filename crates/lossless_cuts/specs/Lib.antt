@@ -1,3 +1,4 @@
+pub mod Holds
 pub mod Plans
 pub mod Faults
 pub mod Exports

@@ -9,7 +9,7 @@ use Rattle.packet_edits.specs.Marks.{StoreValue}
 use Rattle.packet_edits.specs.Shown.{stream_of}
 use Rattle.packet_edits.specs.Sizes.{key_tag_at}
 use Rattle.packet_forge.specs.Packets.{hold_of}
-use Rattle.show_bits.specs.ShowBits.{with_show_bit}
+use Rattle.frame_header.specs.ShowBits.{with_show_bit}
 use Rattle.lossless_cuts.specs.declared.targets.Target.{Target}
 
 -- the packets of a source; one that does not exist has none

@@ -4,11 +4,10 @@ ghost use Rattle.packet_edits.specs.Shown.{stream_of};
 ghost use Rattle.lossless_cuts.specs.Plans.{first_place, frame_packets, hidden, key_place, lead_if, leaves_last, packet_shown, repeats as repeats_before};
 
 use crate::targets::{Target, continues, repeats};
-use frame_header::read_outline;
+use frame_header::{read_outline, set_show_bit};
 use packet_edits::Store;
 use packet_forge::{ForgeFault, hold};
 use pixel_planes::NoMemory;
-use show_bits::set_show_bit;
 use std::alloc::Global;
 use stream_files::Bytes;
 use vp8_tables::Tables;

@@ -1,6 +1,7 @@
 //! Laws about exports. Each law is the contract of a function that does nothing.
 
 ghost use Rattle.std.specs.Prelude.{◌≡◌, ℕ, ◌<◌, length, slice_index};
+ghost use Rattle.lossless_cuts.specs.Holds.{BiasesAreSetAnew, HoldsClearBiases};
 ghost use Rattle.lossless_cuts.specs.Laws.{ExportsShowTheirFrames};
 
 use vp8_tables::Tables;
@@ -15,6 +16,19 @@ fn prove_length(entries: &[u8; 1056])
     ensures { length entries.now ≡ 1056 }
 {}
 
+/// A hold packet of a state's size leaves the state as it is, except that both sign biases are cleared, and
+/// shows its last reference.
+pub fn holds_clear_biases()
+    ensures { HoldsClearBiases }
+{
+    packet_forge::laws::hold_shows_last();
+}
+
+/// A packet with bytes steps the same whether the sign biases of the state before it are cleared or not.
+pub fn biases_are_set_anew()
+    ensures { BiasesAreSetAnew }
+{}
+
 /// The packets of frames show exactly these frames, for all tables: none of them is refused, and each shown
 /// one has the picture of its frame, sample for sample.
 pub fn exports_show_their_frames(tables: &Tables)
@@ -22,11 +36,11 @@ pub fn exports_show_their_frames(tables: &Tables)
 {
     prove_length(tables.updates());
     prove_entries(tables.updates());
-    step_laws::laws::show_bits_keep_steps();
-    step_laws::laws::holds_clear_biases();
-    step_laws::laws::biases_are_set_anew();
+    stream_steps::laws::show_bits_keep_steps();
+    holds_clear_biases();
+    biases_are_set_anew();
     packet_forge::laws::hold_shows_last();
     reference_frames::laws::keys_step_from_none();
-    show_bits::laws::only_the_show_bit_changes();
+    frame_header::show_laws::only_the_show_bit_changes();
     frame_header::laws::outlines_are_headers();
 }

@@ -22,7 +22,7 @@ use Rattle.frame_header.specs.declared.cause.Cause.{Cause}
 use Rattle.frame_header.specs.declared.cause.Cause.TheVariants.{FirstPartition}
 use Rattle.frame_header.specs.declared.context.Context.{Context}
 use Rattle.frame_header.specs.declared.header.Header.{Header}
-use Rattle.frame_header.specs.declared.places.Place.{Place}
+use Rattle.frame_header.specs.declared.places.PartitionRange.{PartitionRange}
 use Rattle.mode_parser.specs.declared.records.MbMode.{MbMode}
 use Rattle.mode_parser.specs.Chains.{FramesAreChains, HaveProbabilities}
 use Rattle.mode_parser.specs.FrameModes.{first_modes, mode_at}
@@ -44,7 +44,7 @@ use Rattle.macroblock_lists.proofs.KeyEnds.{ends_after_state}
 use Rattle.macroblock_lists.proofs.CountedEnds.{chain-none, end-counted}
 
 -- the records do not depend on the token partitions, nor on the reader in the header
-pub modes-alike : (n : ℕ) (tables : TableEntries) (header : Header) (partitions : ArrayVec Place) (reader : Reader) (columns rows : ℕ) (map : Option (List ℕ))
+pub modes-alike : (n : ℕ) (tables : TableEntries) (header : Header) (partitions : ArrayVec PartitionRange) (reader : Reader) (columns rows : ℕ) (map : Option (List ℕ))
     → first_modes n tables (record header { partitions = partitions; reader = reader }) columns rows map ≡ first_modes n tables header columns rows map
 unfolding first_modes mode_at segment_at inter_mode referenced_mode
 modes-alike zero tables header partitions reader columns rows map = refl
@@ -68,7 +68,7 @@ OwnIsRead tables context before own header =
     let all = frame_reading tables header context before (started own) in
     (all.0 ≡ (header, (frame_modes tables header before).records)) × (length all.1.rest ≡ (frame_modes tables header before).left)
 
-reads-own : (tables : TableEntries) (context : Context) (before : Option Known) (own packet : List ℕ) (earlier : Option Context) (start : _) → start_of earlier packet ≡ Ok start → (partitions : ArrayVec Place)
+reads-own : (tables : TableEntries) (context : Context) (before : Option Known) (own packet : List ℕ) (earlier : Option Context) (start : _) → start_of earlier packet ≡ Ok start → (partitions : ArrayVec PartitionRange)
     → let first = fields start.tag.key context (started own) in
     OwnIsRead tables context before own (header_in start first.0 partitions (trailing_fields start.tag.key tables.updates first.0.1 first.1))
 unfolding records_reading
@@ -96,7 +96,7 @@ abbrev pub OtherIsRead : TableEntries → Context → Option Known → List ℕ 
 OtherIsRead tables context before text header found blanks size = first_end_by tables blanks size before found ≡ end_of blanks size (length (frame_reading tables header context before (started text)).1.rest)
 
 accepted-other : (tables : TableEntries) (context : Context) (before : Option Known) (own text packet : List ℕ) (earlier : Option Context) (start : _) → start_of earlier packet ≡ Ok start
-    → (partitions others : ArrayVec Place) (blanks size : ℕ)
+    → (partitions others : ArrayVec PartitionRange) (blanks size : ℕ)
     → let first = fields start.tag.key context (started own) in
     let other = fields start.tag.key context (started text) in
     OtherIsRead tables context before text (header_in start first.0 partitions (trailing_fields start.tag.key tables.updates first.0.1 first.1))
@@ -109,7 +109,7 @@ accepted-other tables context before own text packet earlier start is partitions
     (header_in start first.0 partitions (trailing_fields start.tag.key tables.updates first.0.1 first.1)) before refl refl)
 
 refused-other : (tables : TableEntries) (context : Context) (before : Option Known) (own text packet : List ℕ) (earlier : Option Context) (start : _) → start_of earlier packet ≡ Ok start
-    → (partitions : ArrayVec Place) (cause : Cause) (blanks size : ℕ)
+    → (partitions : ArrayVec PartitionRange) (cause : Cause) (blanks size : ℕ)
     → AreChains tables → AreBytes context.probabilities
     → length (fields start.tag.key context (started text)).1.rest ≡ 0
     → let first = fields start.tag.key context (started own) in
@@ -137,7 +137,7 @@ same_or_none {A = A} {reading = reading} one blanks own =
     ]
 
 by-ranges : (tables : TableEntries) (context : Context) (before : Option Known) (own packet : List ℕ) (earlier : Option Context) (start : _) → start_of earlier packet ≡ Ok start
-    → (end : ℕ) (partitions : ArrayVec Place) (blanks size : ℕ) (ranges : Result (ArrayVec Place) Cause)
+    → (end : ℕ) (partitions : ArrayVec PartitionRange) (blanks size : ℕ) (ranges : Result (ArrayVec PartitionRange) Cause)
     → AreChains tables → AreBytes context.probabilities
     → token_ranges packet end (fields start.tag.key context (started own)).0.0.partition_count ≡ Ok partitions
     → token_ranges packet end (fields start.tag.key context (started (marked blanks own))).0.0.partition_count ≡ ranges
@@ -178,7 +178,7 @@ facts-of tables one given before n wide high inside =
     ap (λ (f : RecordFacts). f.bits) (get_or-map-range_with_len (facts_at tables one columns rows map) 0 (columns * rows) n n no_facts within (omega arith))
 
 accepted-facts : (tables : TableEntries) (context : Context) (before : Option Known) (own text packet : List ℕ) (earlier : Option Context) (start : _) → start_of earlier packet ≡ Ok start
-    → (partitions others : ArrayVec Place) (n : ℕ)
+    → (partitions others : ArrayVec PartitionRange) (n : ℕ)
     → let first = fields start.tag.key context (started own) in
     let other = fields start.tag.key context (started text) in
     let given = header_in start first.0 partitions (trailing_fields start.tag.key tables.updates first.0.1 first.1) in
@@ -198,7 +198,7 @@ none-less : (a b : ℕ) → a ≡ 0 → 0 ≡ a - b
 none-less a b none = omega arith
 
 refused-facts : (tables : TableEntries) (context : Context) (before : Option Known) (own text packet : List ℕ) (earlier : Option Context) (start : _) → start_of earlier packet ≡ Ok start
-    → (partitions : ArrayVec Place) (cause : Cause) (n : ℕ)
+    → (partitions : ArrayVec PartitionRange) (cause : Cause) (n : ℕ)
     → AreChains tables → AreBytes context.probabilities
     → length (fields start.tag.key context (started text)).1.rest ≡ 0
     → let first = fields start.tag.key context (started own) in
@@ -215,7 +215,7 @@ refused-facts tables context before own text packet earlier start is partitions 
     none-less _ _ (chain-none (chains.frames tables header.0 columns rows (option_map (λ (s : Known). s.segment_map) before) n have) header.1 after)
 
 by-ranges-facts : (tables : TableEntries) (context : Context) (before : Option Known) (own packet : List ℕ) (earlier : Option Context) (start : _) → start_of earlier packet ≡ Ok start
-    → (end : ℕ) (partitions : ArrayVec Place) (blanks n : ℕ) (ranges : Result (ArrayVec Place) Cause)
+    → (end : ℕ) (partitions : ArrayVec PartitionRange) (blanks n : ℕ) (ranges : Result (ArrayVec PartitionRange) Cause)
     → AreChains tables → AreBytes context.probabilities
     → token_ranges packet end (fields start.tag.key context (started own)).0.0.partition_count ≡ Ok partitions
     → token_ranges packet end (fields start.tag.key context (started (marked blanks own))).0.0.partition_count ≡ ranges
@@ -248,7 +248,7 @@ first_end-inside whole place size end is =
     ]
 
 -- what the laws say of a first partition
-pub record IsKnown (tables : TableEntries) (earlier : Option Context) (before : Option Known) (packet : List ℕ) (header : Header) (place : Place) : Type 0 where
+pub record IsKnown (tables : TableEntries) (earlier : Option Context) (before : Option Known) (packet : List ℕ) (header : Header) (place : PartitionRange) : Type 0 where
   pub own : OwnIsRead tables (first_context tables (has_key_tag packet) earlier) before (slice_range packet place.start (place.start + place.length)) header
   pub ends : (blanks : ℕ) → first_partition_end tables blanks packet earlier before
       ≡ end_of blanks place.length (length (frame_reading tables header (first_context tables (has_key_tag packet) earlier) before (started (marked_text blanks packet place))).1.rest)
@@ -264,10 +264,10 @@ pub header_over-by : (tables : TableEntries) (earlier : Option Context) (packet 
 unfolding header_over
 header_over-by tables earlier packet text start end start_is end_is = rw (start_is, end_is) refl
 
-by-own : (tables : TableEntries) (earlier : Option Context) (before : Option Known) (packet : List ℕ) (header : Header) (start : _) (end : ℕ) (ranges : Result (ArrayVec Place) Cause)
+by-own : (tables : TableEntries) (earlier : Option Context) (before : Option Known) (packet : List ℕ) (header : Header) (start : _) (end : ℕ) (ranges : Result (ArrayVec PartitionRange) Cause)
     → AreChains tables → AreBytes (first_context tables (has_key_tag packet) earlier).probabilities
     → start_of earlier packet ≡ Ok start → first_end start packet ≡ Ok end
-    → let place : Place = record { start = start.place; length = end - start.place } in
+    → let place : PartitionRange = record { start = start.place; length = end - start.place } in
     first_partition earlier packet ≡ Ok place
     → token_ranges packet end (fields start.tag.key (first_context tables (has_key_tag packet) earlier) (started (slice_range packet place.start (place.start + place.length)))).0.0.partition_count ≡ ranges
     → header_from tables (first_context tables (has_key_tag packet) earlier) packet start end (slice_range packet place.start (place.start + place.length)) ≡ Ok header
@@ -275,7 +275,7 @@ by-own : (tables : TableEntries) (earlier : Option Context) (before : Option Kno
 unfolding first_partition_end
 by-own tables earlier before packet header start end (Ok partitions) chains kept start_is end_is placed ours accepted =
     let context : Context = first_context tables (has_key_tag packet) earlier in
-    let place : Place = record { start = start.place; length = end - start.place } in
+    let place : PartitionRange = record { start = start.place; length = end - start.place } in
     let own : List ℕ = slice_range packet place.start (place.start + place.length) in
     let first = fields start.tag.key context (started own) in
     let read : Header = header_in start first.0 partitions (trailing_fields start.tag.key tables.updates first.0.1 first.1) in
@@ -293,24 +293,24 @@ by-own tables earlier before packet header start end (Ok partitions) chains kept
 by-own tables earlier before packet header start end (Err cause) chains kept start_is end_is placed ours accepted =
     absurd (let none = rw ours at accepted in cc)
 
-by-end : (tables : TableEntries) (earlier : Option Context) (before : Option Known) (packet : List ℕ) (header : Header) (place : Place) (start : _) (found : Result ℕ Cause)
+by-end : (tables : TableEntries) (earlier : Option Context) (before : Option Known) (packet : List ℕ) (header : Header) (place : PartitionRange) (start : _) (found : Result ℕ Cause)
     → AreChains tables → AreBytes (first_context tables (has_key_tag packet) earlier).probabilities
     → start_of earlier packet ≡ Ok start → first_end start packet ≡ found
     → header_of tables earlier packet ≡ Ok header → first_partition earlier packet ≡ Ok place
     → IsKnown tables earlier before packet header place
 by-end tables earlier before packet header place start (Ok end) chains kept start_is end_is accepted placed =
-    let own_place : Place = record { start = start.place; length = end - start.place } in
+    let own_place : PartitionRange = record { start = start.place; length = end - start.place } in
     let found : first_partition earlier packet ≡ Ok own_place = rw (start_is, end_is) refl in
-    let whole : ◌≡◌ {A = Result Place Cause} (Ok own_place) (Ok place) = sym found ∙ placed in
+    let whole : ◌≡◌ {A = Result PartitionRange Cause} (Ok own_place) (Ok place) = sym found ∙ placed in
     let same : own_place ≡ place = cc in
     let own : List ℕ = slice_range packet own_place.start (own_place.start + own_place.length) in
     let read : header_from tables (first_context tables (has_key_tag packet) earlier) packet start end own ≡ Ok header =
     sym (header_over-by tables earlier packet own start end start_is end_is) ∙ sym (chains.own tables earlier packet ∙ rw found refl) ∙ accepted in
-    subst (λ (p : Place). IsKnown tables earlier before packet header p) same (by-own tables earlier before packet header start end _ chains kept start_is end_is found refl read)
+    subst (λ (p : PartitionRange). IsKnown tables earlier before packet header p) same (by-own tables earlier before packet header start end _ chains kept start_is end_is found refl read)
 by-end tables earlier before packet header place start (Err cause) chains kept start_is end_is accepted placed =
     absurd (let none = rw (start_is, end_is) at placed in cc)
 
-by-start : (tables : TableEntries) (earlier : Option Context) (before : Option Known) (packet : List ℕ) (header : Header) (place : Place) (found : Result _ Cause)
+by-start : (tables : TableEntries) (earlier : Option Context) (before : Option Known) (packet : List ℕ) (header : Header) (place : PartitionRange) (found : Result _ Cause)
     → AreChains tables → AreBytes (first_context tables (has_key_tag packet) earlier).probabilities
     → start_of earlier packet ≡ found
     → header_of tables earlier packet ≡ Ok header → first_partition earlier packet ≡ Ok place
@@ -320,7 +320,7 @@ by-start tables earlier before packet header place (Ok start) chains kept start_
 by-start tables earlier before packet header place (Err cause) chains kept start_is accepted placed =
     absurd (let none = rw start_is at placed in cc)
 
-pub first-known : (tables : TableEntries) (earlier : Option Context) (before : Option Known) (packet : List ℕ) (header : Header) (place : Place)
+pub first-known : (tables : TableEntries) (earlier : Option Context) (before : Option Known) (packet : List ℕ) (header : Header) (place : PartitionRange)
     → AreChains tables → AreBytes (first_context tables (has_key_tag packet) earlier).probabilities
     → header_of tables earlier packet ≡ Ok header → first_partition earlier packet ≡ Ok place
     → IsKnown tables earlier before packet header place

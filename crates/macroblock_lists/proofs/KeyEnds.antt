@@ -10,7 +10,7 @@ use Rattle.frame_header.specs.declared.cause.Cause.{Cause}
 use Rattle.frame_header.specs.declared.cause.Cause.TheVariants.{ShortPacket}
 use Rattle.frame_header.specs.declared.context.Context.{Context}
 use Rattle.frame_header.specs.declared.header.Header.{Header}
-use Rattle.frame_header.specs.declared.places.Place.{Place}
+use Rattle.frame_header.specs.declared.places.PartitionRange.{PartitionRange}
 use Rattle.frame_header.proofs.KeyLemmas.{header_of-key}
 use Rattle.macroblock_lists.specs.PartitionEnds.{first_end_at, first_end_by, first_partition_end, frame_ends, marked_text, partition_ends_by, partition_ends_of}
 use Rattle.macroblock_lists.specs.Known.{known_before}
@@ -38,7 +38,7 @@ over-key : (tables : TableEntries) (before : Option Context) (packet text : List
 unfolding header_over
 over-key tables before packet text tagged = rw (start-key before packet tagged, begun-key tables before (has_key_tag packet) tagged) refl
 
-end-key : (tables : TableEntries) (blanks : ℕ) (before : Option Context) (packet : List ℕ) (found : Result Place Cause) → has_key_tag packet ≡ true
+end-key : (tables : TableEntries) (blanks : ℕ) (before : Option Context) (packet : List ℕ) (found : Result PartitionRange Cause) → has_key_tag packet ≡ true
     → first_end_at tables blanks packet before None found ≡ first_end_at tables blanks packet None None found
 end-key tables blanks before packet (Ok place) tagged = ap (first_end_by tables blanks place.length None) (over-key tables before packet (marked_text blanks packet place) tagged)
 end-key tables blanks before packet (Err cause) tagged = refl

@@ -10,7 +10,7 @@ use Rattle.frame_header.specs.Tags.{has_key_tag}
 use Rattle.pixel_planes.specs.Pictures.{PictureSamples}
 use Rattle.reference_frames.specs.declared.states.State.{State}
 use Rattle.reference_frames.specs.Steps as steps
-use Rattle.state_cache.specs.Decoding as decoding
+use Rattle.stream_steps.specs.Decoding as decoding
 use Rattle.macroblock_lists.specs.Known as known
 use Rattle.macroblock_lists.specs.KnownLaws.{KnownIsDecoded, ModesAreDecoded, known_in, known_of}
 
@@ -39,7 +39,7 @@ by_key : (key : Bool) (tables : Tables) (packet : List ℕ) (header : Header) (s
 by_key true tables packet header state = after_frame tables packet header None
 by_key false tables packet header state = after_frame tables packet header state
 
-abbrev left : ℕ → known.Known → known.Progress
+abbrev left : ℕ → known.Known → known.Knowledge
 left place found = known.left_at place (Ok found)
 
 -- a packet with bytes, by its header

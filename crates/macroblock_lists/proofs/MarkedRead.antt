@@ -21,7 +21,7 @@ use Rattle.frame_header.specs.TrailingFields.{trailing_fields}
 use Rattle.frame_header.specs.declared.cause.Cause.{Cause}
 use Rattle.frame_header.specs.declared.context.Context.{Context}
 use Rattle.frame_header.specs.declared.header.Header.{Header}
-use Rattle.frame_header.specs.declared.places.Place.{Place}
+use Rattle.frame_header.specs.declared.places.PartitionRange.{PartitionRange}
 use Rattle.mode_parser.specs.FrameModes.{first_modes}
 use Rattle.mode_parser.specs.RecordFacts.{facts_at, facts_of, inter_split, referenced_split, split_at}
 use Rattle.mode_parser.specs.RecordLaws.{SplitsAreChains}
@@ -251,7 +251,7 @@ is-read tables known packet mine over accepted same =
 
 -- by the parts of the packet
 by-ranges : (tables : TableEntries) (known : Option Known) (packet : List ℕ) (blanks : ℕ) (over : Header) (start : _) → start_of (context_in known) packet ≡ Ok start
-    → (end : ℕ) (place : Place) (ranges : Result (ArrayVec Place) Cause)
+    → (end : ℕ) (place : PartitionRange) (ranges : Result (ArrayVec PartitionRange) Cause)
     → let context = first_context tables (has_key_tag packet) (context_in known) in
     let own = slice_range packet place.start (place.start + place.length) in
     AreChains tables → SplitsAreChains → AreBytes context.probabilities → first_end start packet ≡ Ok end
@@ -280,7 +280,7 @@ by-ranges tables known packet blanks over start start_is end place (Err cause) c
     absurd (let none = rw ranged at accepted in cc)
 
 by-end : (tables : TableEntries) (known : Option Known) (packet : List ℕ) (blanks : ℕ) (over : Header) (start : _) → start_of (context_in known) packet ≡ Ok start
-    → (place : Place) (found : Result ℕ Cause)
+    → (place : PartitionRange) (found : Result ℕ Cause)
     → AreChains tables → SplitsAreChains → AreBytes (first_context tables (has_key_tag packet) (context_in known)).probabilities
     → first_end start packet ≡ found → first_partition (context_in known) packet ≡ Ok place
     → header_over tables (context_in known) packet (marked_text blanks packet place) ≡ Ok over
@@ -291,7 +291,7 @@ by-end tables known packet blanks over start start_is place (Ok end) chains spli
 by-end tables known packet blanks over start start_is place (Err cause) chains splits kept end_is placed accepted some =
     absurd (let none = rw (start_is, end_is) at placed in cc)
 
-by-start : (tables : TableEntries) (known : Option Known) (packet : List ℕ) (blanks : ℕ) (over : Header) (place : Place) (found : Result _ Cause)
+by-start : (tables : TableEntries) (known : Option Known) (packet : List ℕ) (blanks : ℕ) (over : Header) (place : PartitionRange) (found : Result _ Cause)
     → AreChains tables → SplitsAreChains → AreBytes (first_context tables (has_key_tag packet) (context_in known)).probabilities
     → start_of (context_in known) packet ≡ found → first_partition (context_in known) packet ≡ Ok place
     → header_over tables (context_in known) packet (marked_text blanks packet place) ≡ Ok over

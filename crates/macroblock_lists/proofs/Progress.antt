@@ -5,7 +5,7 @@ use Rattle.std.proofs.lemmas.Option.{get_or_from_slice_get, slice_get_cases}
 use Rattle.vp8_tables.specs.Tables.{TableEntries}
 use Rattle.stream_files.specs.declared.packets.Packet.{Packet}
 use Rattle.frame_header.specs.Tags.{has_key_tag}
-use Rattle.macroblock_lists.specs.Known.{Progress, progress_after, progress_over}
+use Rattle.macroblock_lists.specs.Known.{Knowledge, progress_after, progress_over}
 use Rattle.macroblock_lists.specs.Texts.{progress_before}
 
 -- the first elements, in two parts
@@ -19,7 +19,7 @@ take_both packets start place below =
     ∙ ap (λ (xs : List Packet). take start packets ++ xs) rest
 
 -- after packets and one more
-pub progress_more : (tables : TableEntries) (place : ℕ) (progress : Progress) (packets : List (List ℕ)) (packet : List ℕ)
+pub progress_more : (tables : TableEntries) (place : ℕ) (progress : Knowledge) (packets : List (List ℕ)) (packet : List ℕ)
     → progress_over tables place progress (packets ++ packet ∷ []) ≡ progress_after tables (place + length packets) (progress_over tables place progress packets) packet
 progress_more tables place progress [] packet = let same : place ≡ place + 0 = omega arith in ap (λ (n : ℕ). progress_after tables n progress packet) same
 progress_more tables place progress (first ∷ packets) packet =
@@ -28,7 +28,7 @@ progress_more tables place progress (first ∷ packets) packet =
     ∙ ap (λ (n : ℕ). progress_after tables n (progress_over tables (place + 1) (progress_after tables place progress first) packets) packet) same
 
 -- and after some and others
-pub progress_both : (tables : TableEntries) (place : ℕ) (progress : Progress) (packets more : List (List ℕ))
+pub progress_both : (tables : TableEntries) (place : ℕ) (progress : Knowledge) (packets more : List (List ℕ))
     → progress_over tables place progress (packets ++ more) ≡ progress_over tables (place + length packets) (progress_over tables place progress packets) more
 progress_both tables place progress [] more = let same : place ≡ place + 0 = omega arith in ap (λ (n : ℕ). progress_over tables n progress more) same
 progress_both tables place progress (first ∷ packets) more =
@@ -37,20 +37,20 @@ progress_both tables place progress (first ∷ packets) more =
     ∙ ap (λ (n : ℕ). progress_over tables n (progress_over tables (place + 1) (progress_after tables place progress first) packets) more) same
 
 -- a packet with a key tag needs nothing before it
-pub keys_forget : (tables : TableEntries) (place : ℕ) (one other : Progress) (packet : List ℕ) → has_key_tag packet ≡ true
+pub keys_forget : (tables : TableEntries) (place : ℕ) (one other : Knowledge) (packet : List ℕ) → has_key_tag packet ≡ true
     → progress_after tables place one packet ≡ progress_after tables place other packet
 keys_forget tables place one other packet key = rw key refl
 
-pub keys_forget_over : (tables : TableEntries) (place : ℕ) (one other : Progress) (packet : List ℕ) (packets : List (List ℕ)) → has_key_tag packet ≡ true
+pub keys_forget_over : (tables : TableEntries) (place : ℕ) (one other : Knowledge) (packet : List ℕ) (packets : List (List ℕ)) → has_key_tag packet ≡ true
     → progress_over tables place one (packet ∷ packets) ≡ progress_over tables place other (packet ∷ packets)
 keys_forget_over tables place one other packet packets key =
-    ap (λ (after : Progress). progress_over tables (place + 1) after packets) (keys_forget tables place one other packet key)
+    ap (λ (after : Knowledge). progress_over tables (place + 1) after packets) (keys_forget tables place one other packet key)
 
 -- after the first packets of a list and one more
 abbrev bytes_of : List Packet → List (List ℕ)
 bytes_of packets = map (λ packet. packet.bytes) packets
 
-pub progress_next : (tables : TableEntries) (place : ℕ) (packets : List Packet) (n j : ℕ) (packet : Packet) (old new : Progress)
+pub progress_next : (tables : TableEntries) (place : ℕ) (packets : List Packet) (n j : ℕ) (packet : Packet) (old new : Knowledge)
     → n < length packets → place + n ≡ j → packet ≡ get_or packets n packet
     → old ≡ progress_over tables place (Ok None) (map (λ packet. packet.bytes) (take n packets)) → new ≡ progress_after tables j old packet.bytes
     → new ≡ progress_over tables place (Ok None) (map (λ packet. packet.bytes) (take (n + 1) packets))
@@ -61,7 +61,7 @@ progress_next tables place packets n j packet old new below at is so_far here =
     map_more (λ packet. packet.bytes) packets n packet below ∙ ap (λ (p : Packet). first ++ p.bytes ∷ []) (sym is) in
     let index : j ≡ place + length first = sym at ∙ ap (λ (k : ℕ). place + k) (sym count) in
     here
-    ∙ ap (λ (p : Progress). progress_after tables j p packet.bytes) so_far
+    ∙ ap (λ (p : Knowledge). progress_after tables j p packet.bytes) so_far
     ∙ ap (λ (k : ℕ). progress_after tables k (progress_over tables place (Ok None) first) packet.bytes) index
     ∙ sym (progress_more tables place (Ok None) first packet.bytes)
     ∙ ap (λ (bs : List (List ℕ)). progress_over tables place (Ok None) bs) (sym all)

@@ -9,7 +9,7 @@ use Rattle.frame_header.specs.Tags.{has_key_tag}
 use Rattle.frame_header.specs.declared.cause.Cause.{Cause}
 use Rattle.frame_header.specs.declared.context.Context.{Context}
 use Rattle.frame_header.specs.declared.header.Header.{Header}
-use Rattle.frame_header.specs.declared.places.Place.{Place}
+use Rattle.frame_header.specs.declared.places.PartitionRange.{PartitionRange}
 use Rattle.mode_parser.specs.FrameModes.{FrameModes}
 use Rattle.mode_parser.specs.declared.records.MbMode.{MbMode}
 use Rattle.reference_frames.specs.FrameTokens.{TokenState, state_after, token_state}
@@ -66,12 +66,12 @@ none-over tables earlier packet text header cause (Err other) start_is placed ac
 
 -- a text with so many zeros of a first partition of this size
 pub record IsMarked (known : Option Known) (packet whole : List ℕ) (blanks count : ℕ) : Type 0 where
-  pub text : (place : Place) → first_partition (context_in known) packet ≡ Ok place → whole ≡ marked_text blanks packet place
-  pub size : (place : Place) → first_partition (context_in known) packet ≡ Ok place → count ≡ place.length
+  pub text : (place : PartitionRange) → first_partition (context_in known) packet ≡ Ok place → whole ≡ marked_text blanks packet place
+  pub size : (place : PartitionRange) → first_partition (context_in known) packet ≡ Ok place → count ≡ place.length
   pub zeros : (tables : TableEntries) (header : Header) → header_after tables known packet ≡ Ok header → blanks ≡ zeros_of known packet header
 
 -- if the header over it is refused, or leaves nothing with its records, decoding ends past all the zeros
-spent-by-place : (tables : TableEntries) (known : Option Known) (packet text : List ℕ) (blanks size : ℕ) (header : Header) (placed : Result Place Cause) → IsMarked known packet text blanks size
+spent-by-place : (tables : TableEntries) (known : Option Known) (packet text : List ℕ) (blanks size : ℕ) (header : Header) (placed : Result PartitionRange Cause) → IsMarked known packet text blanks size
     → first_end_by tables blanks size (known_before packet known) (header_over tables (context_in known) packet text) ≡ end_of blanks size 0
     → first_partition (context_in known) packet ≡ placed → header_after tables known packet ≡ Ok header
     → first_partition_end tables (zeros_of known packet header) packet (context_in known) (known_before packet known) ≡ end_of blanks size 0
@@ -102,7 +102,7 @@ own-ends tables known packet header first is accepted =
     rw accepted (ap (λ (end : PartitionEnd). ends_with tables known packet header end) (sym (is header accepted)))
 
 -- and by the header over the marked text
-over-by-place : (tables : TableEntries) (known : Option Known) (packet text : List ℕ) (blanks size : ℕ) (over : Header) (placed : Result Place Cause) → IsMarked known packet text blanks size → MarkedIsRead tables known
+over-by-place : (tables : TableEntries) (known : Option Known) (packet text : List ℕ) (blanks size : ℕ) (over : Header) (placed : Result PartitionRange Cause) → IsMarked known packet text blanks size → MarkedIsRead tables known
     → first_partition (context_in known) packet ≡ placed → header_over tables (context_in known) packet text ≡ Ok over → 0 < (frame_modes tables over (known_before packet known)).left
     → IsRead tables known packet over × IsFirstEnd tables known packet (end_of blanks size (frame_modes tables over (known_before packet known)).left)
 unfolding first_partition_end

@@ -11,7 +11,7 @@ use Rattle.frame_header.specs.Header.{first_partition, header_of, header_over}
 use Rattle.frame_header.specs.declared.cause.Cause.{Cause}
 use Rattle.frame_header.specs.declared.context.Context.{Context}
 use Rattle.frame_header.specs.declared.header.Header.{Header}
-use Rattle.frame_header.specs.declared.places.Place.{Place}
+use Rattle.frame_header.specs.declared.places.PartitionRange.{PartitionRange}
 use Rattle.header_bits.specs.Coded.{coded_in}
 use Rattle.header_bits.specs.declared.coded.Coded.{Coded}
 use Rattle.loop_filter.specs.Levels.{level_of}
@@ -87,20 +87,20 @@ combined-same own marked same =
     ∙ ap (λ (split : Option Split). record { bits = (facts_in marked i).bits; split = split }) (one-combined own marked i same))
 
 -- a packet whose header is accepted has a first partition
-placed-by : (tables : TableEntries) (earlier : Option Context) (packet text : List ℕ) (header : Header) (found : Result Place Cause) → first_partition earlier packet ≡ found → header_over tables earlier packet text ≡ Ok header
-    → (place : Place) × (first_partition earlier packet ≡ Ok place)
+placed-by : (tables : TableEntries) (earlier : Option Context) (packet text : List ℕ) (header : Header) (found : Result PartitionRange Cause) → first_partition earlier packet ≡ found → header_over tables earlier packet text ≡ Ok header
+    → (place : PartitionRange) × (first_partition earlier packet ≡ Ok place)
 placed-by tables earlier packet text header (Ok place) is accepted = (place, is)
 placed-by tables earlier packet text header (Err cause) is accepted = absurd (none-over tables earlier packet text header cause _ refl is accepted)
 
-pub placed : (tables : TableEntries) (earlier : Option Context) (packet text : List ℕ) (header : Header) → header_over tables earlier packet text ≡ Ok header → (place : Place) × (first_partition earlier packet ≡ Ok place)
+pub placed : (tables : TableEntries) (earlier : Option Context) (packet text : List ℕ) (header : Header) → header_over tables earlier packet text ≡ Ok header → (place : PartitionRange) × (first_partition earlier packet ≡ Ok place)
 placed tables earlier packet text header accepted = placed-by tables earlier packet text header (first_partition earlier packet) refl accepted
 
-own-by : (tables : TableEntries) (earlier : Option Context) (packet : List ℕ) (header : Header) (found : Result Place Cause) → first_partition earlier packet ≡ found → header_of tables earlier packet ≡ Ok header
-    → (place : Place) × (first_partition earlier packet ≡ Ok place)
+own-by : (tables : TableEntries) (earlier : Option Context) (packet : List ℕ) (header : Header) (found : Result PartitionRange Cause) → first_partition earlier packet ≡ found → header_of tables earlier packet ≡ Ok header
+    → (place : PartitionRange) × (first_partition earlier packet ≡ Ok place)
 own-by tables earlier packet header (Ok place) is accepted = (place, is)
 own-by tables earlier packet header (Err cause) is accepted = absurd (none-placed tables earlier packet header cause _ refl is accepted)
 
-pub own-placed : (tables : TableEntries) (earlier : Option Context) (packet : List ℕ) (header : Header) → header_of tables earlier packet ≡ Ok header → (place : Place) × (first_partition earlier packet ≡ Ok place)
+pub own-placed : (tables : TableEntries) (earlier : Option Context) (packet : List ℕ) (header : Header) → header_of tables earlier packet ≡ Ok header → (place : PartitionRange) × (first_partition earlier packet ≡ Ok place)
 own-placed tables earlier packet header accepted = own-by tables earlier packet header (first_partition earlier packet) refl accepted
 
 -- the text of a frame with this header and these records
@@ -125,11 +125,11 @@ text-is-own form at tables packet known header marked nothing accepted is =
     rw accepted (ap (λ (counts : List RecordFacts). frame_with form at tables packet header columns rows (frame_modes tables header known).records (combined (own_facts tables header known) counts)) counts)
 
 -- the facts that are counted in it
-counted : (tables : TableEntries) (blanks : ℕ) (packet : List ℕ) (before : Option Known) (place : Place) (read : Result Header Cause) → first_partition (context_in before) packet ≡ Ok place
+counted : (tables : TableEntries) (blanks : ℕ) (packet : List ℕ) (before : Option Known) (place : PartitionRange) (read : Result Header Cause) → first_partition (context_in before) packet ≡ Ok place
     → header_over tables (context_in before) packet (marked_text blanks packet place) ≡ read → marked_facts tables blanks packet before ≡ facts_by tables before read
 counted tables blanks packet before place read placed_is read_is = rw (placed_is, read_is) refl
 
-pub text-is-read : (form : Form) (at : ℕ) (tables : TableEntries) (packet : List ℕ) (known : Option Known) (over : Header) (place : Place) (zeros : ℕ) → known_before packet known ≡ known
+pub text-is-read : (form : Form) (at : ℕ) (tables : TableEntries) (packet : List ℕ) (known : Option Known) (over : Header) (place : PartitionRange) (zeros : ℕ) → known_before packet known ≡ known
     → first_partition (context_in known) packet ≡ Ok place → header_over tables (context_in known) packet (marked_text zeros packet place) ≡ Ok over
     → ((header : Header) → header_after tables known packet ≡ Ok header → zeros ≡ zeros_of known packet header)
     → IsRead tables known packet over
@@ -181,7 +181,7 @@ counted-by tables packet known text blanks count marked read read_is header acce
 
 -- a packet whose header and records leave bits of a marked text
 pub record IsReadOver (tables : TableEntries) (known : Option Known) (packet : List ℕ) (blanks : ℕ) (over : Header) : Type 0 where
-  pub place : Place
+  pub place : PartitionRange
   pub placed_is : first_partition (context_in known) packet ≡ Ok place
   pub over_is : header_over tables (context_in known) packet (marked_text blanks packet place) ≡ Ok over
   pub read : IsRead tables known packet over

@@ -8,7 +8,7 @@ use Rattle.bool_coder.specs.Reader.{Reader, started}
 use Rattle.bool_coder.specs.Taken.{marked, taken_from}
 use Rattle.bool_coder.proofs.Marks.{marks-left}
 use Rattle.frame_header.specs.declared.header.Header.{Header}
-use Rattle.frame_header.specs.declared.places.Place.{Place}
+use Rattle.frame_header.specs.declared.places.PartitionRange.{PartitionRange}
 use Rattle.mode_parser.specs.declared.records.MbMode.{MbMode}
 use Rattle.reference_frames.specs.FrameTokens.{TokenState, token_state, tokens_at, tokens_start}
 use Rattle.macroblock_lists.specs.Macroblocks.{bits_at}
@@ -30,7 +30,7 @@ left-by-chain : (header : Header) (columns : ℕ) (modes : List MbMode) (n blank
     ≡ 8 * (length (text_of packet (slice_index_or header.partitions.items k no_place)) + blanks + 1) - taken_from one.chain (text_of packet (slice_index_or header.partitions.items k no_place))
 unfolding token_reading
 left-by-chain header columns modes n blanks packet k chains inside some one =
-    let places : List Place = header.partitions.items in
+    let places : List PartitionRange = header.partitions.items in
     let marks : TokenState = token_state header columns (marked_start blanks places packet columns) modes n in
     let mixed = mixed-first header columns modes n blanks packet places k (length places) chains (omega arith) (λ j valid apart. some j valid) in
     let own_text : List ℕ = text_of packet (slice_index_or places k no_place) in
@@ -63,10 +63,10 @@ bits-by-chains : (header : Header) (columns : ℕ) (modes : List MbMode) (n next
     → bits_at header.context.probabilities.coefficients (token_state header columns (marked_start blanks header.partitions.items packet columns) modes n) (n % columns) (n / columns) mode
     ≡ taken_from two.chain (text_of packet (slice_index_or header.partitions.items k no_place)) - taken_from one.chain (text_of packet (slice_index_or header.partitions.items k no_place))
 bits-by-chains header columns modes n next blanks packet k mode follows chains found inside here some more one two =
-    let places : List Place = header.partitions.items in
+    let places : List PartitionRange = header.partitions.items in
     let start : TokenState = marked_start blanks places packet columns in
     let before : TokenState = token_state header columns start modes n in
-    let count : length start.readers ≡ length places = length-map places (λ (place : Place). started (marked_text blanks packet place)) in
+    let count : length start.readers ≡ length places = length-map places (λ (place : PartitionRange). started (marked_text blanks packet place)) in
     let within : k < length start.readers = rw count inside in
     let there : n / columns % length start.readers ≡ k = ap (λ (m : ℕ). n / columns % m) count ∙ here in
     let own : List ℕ = text_of packet (slice_index_or places k no_place) in

@@ -10,7 +10,7 @@ use Rattle.bool_coder.specs.Chains.{IsChain, run}
 use Rattle.bool_coder.specs.Reader.{Reader, read as read_bits, started}
 use Rattle.bool_coder.specs.Taken.{marked}
 use Rattle.frame_header.specs.declared.header.Header.{Header}
-use Rattle.frame_header.specs.declared.places.Place.{Place}
+use Rattle.frame_header.specs.declared.places.PartitionRange.{PartitionRange}
 use Rattle.mode_parser.specs.declared.records.MbMode.{MbMode}
 use Rattle.reference_frames.specs.FrameTokens.{TokenState, outside, reader_of, token_state, tokens_start}
 use Rattle.macroblock_lists.specs.PartitionEnds.{bytes_past, end_of, frame_token_ends, marked_start, marked_text, no_end, no_place, partition_ends_of, token_end, token_ends}
@@ -47,7 +47,7 @@ other-reader one other j i apart same =
     sym (get_or-set_other one.readers j i (started []) (started []) apart) ∙ ap (λ (state : TokenState). reader_in state i) same ∙ get_or-set_other other.readers j i (started []) (started []) apart
 
 -- the partitions before i, but not k, have their own readers; and the tokens after are read with those of all marked partitions
-pub record IsMixed (header : Header) (columns : ℕ) (modes : List MbMode) (n blanks : ℕ) (packet : List ℕ) (places : List Place) (k i : ℕ) (state : TokenState) : Type 0 where
+pub record IsMixed (header : Header) (columns : ℕ) (modes : List MbMode) (n blanks : ℕ) (packet : List ℕ) (places : List PartitionRange) (k i : ℕ) (state : TokenState) : Type 0 where
   pub long : length state.readers ≡ length places
   pub above : state.above ≡ replicate columns outside
   pub left : state.left ≡ outside
@@ -56,13 +56,13 @@ pub record IsMixed (header : Header) (columns : ℕ) (modes : List MbMode) (n bl
   pub kept : (j : ℕ) → (i ≤ j) ⊎ (j ≡ k) → reader_in (token_state header columns state modes n) j ≡ reader_in (token_state header columns (marked_start blanks places packet columns) modes n) j
 
 -- none of them has its own yet
-mixed-none : (header : Header) (columns : ℕ) (modes : List MbMode) (n blanks : ℕ) (packet : List ℕ) (places : List Place) (k : ℕ) → IsMixed header columns modes n blanks packet places k 0 (marked_start blanks places packet columns)
+mixed-none : (header : Header) (columns : ℕ) (modes : List MbMode) (n blanks : ℕ) (packet : List ℕ) (places : List PartitionRange) (k : ℕ) → IsMixed header columns modes n blanks packet places k 0 (marked_start blanks places packet columns)
 mixed-none header columns modes n blanks packet places k = record {
-  long = length-map places (λ (place : Place). started (marked_text blanks packet place));
+  long = length-map places (λ (place : PartitionRange). started (marked_text blanks packet place));
   above = refl;
   left = refl;
   before = λ j before inside apart. absurd (omega arith);
-  after = λ j later inside. get_or-map (λ (place : Place). started (marked_text blanks packet place)) places j no_place (started []) inside;
+  after = λ j later inside. get_or-map (λ (place : PartitionRange). started (marked_text blanks packet place)) places j no_place (started []) inside;
   kept = λ j later. refl;
 }
 
@@ -75,7 +75,7 @@ apart-from i j k (inl later) apart = λ same. (omega arith)
 apart-from i j k (inr here) apart = λ same. apart (sym same ∙ here)
 
 -- partition k stays marked
-mixed-same : (header : Header) (columns : ℕ) (modes : List MbMode) (n blanks : ℕ) (packet : List ℕ) (places : List Place) (k i : ℕ) (state : TokenState)
+mixed-same : (header : Header) (columns : ℕ) (modes : List MbMode) (n blanks : ℕ) (packet : List ℕ) (places : List PartitionRange) (k i : ℕ) (state : TokenState)
     → IsMixed header columns modes n blanks packet places k i state → i ≡ k → IsMixed header columns modes n blanks packet places k (suc i) state
 mixed-same header columns modes n blanks packet places k i state is here = record {
   long = is.long;
@@ -86,7 +86,7 @@ mixed-same header columns modes n blanks packet places k i state is here = recor
   kept = λ j later. is.kept j (earlier i j k later);
 }
 
-set-before : (header : Header) (columns : ℕ) (modes : List MbMode) (n blanks : ℕ) (packet : List ℕ) (places : List Place) (k i j : ℕ) (state : TokenState)
+set-before : (header : Header) (columns : ℕ) (modes : List MbMode) (n blanks : ℕ) (packet : List ℕ) (places : List PartitionRange) (k i j : ℕ) (state : TokenState)
     → IsMixed header columns modes n blanks packet places k i state → i < length places → j < suc i → j < length places → j ≢ k
     → get_or (slice_set state.readers i (started (text_of packet (slice_index_or places i no_place)))) j (started []) ≡ started (text_of packet (slice_index_or places j no_place))
 set-before header columns modes n blanks packet places k i j state is inside before valid other =
@@ -97,7 +97,7 @@ set-before header columns modes n blanks packet places k i j state is inside bef
     ]
 
 -- another one gets its own text, if bits are left in it
-mixed-own : (header : Header) (columns : ℕ) (modes : List MbMode) (n blanks : ℕ) (packet : List ℕ) (places : List Place) (k i : ℕ) (state : TokenState) → TokensAreChains header
+mixed-own : (header : Header) (columns : ℕ) (modes : List MbMode) (n blanks : ℕ) (packet : List ℕ) (places : List PartitionRange) (k i : ℕ) (state : TokenState) → TokensAreChains header
     → IsMixed header columns modes n blanks packet places k i state → i ≢ k → i < length places
     → 0 < length (reader_in (token_state header columns (marked_start blanks places packet columns) modes n) i).rest
     → IsMixed header columns modes n blanks packet places k (suc i) (with_reader state i (started (text_of packet (slice_index_or places i no_place))))
@@ -116,7 +116,7 @@ mixed-own header columns modes n blanks packet places k i state chains is apart 
     }
 
 -- all of them but k
-pub mixed-first : (header : Header) (columns : ℕ) (modes : List MbMode) (n blanks : ℕ) (packet : List ℕ) (places : List Place) (k i : ℕ) → TokensAreChains header → i ≤ length places
+pub mixed-first : (header : Header) (columns : ℕ) (modes : List MbMode) (n blanks : ℕ) (packet : List ℕ) (places : List PartitionRange) (k i : ℕ) → TokensAreChains header → i ≤ length places
     → ((j : ℕ) → j < length places → j ≢ k → 0 < length (reader_in (token_state header columns (marked_start blanks places packet columns) modes n) j).rest)
     → (state : TokenState) × IsMixed header columns modes n blanks packet places k i state
 mixed-first header columns modes n blanks packet places k zero chains within some = (marked_start blanks places packet columns, mixed-none header columns modes n blanks packet places k)
@@ -135,7 +135,7 @@ state-is : (readers others : List Reader) (above higher : List (List Bool)) (lef
 state-is readers others above higher left further p q s = cc
 
 -- then it is decoding's own start, but for partition k
-pub mixed-all : (header : Header) (columns : ℕ) (modes : List MbMode) (n blanks : ℕ) (packet : List ℕ) (places : List Place) (k : ℕ) (state : TokenState)
+pub mixed-all : (header : Header) (columns : ℕ) (modes : List MbMode) (n blanks : ℕ) (packet : List ℕ) (places : List PartitionRange) (k : ℕ) (state : TokenState)
     → IsMixed header columns modes n blanks packet places k (length places) state → k < length places
     → state ≡ with_reader (tokens_start places packet columns) k (started (marked blanks (text_of packet (slice_index_or places k no_place))))
 mixed-all header columns modes n blanks packet places k state is inside =
@@ -160,10 +160,10 @@ past-some blanks size zero below = absurd (let most = past-most blanks size in o
 past-some blanks size (suc left) below = omega arith
 
 -- the end in a partition
-end-at : (blanks : ℕ) (places : List Place) (readers : List Reader) (k : ℕ) → k < length places → slice_index_or (token_ends blanks places readers) k no_end ≡ token_end blanks places readers k
+end-at : (blanks : ℕ) (places : List PartitionRange) (readers : List Reader) (k : ℕ) → k < length places → slice_index_or (token_ends blanks places readers) k no_end ≡ token_end blanks places readers k
 end-at blanks places readers k inside = get_or-map-range_with_len (token_end blanks places readers) 0 (length places) k k no_end inside (omega arith)
 
-ends-long : (blanks : ℕ) (places : List Place) (readers : List Reader) → length (token_ends blanks places readers) ≡ length places
+ends-long : (blanks : ℕ) (places : List PartitionRange) (readers : List Reader) → length (token_ends blanks places readers) ≡ length places
 ends-long blanks places readers = length-map (range_with_len 0 (length places)) (token_end blanks places readers) ∙ length-range_with_len 0 (length places)
 
 token_end_is_of_chain : (header : Header) (columns : ℕ) (modes : List MbMode) (blanks : ℕ) (packet : List ℕ) (k : ℕ) → TokensAreChains header → AreInside packet header.partitions.items → k < length header.partitions.items
@@ -172,12 +172,12 @@ token_end_is_of_chain : (header : Header) (columns : ℕ) (modes : List MbMode) 
     → slice_index_or (frame_token_ends blanks packet header columns modes) k no_end ≡ end_by blanks one.chain (text_of packet (slice_index_or header.partitions.items k no_place))
 unfolding frame_token_ends token_reading
 token_end_is_of_chain header columns modes blanks packet k chains within inside others one =
-    let places : List Place = header.partitions.items in
+    let places : List PartitionRange = header.partitions.items in
     let marks : TokenState = token_state header columns (marked_start blanks places packet columns) modes (length modes) in
     let some : (j : ℕ) → j < length places → j ≢ k → 0 < length (reader_in marks j).rest = λ j valid apart.
     past-some blanks (slice_index_or places j no_place).length (length (reader_in marks j).rest) (subst (λ (end : PartitionEnd). end.past < blanks) (end-at blanks places marks.readers j valid) (others j (rw (ends-long blanks places marks.readers) valid) apart)) in
     let mixed = mixed-first header columns modes (length modes) blanks packet places k (length places) chains (omega arith) some in
-    let place : Place = slice_index_or places k no_place in
+    let place : PartitionRange = slice_index_or places k no_place in
     let text : Reader = started (marked blanks (text_of packet place)) in
     let own : TokenState = tokens_start places packet columns in
     let start : mixed.0 ≡ with_reader own k text = mixed-all header columns modes (length modes) blanks packet places k mixed.0 mixed.1 inside in

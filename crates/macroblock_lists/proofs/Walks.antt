@@ -10,7 +10,7 @@ use Rattle.bool_coder.specs.Reading.{Reading, ◌>>=◌, give}
 use Rattle.bool_coder.specs.Taken.{marked}
 use Rattle.bool_coder.proofs.Chains.{bind-chain, give-chain}
 use Rattle.frame_header.specs.declared.header.Header.{Header}
-use Rattle.frame_header.specs.declared.places.Place.{Place}
+use Rattle.frame_header.specs.declared.places.PartitionRange.{PartitionRange}
 use Rattle.mode_parser.specs.declared.records.MbMode.{MbMode}
 use Rattle.token_parser.specs.Blocks.{macroblock}
 use Rattle.token_parser.specs.declared.tokens.Tokens.{Tokens}
@@ -48,16 +48,16 @@ more-alike {A = A} reading with_mark own chain alike some =
     ]
 
 -- before the first macroblock
-pub starts-alike : (zeros : ℕ) (places : List Place) (packet : List ℕ) (columns : ℕ) → AreAlike (marked_start zeros places packet columns) (tokens_start places packet columns)
+pub starts-alike : (zeros : ℕ) (places : List PartitionRange) (packet : List ℕ) (columns : ℕ) → AreAlike (marked_start zeros places packet columns) (tokens_start places packet columns)
 starts-alike zeros places packet columns =
     let count : length (map (reader_of packet) places) ≡ length places = length-map places (reader_of packet) in
     record {
-      count = length-map places (λ (place : Place). started (marked_text zeros packet place)) ∙ sym count;
+      count = length-map places (λ (place : PartitionRange). started (marked_text zeros packet place)) ∙ sym count;
       above = refl;
       left = refl;
       readers = λ k inside.
           let within : k < length places = rw (sym count) inside in
-          let with_mark = get_or-map (λ (place : Place). started (marked_text zeros packet place)) places k no_place (started []) within in
+          let with_mark = get_or-map (λ (place : PartitionRange). started (marked_text zeros packet place)) places k no_place (started []) within in
           let own = get_or-map (reader_of packet) places k no_place (started []) within in
           rw (with_mark, own) (start-alike zeros _);
     }
@@ -146,13 +146,13 @@ kept-alike header columns n modes start marks new mode chains alike found some n
     )
 
 -- a walk before the first macroblock
-pub walk-start : (header : Header) (columns zeros : ℕ) (modes : List MbMode) (places : List Place) (packet : List ℕ) (walk : Walk) → 0 < length places
+pub walk-start : (header : Header) (columns zeros : ℕ) (modes : List MbMode) (places : List PartitionRange) (packet : List ℕ) (walk : Walk) → 0 < length places
     → walk.odds ≡ header.context.probabilities.coefficients → walk.marked ≡ marked_start zeros places packet columns → walk.own ≡ tokens_start places packet columns
     → IsAfter header columns modes 0 walk
 unfolding token_state
 walk-start header columns zeros modes places packet walk some odds marked_is own_is = record {
   odds = odds;
-  marked_readers = rw (marked_is, length-map places (λ (place : Place). started (marked_text zeros packet place))) some;
+  marked_readers = rw (marked_is, length-map places (λ (place : PartitionRange). started (marked_text zeros packet place))) some;
   marked_above = rw marked_is (length-replicate columns outside);
   readers = rw (own_is, length-map places (reader_of packet)) some;
   above = rw own_is (length-replicate columns outside);

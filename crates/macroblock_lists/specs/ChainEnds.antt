@@ -2,7 +2,7 @@
 use Rattle.std.specs.Prelude.{ℕ, ◌+◌, ◌-◌, ◌*◌, ◌/◌, ◌==◌, min, if◌then◌else◌, List, length, slice_range}
 use Rattle.bool_coder.specs.Chains.{Chain}
 use Rattle.bool_coder.specs.Taken.{past_end, taken_from}
-use Rattle.frame_header.specs.declared.places.Place.{Place}
+use Rattle.frame_header.specs.declared.places.PartitionRange.{PartitionRange}
 use Rattle.macroblock_lists.specs.declared.partition_ends.PartitionEnd.{PartitionEnd}
 
 -- the bits that a chain of reads takes in after the end of a text. The eight that are in the window before the first bit is read do not
@@ -20,5 +20,5 @@ end_by most chain bytes = record {
 }
 
 -- the bytes of a partition
-abbrev pub text_of : List ℕ → Place → List ℕ
+abbrev pub text_of : List ℕ → PartitionRange → List ℕ
 text_of packet place = slice_range packet place.start (place.start + place.length)

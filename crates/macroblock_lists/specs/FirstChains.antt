@@ -13,7 +13,7 @@ use Rattle.frame_header.specs.Tags.{has_key_tag}
 use Rattle.frame_header.specs.declared.context.Context.{Context}
 use Rattle.frame_header.specs.declared.context.Probabilities.{Probabilities}
 use Rattle.frame_header.specs.declared.header.Header.{Header}
-use Rattle.frame_header.specs.declared.places.Place.{Place}
+use Rattle.frame_header.specs.declared.places.PartitionRange.{PartitionRange}
 use Rattle.mode_parser.specs.declared.records.MbMode.{MbMode}
 use Rattle.mode_parser.specs.Chains.{AreRows}
 use Rattle.mode_parser.specs.FrameModes.{first_modes}
@@ -71,7 +71,7 @@ FirstIsChain tables known = (packet : List ℕ) (header : Header) → IsChain (p
 -- that decoding leaves
 abbrev pub FirstIsReadSo : TableEntries → Option Known → Type 0
 FirstIsReadSo tables known =
-    (packet : List ℕ) (header : Header) (place : Place) → header_of tables (context_in known) packet ≡ Ok header → first_partition (context_in known) packet ≡ Ok place →
+    (packet : List ℕ) (header : Header) (place : PartitionRange) → header_of tables (context_in known) packet ≡ Ok header → first_partition (context_in known) packet ≡ Ok place →
     let read = packet_reading tables known packet header (started (text_of packet place)) in
     let modes = frame_modes tables header (known_before packet known) in
     (read.0 ≡ (header, modes.records)) × (length read.1.rest ≡ modes.left)
@@ -79,7 +79,7 @@ FirstIsReadSo tables known =
 -- the end that a check finds in the first partition, of a packet before which this is known, is where that chain of reads ends
 abbrev pub FirstEndIsOfChain : TableEntries → Option Known → Type 0
 FirstEndIsOfChain tables known =
-    (packet : List ℕ) (header : Header) (place : Place) → header_of tables (context_in known) packet ≡ Ok header → first_partition (context_in known) packet ≡ Ok place →
+    (packet : List ℕ) (header : Header) (place : PartitionRange) → header_of tables (context_in known) packet ≡ Ok header → first_partition (context_in known) packet ≡ Ok place →
     (one : IsChain (packet_reading tables known packet header)) →
     (ends_before tables (Ok known) packet).first ≡ end_by (zeros_of known packet header) one.chain (text_of packet place)
 

@@ -10,7 +10,7 @@ use Rattle.frame_header.specs.Header.{header_of}
 use Rattle.frame_header.specs.Tags.{has_key_tag}
 use Rattle.mode_parser.specs.FrameModes.{FrameModes, modes_of}
 use Rattle.pixel_planes.specs.Pictures.{macroblocks}
-use Rattle.state_cache.specs.declared.outcomes.Broken.{Broken}
+use Rattle.stream_steps.specs.declared.broken.Broken.{Broken}
 
 -- the context of the last header, the segment of each macroblock, and the size of the frames
 pub record Known : Type 0 where
@@ -68,22 +68,22 @@ abbrev pub step_of : TableEntries → Option Known → List ℕ → Result Known
 step_of tables known packet = if length packet == 0 then repeated known else known_by tables (known_before packet known) (header_after tables known packet)
 
 -- before a packet of a stream: what is known, or where the stream is broken
-abbrev pub Progress : Type 0
-Progress = Result (Option Known) Broken
+abbrev pub Knowledge : Type 0
+Knowledge = Result (Option Known) Broken
 
-abbrev pub left_at : ℕ → Result Known Cause → Progress
+abbrev pub left_at : ℕ → Result Known Cause → Knowledge
 left_at place (Ok known) = Ok (Some known)
 left_at place (Err cause) = Err (record { place = place; cause = cause })
 
-abbrev pub following : TableEntries → ℕ → Progress → List ℕ → Progress
+abbrev pub following : TableEntries → ℕ → Knowledge → List ℕ → Knowledge
 following tables place (Ok known) packet = left_at place (step_of tables known packet)
 following tables place (Err broken) packet = Err broken
 
 -- a packet with a key tag needs nothing before it
-abbrev pub progress_after : TableEntries → ℕ → Progress → List ℕ → Progress
+abbrev pub progress_after : TableEntries → ℕ → Knowledge → List ℕ → Knowledge
 progress_after tables place progress packet = if has_key_tag packet then left_at place (step_of tables None packet) else following tables place progress packet
 
 -- after packets, the first of which has the index `place`
-abbrev pub progress_over : TableEntries → ℕ → Progress → List (List ℕ) → Progress
+abbrev pub progress_over : TableEntries → ℕ → Knowledge → List (List ℕ) → Knowledge
 progress_over tables place progress [] = progress
 progress_over tables place progress (packet ∷ packets) = progress_over tables (place + 1) (progress_after tables place progress packet) packets

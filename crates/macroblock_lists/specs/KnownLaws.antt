@@ -5,15 +5,15 @@ use Rattle.vp8_tables.specs.declared.tables.Tables.{Tables}
 use Rattle.frame_header.specs.declared.header.Header.{Header}
 use Rattle.reference_frames.specs.declared.states.State.{State}
 use Rattle.reference_frames.specs.Steps.{frame_modes as modes_of_frame}
-use Rattle.state_cache.specs.Decoding.{Progress as Decoded, left_by, outcome}
-use Rattle.macroblock_lists.specs.Known.{Known, Progress, frame_modes, progress_over}
+use Rattle.stream_steps.specs.Decoding.{Progress as Decoded, left_by, outcome}
+use Rattle.macroblock_lists.specs.Known.{Known, Knowledge, frame_modes, progress_over}
 
 -- what is known of a state
 abbrev pub known_of : State → Known
 known_of state = record { context = state.context; segment_map = state.segment_map; width = state.references.last.width; height = state.references.last.height }
 
 -- and of what decoding has before a packet
-abbrev pub known_in : Decoded → Progress
+abbrev pub known_in : Decoded → Knowledge
 known_in (Ok state) = Ok (option_map known_of state)
 known_in (Err broken) = Err broken
 

@@ -11,7 +11,7 @@ use Rattle.frame_header.specs.Header.{first_partition, header_of}
 use Rattle.frame_header.specs.Tags.{has_key_tag}
 use Rattle.frame_header.specs.declared.context.Context.{Context}
 use Rattle.frame_header.specs.declared.header.Header.{Header}
-use Rattle.frame_header.specs.declared.places.Place.{Place}
+use Rattle.frame_header.specs.declared.places.PartitionRange.{PartitionRange}
 use Rattle.mode_parser.specs.declared.records.MbMode.{MbMode}
 use Rattle.pixel_planes.specs.Pictures.{macroblocks}
 use Rattle.macroblock_lists.specs.Known.{Known, height_of, known_before, width_of}
@@ -37,7 +37,7 @@ RecordsAreChains tables known = (packet : List ℕ) (header : Header) (n : ℕ) 
 -- with it takes in of the packet's own partition, less those of the chain before it
 abbrev pub ModeBitsAreOfChains : TableEntries → Option Known → Type 0
 ModeBitsAreOfChains tables known =
-    (packet : List ℕ) (header : Header) (place : Place) (n : ℕ) → header_of tables (context_in known) packet ≡ Ok header → first_partition (context_in known) packet ≡ Ok place →
+    (packet : List ℕ) (header : Header) (place : PartitionRange) (n : ℕ) → header_of tables (context_in known) packet ≡ Ok header → first_partition (context_in known) packet ≡ Ok place →
     n < columns_of known packet header * rows_of known packet header →
     0 < length (packet_records tables known packet header (n + 1) (started (marked_text (zeros_of known packet header) packet place))).1.rest →
     (before : IsChain (packet_records tables known packet header n)) (after : IsChain (packet_records tables known packet header (n + 1))) →

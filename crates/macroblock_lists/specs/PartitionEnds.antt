@@ -10,14 +10,14 @@ use Rattle.frame_header.specs.declared.cause.Cause.{Cause}
 use Rattle.frame_header.specs.declared.header.Header.{Header}
 use Rattle.frame_header.specs.declared.context.Context.{Context}
 use Rattle.frame_header.specs.Header.{first_partition, header_over}
-use Rattle.frame_header.specs.declared.places.Place.{Place}
+use Rattle.frame_header.specs.declared.places.PartitionRange.{PartitionRange}
 use Rattle.frame_header.specs.Tags.{has_key_tag}
 use Rattle.mode_parser.specs.declared.records.MbMode.{MbMode}
 use Rattle.pixel_planes.specs.Pictures.{macroblocks}
 use Rattle.reference_frames.specs.FrameTokens.{TokenState, outside, token_state}
 use Rattle.macroblock_lists.specs.declared.partition_ends.PartitionEnd.{PartitionEnd}
 use Rattle.macroblock_lists.specs.declared.partition_ends.PartitionEnds.{PartitionEnds}
-use Rattle.macroblock_lists.specs.Known.{Known, Progress, frame_modes, header_after, height_of, known_before, width_of}
+use Rattle.macroblock_lists.specs.Known.{Known, Knowledge, frame_modes, header_after, height_of, known_before, width_of}
 
 -- the zero bytes after each partition: four for each macroblock, and 64 for the header
 abbrev pub zeros_for : ℕ → ℕ → ℕ
@@ -41,11 +41,11 @@ abbrev pub end_of : ℕ → ℕ → ℕ → PartitionEnd
 end_of zeros size left = record { size = size; past = bytes_past zeros size left; unread = bytes_unread zeros size left }
 
 -- a partition with the zeros and the mark
-abbrev pub marked_text : ℕ → List ℕ → Place → List ℕ
+abbrev pub marked_text : ℕ → List ℕ → PartitionRange → List ℕ
 marked_text zeros packet place = marked zeros (slice_range packet place.start (place.start + place.length))
 
 -- the state before the first macroblock, over such partitions
-abbrev pub marked_start : ℕ → List Place → List ℕ → ℕ → TokenState
+abbrev pub marked_start : ℕ → List PartitionRange → List ℕ → ℕ → TokenState
 marked_start zeros partitions packet columns = record {
   readers = map (λ place. started (marked_text zeros packet place)) partitions;
   above = replicate columns outside;
@@ -53,15 +53,15 @@ marked_start zeros partitions packet columns = record {
 }
 
 -- where reading ends in the token partition of this number, by the readers after the last macroblock
-abbrev pub no_place : Place
+abbrev pub no_place : PartitionRange
 no_place = record { start = 0; length = 0 }
 
-abbrev pub token_end : ℕ → List Place → List Reader → ℕ → PartitionEnd
+abbrev pub token_end : ℕ → List PartitionRange → List Reader → ℕ → PartitionEnd
 token_end zeros partitions readers k =
     end_of zeros (slice_index_or partitions k no_place).length (length (slice_index_or readers k (started [])).rest)
 
 -- and in each
-abbrev pub token_ends : ℕ → List Place → List Reader → List PartitionEnd
+abbrev pub token_ends : ℕ → List PartitionRange → List Reader → List PartitionEnd
 token_ends zeros partitions readers = map (token_end zeros partitions readers) (range_with_len 0 (length partitions))
 
 -- by the tokens of all macroblocks of a frame of so many columns, with these records
@@ -80,7 +80,7 @@ first_end_by tables padding size before (Err cause) = end_of padding size 0
 abbrev pub no_end : PartitionEnd
 no_end = record { size = 0; past = 0; unread = 0 }
 
-abbrev pub first_end_at : TableEntries → ℕ → List ℕ → Option Context → Option Known → Result Place Cause → PartitionEnd
+abbrev pub first_end_at : TableEntries → ℕ → List ℕ → Option Context → Option Known → Result PartitionRange Cause → PartitionEnd
 first_end_at tables padding packet context before (Ok place) =
     first_end_by tables padding place.length before (header_over tables context packet (marked_text padding packet place))
 first_end_at tables padding packet context before (Err cause) = no_end
@@ -112,9 +112,9 @@ partition_ends_of tables known packet =
     partition_ends_by tables packet (option_map (λ k. k.context) known) (known_before packet known) (header_after tables known packet)
 
 -- and of a packet of a stream, after this progress: a packet that is lost has none
-abbrev pub ends_in : TableEntries → Progress → List ℕ → PartitionEnds
+abbrev pub ends_in : TableEntries → Knowledge → List ℕ → PartitionEnds
 ends_in tables (Ok known) packet = partition_ends_of tables known packet
 ends_in tables (Err broken) packet = no_ends
 
-abbrev pub ends_before : TableEntries → Progress → List ℕ → PartitionEnds
+abbrev pub ends_before : TableEntries → Knowledge → List ℕ → PartitionEnds
 ends_before tables progress packet = if has_key_tag packet then partition_ends_of tables None packet else ends_in tables progress packet

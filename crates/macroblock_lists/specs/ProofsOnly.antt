@@ -8,11 +8,11 @@ use Rattle.vp8_tables.specs.Tables.{TableEntries}
 use Rattle.frame_header.specs.Header.{first_partition, header_over}
 use Rattle.frame_header.specs.Tags.{has_key_tag, key_size_of}
 use Rattle.frame_header.specs.declared.header.Header.{Header}
-use Rattle.frame_header.specs.declared.places.Place.{Place}
+use Rattle.frame_header.specs.declared.places.PartitionRange.{PartitionRange}
 use Rattle.mode_parser.specs.declared.records.MbMode.{MbMode}
 use Rattle.reference_frames.specs.FrameTokens.{TokenState, token_state}
 use Rattle.stream_files.specs.declared.packets.Packet.{Packet}
-use Rattle.macroblock_lists.specs.Known.{Known, Progress, frame_modes, header_after, height_of, known_before, width_of}
+use Rattle.macroblock_lists.specs.Known.{Known, Knowledge, frame_modes, header_after, height_of, known_before, width_of}
 use Rattle.macroblock_lists.specs.PartitionEnds.{first_partition_end, marked_text}
 use Rattle.macroblock_lists.specs.Records.{own_facts}
 use Rattle.macroblock_lists.specs.declared.frames.Walk.{Walk}
@@ -31,7 +31,7 @@ pub record IsRead (tables : TableEntries) (known : Option Known) (packet : List 
 -- so it is over the first partition with zeros and a mark after it, if some of these bits are left after the records
 abbrev pub MarkedIsRead : TableEntries → Option Known → Type 0
 MarkedIsRead tables known =
-    (packet : List ℕ) (zeros : ℕ) (place : Place) (over : Header) → first_partition (context_in known) packet ≡ Ok place → header_over tables (context_in known) packet (marked_text zeros packet place) ≡ Ok over →
+    (packet : List ℕ) (zeros : ℕ) (place : PartitionRange) (over : Header) → first_partition (context_in known) packet ≡ Ok place → header_over tables (context_in known) packet (marked_text zeros packet place) ≡ Ok over →
     0 < (frame_modes tables over (known_before packet known)).left → IsRead tables known packet over
 
 -- the size of the frame of a packet, before which this is known or nothing, if decoding accepts the packet
@@ -49,7 +49,7 @@ IsFirstEnd tables known packet end =
     (header : Header) → header_after tables known packet ≡ Ok header → first_partition_end tables (zeros_of known packet header) packet (context_in known) (known_before packet known) ≡ end
 
 -- what is enough before the packet at an index: what is known there, or anything before a packet with a key tag
-abbrev pub IsEnough : TableEntries → List Packet → ℕ → Progress → Type 0
+abbrev pub IsEnough : TableEntries → List Packet → ℕ → Knowledge → Type 0
 IsEnough tables packets place progress = (packet : Packet) → slice_get packets place ≡ Some packet → has_key_tag packet.bytes ≡ false → progress ≡ progress_before tables packets place
 
 -- the tokens of a frame, read over its partitions with zeros and a mark after each: as long as some of these bits are left, they are the

@@ -7,7 +7,7 @@ use Rattle.vp8_tables.specs.Tables.{TableEntries}
 use Rattle.frame_header.specs.declared.cause.Cause.{Cause}
 use Rattle.frame_header.specs.declared.context.Context.{Context}
 use Rattle.frame_header.specs.declared.header.Header.{Header}
-use Rattle.frame_header.specs.declared.places.Place.{Place}
+use Rattle.frame_header.specs.declared.places.PartitionRange.{PartitionRange}
 use Rattle.frame_header.specs.Header.{first_partition, header_over}
 use Rattle.mode_parser.specs.declared.record_facts.RecordFacts.{RecordFacts}
 use Rattle.mode_parser.specs.RecordFacts.{facts_of}
@@ -26,7 +26,7 @@ abbrev pub facts_by : TableEntries → Option Known → Result Header Cause → 
 facts_by tables before (Ok header) = own_facts tables header before
 facts_by tables before (Err cause) = []
 
-abbrev pub facts_over : TableEntries → ℕ → List ℕ → Option Known → Option Context → Result Place Cause → List RecordFacts
+abbrev pub facts_over : TableEntries → ℕ → List ℕ → Option Known → Option Context → Result PartitionRange Cause → List RecordFacts
 facts_over tables padding packet before context (Ok place) = facts_by tables before (header_over tables context packet (marked_text padding packet place))
 facts_over tables padding packet before context (Err cause) = []
 

@@ -12,7 +12,7 @@ use Rattle.header_bits.specs.Coded.{coded_in}
 use Rattle.header_bits.specs.declared.coded.Coded.{Coded}
 use Rattle.stream_facts.specs.Json.{number_member}
 use Rattle.stream_facts.specs.Lines.{cause_text}
-use Rattle.state_cache.specs.declared.outcomes.Broken.{Broken}
+use Rattle.stream_steps.specs.declared.broken.Broken.{Broken}
 use Rattle.macroblock_lists.specs.declared.layouts.Form.{Form}
 use Rattle.macroblock_lists.specs.declared.layouts.Form.TheVariants as forms
 use Rattle.macroblock_lists.specs.declared.layouts.Layout.TheVariants as layouts
@@ -21,7 +21,7 @@ use Rattle.macroblock_lists.specs.declared.layouts.What.TheVariants as what
 use Rattle.macroblock_lists.specs.Changes.{all_changes, probabilities_before}
 use Rattle.macroblock_lists.specs.Fields.{header_fields}
 use Rattle.macroblock_lists.specs.Frames.{frame_text}
-use Rattle.macroblock_lists.specs.Known.{Known, Progress, header_after, known_before, progress_over}
+use Rattle.macroblock_lists.specs.Known.{Known, Knowledge, header_after, known_before, progress_over}
 use Rattle.macroblock_lists.specs.Lines.{head_line}
 use Rattle.macroblock_lists.specs.Parts.{joined}
 
@@ -85,20 +85,20 @@ known_text what form place tables known packet =
     if length packet == 0 then repeat_by form place known
     else text_by what form place tables packet (known_before packet known) (header_after tables known packet)
 
-abbrev pub progress_text : What → Form → ℕ → TableEntries → Progress → List ℕ → List ℕ
+abbrev pub progress_text : What → Form → ℕ → TableEntries → Knowledge → List ℕ → List ℕ
 progress_text what form place tables (Ok known) packet = known_text what form place tables known packet
 progress_text what form place tables (Err broken) packet = broken_text form place broken
 
 -- the packet at an index, after this progress
-abbrev pub packet_text : What → Form → ℕ → TableEntries → Progress → List ℕ → List ℕ
+abbrev pub packet_text : What → Form → ℕ → TableEntries → Knowledge → List ℕ → List ℕ
 packet_text what form place tables progress packet =
     if has_key_tag packet then known_text what form place tables None packet else progress_text what form place tables progress packet
 
 -- the progress before each packet of a stream
-abbrev pub progress_before : TableEntries → List Packet → ℕ → Progress
+abbrev pub progress_before : TableEntries → List Packet → ℕ → Knowledge
 progress_before tables packets place = progress_over tables 0 (Ok None) (map (λ packet. packet.bytes) (take place packets))
 
-abbrev pub text_for : What → Form → ℕ → TableEntries → Progress → Option Packet → List ℕ
+abbrev pub text_for : What → Form → ℕ → TableEntries → Knowledge → Option Packet → List ℕ
 text_for what form place tables progress None = []
 text_for what form place tables progress (Some packet) = packet_text what form place tables progress packet.bytes
 

@@ -8,9 +8,9 @@ ghost use Rattle.macroblock_lists.specs.Known.{frame_modes, header_after, height
 use frame_header::{Cause, Context, Header, has_key_tag, read_header};
 use mode_parser::{Modes, read_modes};
 use pixel_planes::{NoMemory, macroblocks};
-use state_cache::Broken;
 use std::alloc::Global;
 use std::marker::Model;
+use stream_steps::Broken;
 use vp8_tables::Tables;
 
 /// What decoding knows before a packet, without samples: the context of the last header, the segment of each
@@ -52,7 +52,7 @@ impl Known {
 }
 
 /// What is known before a packet, or where the stream is broken.
-pub type Progress = Result<Option<Known>, Broken>;
+pub type Knowledge = Result<Option<Known>, Broken>;
 
 /// The context before a packet.
 pub(crate) fn context_of(known: Option<&Known>) -> Option<&Context>
@@ -135,7 +135,7 @@ fn step_coded(
     place: usize,
     known: Option<&Known>,
     packet: &[u8],
-) -> Result<Progress, NoMemory>
+) -> Result<Knowledge, NoMemory>
     ensures { IfOk result (λ progress. progress ≡ left_at place (known_by tables.now (known_before packet.now (option_copied known.entry)) (header_after tables.now (option_copied known.entry) packet.now))) }
 {
     let header = match read_header(tables, context_of(known), packet) {
@@ -154,7 +154,7 @@ pub(crate) fn step(
     place: usize,
     known: Option<Known>,
     packet: &[u8],
-) -> Result<Progress, NoMemory>
+) -> Result<Knowledge, NoMemory>
     ensures { IfOk result (λ progress. progress ≡ left_at place (step_of tables.now known packet.now)) }
 {
     if !packet.is_empty() {
@@ -176,9 +176,9 @@ pub fn progress_after(
     alloc: Global,
     tables: &Tables,
     place: usize,
-    progress: Progress,
+    progress: Knowledge,
     packet: &[u8],
-) -> Result<Progress, NoMemory>
+) -> Result<Knowledge, NoMemory>
     ensures { IfOk result (λ after. after ≡ progress_after tables.now place progress packet.now) }
 {
     if has_key_tag(packet) {

@@ -24,7 +24,7 @@ mod texts;
 mod tokens;
 mod values;
 
-pub use known::{Known, Progress, progress_after};
+pub use known::{Knowledge, Known, progress_after};
 pub use layouts::{Form, Target, What};
 pub use listing::{ListFault, Wanted, write_list};
 pub use macroblocks::Macroblock;

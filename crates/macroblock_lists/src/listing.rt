@@ -9,7 +9,7 @@ ghost use Rattle.macroblock_lists.specs.Known.{progress_over};
 ghost use Rattle.macroblock_lists.specs.ProofsOnly.{IsEnough};
 ghost use Rattle.macroblock_lists.specs.Texts.{head_of, list_text, progress_before, text_at};
 
-use crate::known::{Progress, progress_after};
+use crate::known::{Knowledge, progress_after};
 use crate::layouts::{Form, Target, What};
 use crate::packet_texts::{write_packet, write_step};
 use frame_header::has_key_tag;
@@ -99,7 +99,7 @@ fn progress_over(
     tables: &Tables,
     place: usize,
     packets: &[Packet],
-) -> Result<Progress, NoMemory>
+) -> Result<Knowledge, NoMemory>
     requires { place + length packets.now < 2 ^ 64 }
     ensures { IfOk result (λ progress. progress ≡ progress_over tables.now place (Ok None) (map (λ packet. packet.bytes) packets.now)) }
 {
@@ -122,7 +122,7 @@ fn progress_before(
     tables: &Tables,
     packets: &[Packet],
     place: usize,
-) -> Result<Progress, NoMemory>
+) -> Result<Knowledge, NoMemory>
     requires { place ≤ length packets.now }
     ensures { IfOk result (λ progress. progress ≡ progress_before tables.now packets.now place) }
 {
@@ -136,7 +136,7 @@ fn progress_for(
     tables: &Tables,
     packets: &[Packet],
     place: usize,
-) -> Result<Progress, NoMemory>
+) -> Result<Knowledge, NoMemory>
     requires { place ≤ length packets.now }
     ensures { IfOk result (IsEnough tables.now packets.now place) }
 {
@@ -152,7 +152,7 @@ fn write_last<W: Write>(
     alloc: Global,
     tables: &Tables,
     target: Target,
-    progress: &Progress,
+    progress: &Knowledge,
     packets: &[Packet],
 ) -> Result<(), ListFault>
     requires inside { target.place < length packets.now }
@@ -170,9 +170,9 @@ fn write_next<W: Write>(
     alloc: Global,
     tables: &Tables,
     target: Target,
-    progress: Progress,
+    progress: Knowledge,
     packets: &[Packet],
-) -> Result<Progress, ListFault>
+) -> Result<Knowledge, ListFault>
     requires inside { target.place < length packets.now }
     requires before { IsEnough tables.now packets.now target.place progress }
     ensures written { OnOk result (Appends (W.contents w.old) (W.contents w.new) (text_at target.what target.form tables.now packets.now target.place)) }
@@ -190,9 +190,9 @@ fn write_all_but_last<W: Write>(
     alloc: Global,
     tables: &Tables,
     wanted: Wanted,
-    progress: Progress,
+    progress: Knowledge,
     packets: &[Packet],
-) -> Result<Progress, ListFault>
+) -> Result<Knowledge, ListFault>
     requires some { 0 < wanted.count }
     requires inside { wanted.first + wanted.count ≤ length packets.now }
     requires before { IsEnough tables.now packets.now wanted.first progress }
@@ -220,7 +220,7 @@ fn write_packets<W: Write>(
     alloc: Global,
     tables: &Tables,
     wanted: Wanted,
-    progress: Progress,
+    progress: Knowledge,
     packets: &[Packet],
 ) -> Result<(), ListFault>
     requires inside { wanted.first + wanted.count ≤ length packets.now }

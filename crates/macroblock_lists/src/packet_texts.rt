@@ -19,7 +19,7 @@ ghost use Rattle.macroblock_lists.specs.Texts.{comment_of, header_text, known_te
 
 use crate::changes::{probabilities_before, write_changes};
 use crate::frames::{Frame, write_frame};
-use crate::known::{Known, Progress, context_of, frame_modes, known_after, size_of, step};
+use crate::known::{Knowledge, Known, context_of, frame_modes, known_after, size_of, step};
 use crate::layouts::{Target, What};
 use crate::listing::ListFault;
 use crate::readings::{marked_first, prove_read};
@@ -29,10 +29,10 @@ use frame_header::{Cause, Header, has_key_tag, read_header, read_header_over};
 use header_bits::read_coded;
 use mode_parser::RecordFacts;
 use pixel_planes::macroblocks;
-use state_cache::Broken;
 use std::alloc::Global;
 use std::io::Write;
 use stream_files::WriteFault;
+use stream_steps::Broken;
 use vp8_tables::Tables;
 
 /// The frame with this header and these records, before which this is known.
@@ -283,7 +283,7 @@ fn write_known_step<W: Write>(
     target: Target,
     known: Option<Known>,
     packet: &[u8],
-) -> Result<Progress, ListFault>
+) -> Result<Knowledge, ListFault>
     requires known { known_before packet.now known ≡ known }
     ensures written { OnOk result (Appends (W.contents w.old) (W.contents w.new) (known_text target.what target.form target.place tables.now known packet.now)) }
     ensures early { IfErr result (IsListEnd (known_text target.what target.form target.place tables.now known packet.now) (W.contents w.old) (W.contents w.new)) }
@@ -309,7 +309,7 @@ pub fn write_packet<W: Write>(
     alloc: Global,
     tables: &Tables,
     target: Target,
-    progress: &Progress,
+    progress: &Knowledge,
     packet: &[u8],
 ) -> Result<(), ListFault>
     ensures written { OnOk result (Appends (W.contents w.old) (W.contents w.new) (packet_text target.what target.form target.place tables.now progress.now packet.now)) }
@@ -334,9 +334,9 @@ pub(crate) fn write_step<W: Write>(
     alloc: Global,
     tables: &Tables,
     target: Target,
-    progress: Progress,
+    progress: Knowledge,
     packet: &[u8],
-) -> Result<Progress, ListFault>
+) -> Result<Knowledge, ListFault>
     ensures written { OnOk result (Appends (W.contents w.old) (W.contents w.new) (packet_text target.what target.form target.place tables.now progress packet.now)) }
     ensures early { IfErr result (IsListEnd (packet_text target.what target.form target.place tables.now progress packet.now) (W.contents w.old) (W.contents w.new)) }
     ensures after { IfOk result (λ after. after ≡ progress_after tables.now target.place progress packet.now) }

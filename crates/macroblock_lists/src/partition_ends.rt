@@ -8,15 +8,15 @@ ghost use Rattle.macroblock_lists.specs.Known.{header_after, known_before, known
 ghost use Rattle.macroblock_lists.specs.PartitionEnds.{bytes_past, bytes_unread, end_of, ends_before, frame_token_ends, no_ends, partition_ends_of, token_ends, zeros_for};
 ghost use Rattle.macroblock_lists.specs.ProofsOnly.{IsFirstEnd, known_with};
 
-use crate::known::{Known, Progress, context_of, frame_modes, known_after, size_of, step};
+use crate::known::{Knowledge, Known, context_of, frame_modes, known_after, size_of, step};
 use crate::readings::{marked_first, prove_read};
 use crate::tokens::{FrameTokens, marked_texts};
 use arrayvec::ArrayVec;
-use frame_header::{Header, Place, has_key_tag, read_header, read_header_over};
+use frame_header::{Header, PartitionRange, has_key_tag, read_header, read_header_over};
 use mode_parser::{Modes, Records};
 use pixel_planes::{NoMemory, macroblocks};
-use state_cache::Broken;
 use std::alloc::Global;
+use stream_steps::Broken;
 use vp8_tables::Tables;
 
 /// Where decoding ends in a partition: past its end, or before it, or just at it.
@@ -110,7 +110,11 @@ fn end_of(zeros: usize, size: usize, left: u128) -> PartitionEnd
 }
 
 /// Where reading ended in each token partition.
-fn token_ends(zeros: usize, partitions: &[Place], tokens: &FrameTokens) -> ArrayVec<PartitionEnd, 8>
+fn token_ends(
+    zeros: usize,
+    partitions: &[PartitionRange],
+    tokens: &FrameTokens,
+) -> ArrayVec<PartitionEnd, 8>
     requires zeros { zeros ≤ 4194368 }
     requires few { length partitions.now ≤ 8 }
     requires each { length tokens.now.readers ≡ length partitions.now }
@@ -184,7 +188,7 @@ fn read_own(
     known: Option<&Known>,
     packet: &[u8],
     first: PartitionEnd,
-) -> Result<(PartitionEnds, Progress), NoMemory>
+) -> Result<(PartitionEnds, Knowledge), NoMemory>
     requires first { IsFirstEnd tables.now (option_copied known) packet.now first }
     ensures ends { IfOk result (λ read. read.0 ≡ partition_ends_of tables.now (option_copied known.entry) packet.now) }
     ensures after { IfOk result (λ read. read.1 ≡ left_at place (known_by tables.now (known_before packet.now (option_copied known.entry)) (header_after tables.now (option_copied known.entry) packet.now))) }
@@ -207,7 +211,7 @@ fn read_coded(
     place: usize,
     known: Option<&Known>,
     packet: &[u8],
-) -> Result<(PartitionEnds, Progress), NoMemory>
+) -> Result<(PartitionEnds, Knowledge), NoMemory>
     ensures ends { IfOk result (λ read. read.0 ≡ partition_ends_of tables.now (option_copied known.entry) packet.now) }
     ensures after { IfOk result (λ read. read.1 ≡ left_at place (known_by tables.now (known_before packet.now (option_copied known.entry)) (header_after tables.now (option_copied known.entry) packet.now))) }
 {
@@ -236,7 +240,7 @@ fn read_known(
     place: usize,
     known: Option<Known>,
     packet: &[u8],
-) -> Result<(PartitionEnds, Progress), NoMemory>
+) -> Result<(PartitionEnds, Knowledge), NoMemory>
     ensures ends { IfOk result (λ read. read.0 ≡ partition_ends_of tables.now known packet.now) }
     ensures after { IfOk result (λ read. read.1 ≡ left_at place (step_of tables.now known packet.now)) }
 {
@@ -257,9 +261,9 @@ pub fn read_packet(
     alloc: Global,
     tables: &Tables,
     place: usize,
-    progress: Progress,
+    progress: Knowledge,
     packet: &[u8],
-) -> Result<(PartitionEnds, Progress), NoMemory>
+) -> Result<(PartitionEnds, Knowledge), NoMemory>
     ensures ends { IfOk result (λ read. read.0 ≡ ends_before tables.now progress packet.now) }
     ensures few { IfOk result (λ read. length read.0.tokens.items ≤ 8) }
     ensures after { IfOk result (λ read. read.1 ≡ progress_after tables.now place progress packet.now) }

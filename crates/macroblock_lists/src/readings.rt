@@ -5,7 +5,7 @@ ghost use Rattle.std.specs.Option.{option_copied};
 ghost use Rattle.vp8_tables.specs.Tables.{TableEntries};
 ghost use Rattle.frame_header.specs.Header.{first_partition};
 ghost use Rattle.frame_header.specs.declared.header.Header.{Header};
-ghost use Rattle.frame_header.specs.declared.places.Place.{Place};
+ghost use Rattle.frame_header.specs.declared.places.PartitionRange.{PartitionRange};
 ghost use Rattle.macroblock_lists.specs.FirstChains.{context_in, zeros_of};
 ghost use Rattle.macroblock_lists.specs.Known.{header_after, known_before};
 ghost use Rattle.macroblock_lists.specs.PartitionEnds.{marked_text};
@@ -50,8 +50,8 @@ pub(crate) fn marked_first(
     known: Option<&Known>,
     packet: &[u8],
 ) -> Result<First, NoMemory>
-    ensures text { IfOk result (λ first. (place : Place) → first_partition (context_in (option_copied known.entry)) packet.now ≡ Ok place → first.text.items ≡ marked_text first.zeros packet.now place) }
-    ensures size { IfOk result (λ first. (place : Place) → first_partition (context_in (option_copied known.entry)) packet.now ≡ Ok place → first.size ≡ place.length) }
+    ensures text { IfOk result (λ first. (place : PartitionRange) → first_partition (context_in (option_copied known.entry)) packet.now ≡ Ok place → first.text.items ≡ marked_text first.zeros packet.now place) }
+    ensures size { IfOk result (λ first. (place : PartitionRange) → first_partition (context_in (option_copied known.entry)) packet.now ≡ Ok place → first.size ≡ place.length) }
     ensures zeros { IfOk result (λ first. (tables : TableEntries) (header : Header) → header_after tables (option_copied known.entry) packet.now ≡ Ok header → first.zeros ≡ zeros_of (option_copied known.entry) packet.now header) }
     ensures few { IfOk result (λ first. first.zeros ≤ 4194368) }
 {

@@ -12,12 +12,12 @@ ghost use Rattle.macroblock_lists.specs.Texts.{broken_text, comment_of, comment_
 use crate::fields::write_header_fields;
 use crate::known::Known;
 use crate::layouts::{Form, Layout};
-use frame_header::{Cause, Header, Place};
+use frame_header::{Cause, Header, PartitionRange};
 use header_bits::{Coded, read_coded};
-use state_cache::Broken;
 use std::io::Write;
 use stream_facts::{write_cause, write_number, write_text};
 use stream_files::WriteFault;
+use stream_steps::Broken;
 use vp8_tables::Tables;
 
 fn write_start<W: Write>(w: &mut W, place: usize) -> Result<(), WriteFault>
@@ -118,14 +118,14 @@ pub(crate) fn write_comment<W: Write>(
     }
 }
 
-fn write_length<W: Write>(w: &mut W, partition: Place) -> Result<(), WriteFault>
+fn write_length<W: Write>(w: &mut W, partition: PartitionRange) -> Result<(), WriteFault>
     ensures { OnOk result (Appends (W.contents w.old) (W.contents w.new) (decimal partition.length)) }
 {
     let length = partition.length;
     write!(w, "{length}").map_err(|_| WriteFault::Write)
 }
 
-fn write_more_lengths<W: Write>(w: &mut W, partitions: &[Place]) -> Result<(), WriteFault>
+fn write_more_lengths<W: Write>(w: &mut W, partitions: &[PartitionRange]) -> Result<(), WriteFault>
     ensures { OnOk result (Appends (W.contents w.old) (W.contents w.new) (flat_map (after_comma (λ partition. decimal partition.length)) partitions.now)) }
 {
     for partition in partitions {
@@ -135,7 +135,7 @@ fn write_more_lengths<W: Write>(w: &mut W, partitions: &[Place]) -> Result<(), W
     Ok(())
 }
 
-fn write_lengths<W: Write>(w: &mut W, partitions: &[Place]) -> Result<(), WriteFault>
+fn write_lengths<W: Write>(w: &mut W, partitions: &[PartitionRange]) -> Result<(), WriteFault>
     ensures { OnOk result (Appends (W.contents w.old) (W.contents w.new) (joined (λ partition. decimal partition.length) partitions.now)) }
 {
     match partitions.split_first() {

@@ -8,7 +8,7 @@ ghost use Rattle.macroblock_lists.specs.PartitionEnds.{marked_start, marked_text
 ghost use Rattle.macroblock_lists.specs.Macroblocks.{left_at};
 
 use bool_coder::Decoder;
-use frame_header::{Header, Place};
+use frame_header::{Header, PartitionRange};
 use mode_parser::{MbMode, Records};
 use pixel_planes::NoMemory;
 use reference_frames::{has_y2, partition_readers};
@@ -61,7 +61,7 @@ pub(crate) fn marked_texts(
     alloc: Global,
     zeros: usize,
     packet: &[u8],
-    partitions: &[Place],
+    partitions: &[PartitionRange],
 ) -> Result<Vec<Vec<u8>>, NoMemory>
     requires few { zeros ≤ 4194368 }
     requires inside { All (λ place. place.start + place.length ≤ length packet.now) partitions.now }
@@ -106,7 +106,7 @@ impl<'a> FrameTokens<'a> {
     pub(crate) fn new(
         alloc: Global,
         packet: &'a [u8],
-        partitions: &[Place],
+        partitions: &[PartitionRange],
         columns: usize,
     ) -> Result<FrameTokens<'a>, NoMemory>
         requires { All (λ place. place.start + place.length ≤ length packet.now) partitions.now }

@@ -4,3 +4,4 @@ pub mod Links
 pub mod Logs
 pub mod Places
 pub mod Steps
+pub mod Both

@@ -1,5 +1,5 @@
 -- The calls of a save, in order: which ones a save makes, and which ones it made when one of them failed.
-use Rattle.std.specs.Prelude.{◌≡◌, ℕ, List, [], ◌∷◌, ◌++◌, Option}
+use Rattle.std.specs.Prelude.{◌≡◌, ℕ, Bool, true, false, List, [], ◌∷◌, ◌++◌, Option}
 use Rattle.std.specs.Io.KnownBytes.{Appends}
 use Rattle.std.specs.IoError.{error_kind}
 use Rattle.std.specs.declared.io.ErrorKind.{ErrorKind}
@@ -39,10 +39,25 @@ failed_steps known unsaved.Write = Made ∷ []
 failed_steps known (unsaved.Sync error) = Made ∷ Failed Sync (error_kind error) ∷ []
 failed_steps known (unsaved.Rename error) = Made ∷ Synced known ∷ Failed Rename (error_kind error) ∷ []
 
--- a save failed for this reason, and nothing was removed yet
-pub record IsPut (made : Option (List ℕ)) (text : List ℕ) (steps : List Step) (why : Unsaved) : Type 0 where
+-- whether the new file could not replace the file
+abbrev pub is_unreplaced : Unsaved → Bool
+is_unreplaced unsaved.NoMemory = false
+is_unreplaced (unsaved.Make error) = false
+is_unreplaced unsaved.Write = false
+is_unreplaced (unsaved.Sync error) = false
+is_unreplaced (unsaved.Rename error) = true
+
+-- the new file, whose bytes were `made` when it was made, took the text, and was brought to the disk
+pub record IsWritten (made : Option (List ℕ)) (text : List ℕ) (steps : List Step) : Type 0 where
   pub known : Option (List ℕ)
   pub whole : Appends made known text
+  pub are : steps ≡ Made ∷ Synced known ∷ []
+
+-- it did not take the text, or was not brought to the disk, for this reason, and nothing was removed yet
+pub record IsUnwritten (made : Option (List ℕ)) (text : List ℕ) (steps : List Step) (why : Unsaved) : Type 0 where
+  pub known : Option (List ℕ)
+  pub whole : Appends made known text
+  pub early : is_unreplaced why ≡ false
   pub are : steps ≡ failed_steps known why
 
 -- the new file was removed, or that failed
@@ -60,3 +75,8 @@ pub record IsGivenUp (made : Option (List ℕ)) (text : List ℕ) (steps : List 
   pub known : Option (List ℕ)
   pub whole : Appends made known text
   pub abandoned : IsAbandoned (failed_steps known why) steps
+
+-- after these calls the new file could not replace the file, for this reason, and was removed, or that failed too
+abbrev pub IsUnrenamed : List Step → List Step → Unsaved → Type 0
+IsUnrenamed steps steps' (unsaved.Rename error) = IsAbandoned (steps ++ Failed Rename (error_kind error) ∷ []) steps'
+IsUnrenamed steps steps' _ = ⊥

@@ -1,12 +1,14 @@
 // Saving on the system's files.
-ghost use Rattle.std.specs.Prelude.{◌≡◌, ◌∷◌, []};
+ghost use Rattle.std.specs.Prelude.{◌≡◌, ◌∷◌, [], OnOk};
 ghost use Rattle.output_files.specs.Logs.{steps_of};
 ghost use Rattle.output_files.specs.Steps.Step.{Made};
 
+use crate::both::finish_both;
 use crate::links::{followed, parts_of};
 use crate::log::Log;
 use crate::saving::{
-    BYTES_AT_ONCE, Call, SavePlace, SavedFiles, SavedText, Unsaved, abandon, finish,
+    BYTES_AT_ONCE, Call, OneUnsaved, Save, SavePlace, SavedFiles, SavedText, Unsaved, abandon,
+    finish,
 };
 use std::alloc::Global;
 use std::fs::{self, File, Metadata, OpenFile, OpenOptions};
@@ -236,6 +238,81 @@ fn save_as_it_is<R: Files, T: SavedText>(
     text.write_to(&mut saved)
 }
 
+/// Saves a text, as it was begun.
+fn finish_target<R: Files, T: SavedText>(
+    files: &R,
+    alloc: Global,
+    save: Save<'_, Target<R::File>, T>,
+) -> Result<(), Unsaved> {
+    let Save { path, begun, text } = save;
+    match begun {
+        Target::AsItIs => save_as_it_is(files, alloc, path, text),
+        Target::File(begun) => {
+            let (mut place, file) = place_begun(files, alloc, begun);
+            finish(alloc, &mut place, file, text)
+        }
+    }
+}
+
+/// Gives up a save: the new file is removed, if one was made.
+fn abandon_target<R: Files>(files: &R, alloc: Global, begun: Target<R::File>) {
+    if let Target::File(begun) = begun {
+        let (mut place, _) = place_begun(files, alloc, begun);
+        abandon(&mut place);
+    }
+}
+
+/// Saves two texts, as they were begun: a device or a pipe is written before a file is replaced.
+fn finish_targets<R: Files, T: SavedText, U: SavedText>(
+    files: &R,
+    alloc: Global,
+    first: Save<'_, Target<R::File>, T>,
+    second: Save<'_, Target<R::File>, U>,
+) -> Result<(), OneUnsaved> {
+    let Save {
+        path: first_path,
+        begun: first_begun,
+        text: first_text,
+    } = first;
+    let Save {
+        path: second_path,
+        begun: second_begun,
+        text: second_text,
+    } = second;
+    match (first_begun, second_begun) {
+        (Target::File(one), Target::File(other)) => {
+            let (mut place, file) = place_begun(files, alloc, one);
+            let (mut next, next_file) = place_begun(files, alloc, other);
+            let texts = (first_text, second_text);
+            finish_both(alloc, &mut place, &mut next, (file, next_file), texts)
+        }
+        (Target::AsItIs, begun) => {
+            if let Err(why) = save_as_it_is(files, alloc, first_path, first_text) {
+                abandon_target(files, alloc, begun);
+                return Err(OneUnsaved::First(why));
+            }
+            let rest = Save {
+                path: second_path,
+                begun,
+                text: second_text,
+            };
+            finish_target(files, alloc, rest).map_err(OneUnsaved::Second)
+        }
+        (begun, Target::AsItIs) => {
+            if let Err(why) = save_as_it_is(files, alloc, second_path, second_text) {
+                abandon_target(files, alloc, begun);
+                return Err(OneUnsaved::Second(why));
+            }
+            let rest = Save {
+                path: first_path,
+                begun,
+                text: first_text,
+            };
+            finish_target(files, alloc, rest).map_err(OneUnsaved::First)
+        }
+    }
+}
+
 impl SavedFiles for HostRuntime {
     type Begun = Target<File>;
 
@@ -250,20 +327,23 @@ impl SavedFiles for HostRuntime {
         begun: Target<File>,
         text: &T,
     ) -> Result<(), Unsaved> {
-        match begun {
-            Target::AsItIs => save_as_it_is(self, alloc, path, text),
-            Target::File(begun) => {
-                let (mut place, file) = place_begun(self, alloc, begun);
-                finish(alloc, &mut place, file, text)
-            }
-        }
+        finish_target(self, alloc, Save { path, begun, text })
+    }
+
+    fn finish_both<T: SavedText, U: SavedText>(
+        &self,
+        alloc: Global,
+        first: Save<'_, Target<File>, T>,
+        second: Save<'_, Target<File>, U>,
+    ) -> Result<(), OneUnsaved>
+        ensures first { OnOk result (Unit {0}) }
+        ensures second { OnOk result (Unit {0}) }
+    {
+        finish_targets(self, alloc, first, second)
     }
 
     fn abandon_save(&self, alloc: Global, begun: Target<File>) {
-        if let Target::File(begun) = begun {
-            let (mut place, _) = place_begun(self, alloc, begun);
-            abandon(&mut place);
-        }
+        abandon_target(self, alloc, begun);
     }
 }
 

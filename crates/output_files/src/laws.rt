@@ -1,7 +1,9 @@
 // Laws on saves.
-ghost use Rattle.std.specs.Prelude.{◌≡◌, [], ℕ, List, None, Some, take};
+ghost use Rattle.std.specs.Prelude.{◌≡◌, [], ℕ, List, None, Some, take, true};
+ghost use Rattle.output_files.specs.Both.{AreGivenUp, SaveCalls, is_first_kept};
 ghost use Rattle.output_files.specs.Disks.{Disk, IsNeverLost, after_all};
 ghost use Rattle.output_files.specs.Steps.{IsGivenUp, IsSaved, Step};
+ghost use Rattle.output_files.specs.declared.saving.OneUnsaved.{OneUnsaved};
 ghost use Rattle.output_files.specs.declared.saving.Unsaved.{Unsaved};
 
 #[tactic(auto, using(crate::proofs::Saves::saved_end))]
@@ -14,4 +16,11 @@ pub fn saved_is_whole()
 /// A save that failed: at each moment, and at the end, the file is the old one.
 pub fn given_up_changes_nothing()
     ensures { (disk : Disk) (text : List ℕ) (steps : List Step) (why : Unsaved) → IsGivenUp (Some []) text steps why → (n : ℕ) → (after_all disk (take n steps)).file ≡ disk.file }
+{}
+
+/// Two saves of which one failed: at each moment, and at the end, the second file is the old one, and so is the first one, unless the second new
+/// file could not replace its file.
+pub fn given_up_changes_neither()
+    ensures second { (disk : Disk) (first second : SaveCalls) (why : OneUnsaved) → second.made ≡ Some [] → AreGivenUp first second why → (n : ℕ) → (after_all disk (take n second.steps)).file ≡ disk.file }
+    ensures first { (disk : Disk) (first second : SaveCalls) (why : OneUnsaved) → first.made ≡ Some [] → is_first_kept why ≡ true → AreGivenUp first second why → (n : ℕ) → (after_all disk (take n first.steps)).file ≡ disk.file }
 {}

@@ -1,6 +1,7 @@
 //! The files that a program writes: a file that is replaced by a whole new one, and what a path names.
 #![tactic(auto)]
 
+mod both;
 mod counted;
 mod host;
 mod laws;
@@ -9,8 +10,12 @@ mod log;
 mod places;
 mod saving;
 
+pub use both::finish_both;
 pub use counted::{Counted, Taken};
 pub use host::{Begun, NewFile, Replaced, Target};
 pub use log::Log;
 pub use places::{Kind, Place, place_of};
-pub use saving::{Call, SavePlace, SavedFiles, SavedText, Unsaved, abandon, finish};
+pub use saving::{
+    Call, OneUnsaved, Save, SavePlace, SavedFiles, SavedText, Unsaved, abandon, finish, replace,
+    write_new,
+};

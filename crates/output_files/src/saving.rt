@@ -1,9 +1,9 @@
 // Saving a text as a file, so that the file is the old one or the whole new one at each moment.
-ghost use Rattle.std.specs.Prelude.{◌≡◌, ◌<◌, ◌⊎◌, ◌++◌, ◌∷◌, [], ℕ, List, IfErr, IfOk, OnOk, length};
+ghost use Rattle.std.specs.Prelude.{◌≡◌, ◌+◌, ◌<◌, ◌⊎◌, ◌++◌, ◌∷◌, [], ℕ, List, IfErr, IfOk, OnOk, length, false};
 ghost use Rattle.std.specs.Io.Buffered.{writer_buffer, writer_contents, writer_inner};
 ghost use Rattle.std.specs.Io.KnownBytes.{Appends, IsAtEnd};
 ghost use Rattle.std.specs.IoError.{error_kind};
-ghost use Rattle.output_files.specs.Steps.{IsAbandoned, IsGivenUp, IsPut, IsSaved, Step, failed_steps, most_steps};
+ghost use Rattle.output_files.specs.Steps.{IsAbandoned, IsGivenUp, IsSaved, IsUnrenamed, IsUnwritten, IsWritten, Step, failed_steps, is_unreplaced, most_steps};
 ghost use Rattle.output_files.specs.Steps.Step.{Made, Synced, Renamed, Removed, Failed};
 
 use std::alloc::Global;
@@ -75,6 +75,14 @@ pub enum Unsaved {
     Rename(io::Error),
 }
 
+/// Which of two texts was not saved first, and why. The other one was not saved either, unless this is the second one and its new file could not
+/// replace its file.
+#[derive(Clone, Copy, Debug)]
+pub enum OneUnsaved {
+    First(Unsaved),
+    Second(Unsaved),
+}
+
 /// A text that is saved.
 pub trait SavedText {
     /// Its bytes.
@@ -82,11 +90,19 @@ pub trait SavedText {
 
     /// Writes it through a buffer, and flushes the buffer.
     ///
-    /// `Write` if the writer returns an error.
+    /// `Write` if the writer returns an error, and `NoMemory` if memory for the text is refused.
     fn write_to<W: Write + Drop>(&self, w: &mut BufWriter<W>) -> Result<(), Unsaved>
         ensures written { OnOk result (Appends (writer_contents W.contents w.old) (writer_contents W.contents w.new) (text self.now)) }
         ensures flushed { OnOk result (writer_buffer w.new ≡ []) }
-        ensures fault { IfErr result (λ why. why ≡ Unsaved.Write) };
+        ensures fault { IfErr result (λ why. (why ≡ Unsaved.NoMemory) ⊎ (why ≡ Unsaved.Write)) };
+}
+
+/// A save that is begun at a path, and its text.
+#[derive(Drop)]
+pub struct Save<'a, B, T> {
+    pub path: &'a str,
+    pub begun: B,
+    pub text: &'a T,
 }
 
 /// Files that are saved by their paths.
@@ -116,6 +132,17 @@ pub trait SavedFiles: Files {
     ) -> Result<(), Unsaved>
         ensures { OnOk result (is_saved_at self.now path.now (T.text text.now)) };
 
+    /// Saves two texts at two paths, as they were begun there: both are whole and on the disk before either replaces a file. If that fails, both
+    /// files are as they were, unless only the second could not be replaced.
+    fn finish_both<T: SavedText, U: SavedText>(
+        &self,
+        alloc: Global,
+        first: Save<'_, Self::Begun, T>,
+        second: Save<'_, Self::Begun, U>,
+    ) -> Result<(), OneUnsaved>
+        ensures first { OnOk result (is_saved_at self.now first.entry.path.now (T.text first.entry.text.now)) }
+        ensures second { OnOk result (is_saved_at self.now second.entry.path.now (U.text second.entry.text.now)) };
+
     /// Gives up a save: the new file is removed, if one was made.
     fn abandon_save(&self, alloc: Global, begun: Self::Begun);
 }
@@ -136,7 +163,7 @@ fn write_whole<W: Write + Drop, T: SavedText>(
     Ok(buffered)
 }
 
-/// Writes a text into the new file, brings it to the disk, and renames the new file over the file.
+/// Writes a text into the new file, and brings it to the disk.
 #[tactic(auto, using(crate::proofs::Unwritten::unwritten))]
 fn put<P: SavePlace, T: SavedText>(
     alloc: Global,
@@ -145,12 +172,46 @@ fn put<P: SavePlace, T: SavedText>(
     text: &T,
 ) -> Result<(), Unsaved>
     requires made { P.steps place.old ≡ Made ∷ [] }
-    ensures saved { OnOk result (IsSaved (P.File.contents file) (T.text text.now) (P.steps place.new)) }
-    ensures failed { IfErr result (IsPut (P.File.contents file) (T.text text.now) (P.steps place.new)) }
+    ensures written { OnOk result (IsWritten (P.File.contents file) (T.text text.now) (P.steps place.new)) }
+    ensures failed { IfErr result (IsUnwritten (P.File.contents file) (T.text text.now) (P.steps place.new)) }
 {
     let whole = write_whole(alloc, file, text)?;
-    place.sync(whole.get_ref()).map_err(Unsaved::Sync)?;
-    place.rename().map_err(Unsaved::Rename)
+    place.sync(whole.get_ref()).map_err(Unsaved::Sync)
+}
+
+/// Writes a text into the new file, which was made, and brings it to the disk. If one of these fails, the new file is removed, and the first
+/// error is returned.
+pub fn write_new<P: SavePlace, T: SavedText>(
+    alloc: Global,
+    place: &mut P,
+    file: P::File,
+    text: &T,
+) -> Result<(), Unsaved>
+    requires made { P.steps place.old ≡ Made ∷ [] }
+    ensures written { OnOk result (IsWritten (P.File.contents file) (T.text text.now) (P.steps place.new)) }
+    ensures given_up { IfErr result (IsGivenUp (P.File.contents file) (T.text text.now) (P.steps place.new)) }
+    ensures why { IfErr result (λ why. is_unreplaced why ≡ false) }
+{
+    let put = put(alloc, place, file, text);
+    if put.is_err() {
+        abandon(place);
+    }
+    put
+}
+
+/// Renames the new file, which is whole and on the disk, over the file. If that fails, the new file is removed.
+pub fn replace<P: SavePlace>(place: &mut P) -> Result<(), Unsaved>
+    requires room { length (P.steps place.old) + 1 < most_steps }
+    ensures replaced { OnOk result (P.steps place.new ≡ P.steps place.old ++ Renamed ∷ []) }
+    ensures given_up { IfErr result (IsUnrenamed (P.steps place.old) (P.steps place.new)) }
+{
+    match place.rename() {
+        Ok(()) => Ok(()),
+        Err(error) => {
+            abandon(place);
+            Err(Unsaved::Rename(error))
+        }
+    }
 }
 
 /// Ends a save whose new file was made: the text is written into it, it is brought to the disk, and it replaces the file. If one of these
@@ -165,11 +226,8 @@ pub fn finish<P: SavePlace, T: SavedText>(
     ensures saved { OnOk result (IsSaved (P.File.contents file) (T.text text.now) (P.steps place.new)) }
     ensures given_up { IfErr result (IsGivenUp (P.File.contents file) (T.text text.now) (P.steps place.new)) }
 {
-    let ended = put(alloc, place, file, text);
-    if ended.is_err() {
-        abandon(place);
-    }
-    ended
+    write_new(alloc, place, file, text)?;
+    replace(place)
 }
 
 /// Removes the new file of a save that is given up. If that fails, it remains.

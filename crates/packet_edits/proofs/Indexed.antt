@@ -8,7 +8,7 @@ use Rattle.chunked_list.specs.Moves.{moved, with_place}
 use Rattle.packet_times.specs.declared.durations.Duration.{Duration}
 use Rattle.packet_edits.specs.declared.entry.Entry.{Entry}
 use Rattle.packet_edits.specs.declared.packet_index.PacketIndex.{PacketIndex}
-use Rattle.show_bits.specs.ShowBits.{has_show_bit}
+use Rattle.frame_header.specs.ShowBits.{has_show_bit}
 use Rattle.packet_edits.specs.declared.fault.EditFault.TheVariants.{NoBit}
 use Rattle.packet_edits.specs.Edits.{Listing, numbered, refused_show_bit, showing}
 use Rattle.packet_edits.specs.Indexes.{appended_to, inserted_to, moved_in, removed_from, set_in}

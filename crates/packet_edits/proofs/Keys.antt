@@ -52,6 +52,10 @@ key_flag_case (e ∷ es) (suc p) o here = key_flag_case es p o here
 pub key_flag : (es : List Entry) (p : ℕ) → flag_at (map (λ (e : Entry). has_key_tag e.bytes) es) p ≡ key_tag_at (map (λ (e : Entry). e.bytes) es) p
 key_flag es p = key_flag_case es p (slice_get es p) refl
 
+-- a flag that is read
+pub flag_got : (flags : List Bool) (p : ℕ) (flag : Bool) → slice_get flags p ≡ Some flag → flag ≡ flag_at flags p
+flag_got flags p flag here = rw here refl
+
 -- the size before an index, by the last packet with a key tag that a store finds
 pub size_none : (list : Listing) (at end : ℕ) → end ≡ min at (length list.entries) → HoldsNowhere (key_tag_at (stream_of list)) 0 end → size_at at list ≡ None
 size_none list at end is none =

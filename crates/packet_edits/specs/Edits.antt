@@ -6,7 +6,7 @@ pub use Rattle.chunked_list.specs.Moves.{moved, with_place}
 use Rattle.stream_files.specs.declared.packets.Packet.{Packet}
 use Rattle.packet_times.specs.Durations.{duration_before}
 use Rattle.packet_times.specs.declared.durations.Duration.{Duration}
-use Rattle.show_bits.specs.ShowBits.{has_show_bit, with_show_bit}
+use Rattle.frame_header.specs.ShowBits.{has_show_bit, with_show_bit}
 use Rattle.packet_edits.specs.declared.entry.Entry.{Entry}
 use Rattle.packet_edits.specs.declared.fault.EditFault.{EditFault}
 use Rattle.packet_edits.specs.declared.fault.EditFault.TheVariants.{Place, Full, Spent, NoBit}

@@ -37,3 +37,14 @@ impl EditFault {
         }
     }
 }
+
+/// Why packets are not saved with new time stamps.
+#[derive(Clone, Copy, Debug, PartialEq, Eq, Error)]
+pub enum RestampFault {
+    /// The writer returned an error.
+    #[error("the writer returned an error")]
+    Write,
+    /// Memory was refused.
+    #[error("memory was refused")]
+    NoMemory,
+}

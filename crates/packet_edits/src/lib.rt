@@ -12,5 +12,5 @@ mod starts;
 mod store;
 
 pub use entry::Entry;
-pub use fault::EditFault;
+pub use fault::{EditFault, RestampFault};
 pub use store::Store;

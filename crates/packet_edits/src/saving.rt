@@ -1,12 +1,18 @@
-ghost use Rattle.std.specs.Prelude.{◌≡◌, OnOk, map};
+ghost use Rattle.std.specs.Prelude.{◌≡◌, ◌++◌, [], ◌∷◌, List, OnOk, map};
 ghost use Rattle.std.specs.Io.KnownBytes.{Appends};
 ghost use Rattle.stream_files.specs.Texts.{record_text, records_text};
-ghost use Rattle.packet_edits.specs.Saved.{packet_of, padded_if, padded_packet_of, restamped};
+ghost use Rattle.packet_edits.specs.Saved.{packet_of, padded_if, padded_packet_of, restamped, shown_durations};
+ghost use Rattle.packet_times.specs.Clocks.{HasShown};
+ghost use Rattle.packet_times.specs.declared.durations.Duration.{Duration};
+ghost use Rattle.stream_files.specs.declared.streams.Head.{Head};
 
 use crate::entry::Entry;
+use crate::fault::RestampFault;
 use chunked_list::ChunkedList;
-use frame_header::ends_empty;
-use packet_times::stamp_after;
+use frame_header::{ends_empty, is_shown};
+use packet_times::Clock;
+use pixel_planes::NoMemory;
+use std::alloc::Global;
 use std::io::Write;
 use stream_files::{Head, WriteFault, ivf_packet, ivf_padded_packet};
 
@@ -65,21 +71,35 @@ fn write_stamped<W: Write>(
     }
 }
 
+/// Shows a packet's frame for its duration, if the packet is shown.
+fn pass(clock: &mut Clock, entry: &Entry) -> Result<(), NoMemory>
+    ensures { OnOk result ((head : Head) (durations : List Duration) → HasShown head durations clock.old → HasShown head (durations ++ shown_durations (entry.now ∷ [])) clock.new) }
+{
+    if is_shown(entry.bytes.as_slice()) {
+        clock.show(entry.duration)?;
+    }
+    Ok(())
+}
+
 /// Writes the records of packets in sequence, with new time stamps in the units of a head.
 pub(crate) fn write_restamped_records<W: Write>(
     w: &mut W,
+    alloc: Global,
     entries: &ChunkedList<Entry>,
     head: Head,
     pads: bool,
-) -> Result<(), WriteFault>
+) -> Result<(), RestampFault>
     ensures { OnOk result (Appends (W.contents w.old) (W.contents w.new) (records_text (restamped pads head entries.now))) }
 {
-    let mut stamp = 0;
+    let mut clock = Clock::starting(alloc, head);
     for i in 0..entries.len() {
         let entry = entries.get(i);
-        let bytes = entry.bytes.as_slice();
-        write_stamped(w, stamp, bytes, pads)?;
-        stamp = stamp_after(stamp, bytes, entry.duration.units_in(head));
+        let Ok(()) = write_stamped(w, clock.stamp(), entry.bytes.as_slice(), pads) else {
+            return Err(RestampFault::Write);
+        };
+        let Ok(()) = pass(&mut clock, entry) else {
+            return Err(RestampFault::NoMemory);
+        };
     }
     Ok(())
 }

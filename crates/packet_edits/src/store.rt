@@ -6,16 +6,15 @@ ghost use Rattle.packet_edits.specs.Marks.{marks_pushed};
 ghost use Rattle.stream_files.specs.Texts.{written_text};
 
 use crate::entry::Entry;
-use crate::fault::EditFault;
+use crate::fault::{EditFault, RestampFault};
 use crate::flag_index::FlagIndex;
 use crate::marks::{mark, move_marked};
 use crate::packet_index::PacketIndex;
 use crate::saving::{write_padded_records, write_records, write_restamped_records};
 use chunked_list::ChunkedList;
-use frame_header::key_size;
+use frame_header::{ShowFault, key_size, with_show_bit};
 use packet_times::{Duration, durations_of};
 use pixel_planes::NoMemory;
-use show_bits::{ShowFault, with_show_bit};
 use std::alloc::Global;
 use std::io::Write;
 use std::marker::Model;
@@ -400,6 +399,14 @@ impl Store {
         self.entries.get(i).bytes.as_slice()
     }
 
+    /// The same bytes, which may be shared without a copy.
+    pub fn bytes(&self, i: usize) -> &Bytes
+        requires { i < length self.now.list.entries }
+        ensures { slice_get (stream_of self.now.list) i ≡ Some result.now }
+    {
+        &self.entries.get(i).bytes
+    }
+
     /// The time stamp of the packet at index `i`, which exists, in units of `scale / rate` seconds.
     pub fn stamp(&self, i: usize) -> u64
         requires { i < length self.now.list.entries }
@@ -456,6 +463,14 @@ impl Store {
         ensures { IsFirst (flag_at self.now.marks) from end result }
     {
         self.marks.first_in(from, end)
+    }
+
+    /// Whether the packet at index `place`, which exists, has a key tag. The packet is not read.
+    pub fn has_key_tag(&self, place: usize) -> bool
+        requires { place < length self.now.list.entries }
+        ensures { result ≡ key_tag_at (stream_of self.now.list) place }
+    {
+        self.index.keys.get(place)
     }
 
     /// The index of the first packet with a key tag from index `from` up to `end`, which is at most
@@ -538,21 +553,25 @@ impl Store {
     }
 
     /// Writes the packets as an IVF file with new time stamps, in the units of its head: the first shown packet has time
-    /// stamp 0, and each other shown one that of the shown packet before it plus its duration, at most
-    /// 18,446,744,073,709,551,615. A hidden packet has the time stamp of the next shown one. With `pads` packets are padded
-    /// as in [`save_padded`](Store::save_padded). It allocates nothing.
+    /// stamp 0, and each other one the time after the shown packets before it, or one more than the time stamp before it if that is
+    /// greater, at most 18,446,744,073,709,551,615. For the time the units of the durations are summed for each time base, and each sum is
+    /// rounded half up. A hidden packet has the time stamp of the next shown one. With `pads` packets are padded as in
+    /// [`save_padded`](Store::save_padded).
     ///
-    /// `Write` if the writer returns an error. How much was written is then not known.
+    /// `Write` if the writer returns an error, and `NoMemory` if memory for the sums of the time bases is refused. How much was written is
+    /// then not known.
     pub fn save_restamped<W: Write>(
         &self,
         w: &mut W,
         head: Head,
         pads: bool,
-    ) -> Result<(), WriteFault>
+    ) -> Result<(), RestampFault>
         ensures { OnOk result (Appends (W.contents w.old) (W.contents w.new) (written_text head (restamped pads head self.now.list.entries))) }
     {
-        ivf_start(w, head, self.len() as u32)?;
-        write_restamped_records(w, &self.entries, head, pads)
+        let Ok(()) = ivf_start(w, head, self.len() as u32) else {
+            return Err(RestampFault::Write);
+        };
+        write_restamped_records(w, self.alloc, &self.entries, head, pads)
     }
 }
 

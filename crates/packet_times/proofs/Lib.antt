@@ -1,2 +1,7 @@
 pub mod Middle
-pub mod AddedUp
+pub mod Rounding
+pub mod Counted
+pub mod Units
+pub mod ShownStamps
+pub mod Near
+pub mod Examples

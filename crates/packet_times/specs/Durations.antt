@@ -1,7 +1,6 @@
 -- How long packets are shown.
-use Rattle.std.specs.Prelude.{ℕ, ◌-◌, ◌*◌, ◌/◌, ◌^◌, ◌==◌, ◌||◌, nat_lt, max, min, if◌then◌else◌, List, [], ◌∷◌, Option, Some, None}
+use Rattle.std.specs.Prelude.{ℕ, ◌-◌, ◌==◌, ◌||◌, nat_lt, if◌then◌else◌, List, [], ◌∷◌, Option, Some, None}
 use Rattle.frame_header.specs.Tags.{is_shown}
-use Rattle.stream_files.specs.declared.ivf.Head.{Head}
 use Rattle.stream_files.specs.declared.packets.Packet.{Packet}
 use Rattle.packet_times.specs.declared.durations.Duration.{Duration}
 
@@ -35,14 +34,6 @@ durations_of usual (packet ∷ packets) = duration_before usual packet packets �
 -- a frame rate and its scale; 30 frames a second if one of the numbers is 0, as the first line of a YUV4MPEG2 stream has it
 abbrev pub frame_rate : ℕ → ℕ → ℕ × ℕ
 frame_rate rate scale = if rate == 0 || scale == 0 then (30, 1) else (rate, scale)
-
--- units of one frame rate as units of another, rounded down
-abbrev pub rescaled : ℕ → ℕ × ℕ → ℕ × ℕ → ℕ
-rescaled units from to = units * (from.1 * to.0) / (from.0 * to.1)
-
--- a duration in units of a head: at least 1, and at most the greatest time stamp
-abbrev pub units_in : Head → Duration → ℕ
-units_in head duration = max 1 (min (2 ^ 64 - 1) (rescaled duration.units (frame_rate duration.rate duration.scale) (frame_rate head.rate head.scale)))
 
 -- a frame of 30 a second
 abbrev pub one_frame : Duration

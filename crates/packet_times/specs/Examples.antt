@@ -1,5 +1,6 @@
 -- Packets for worked examples.
 use Rattle.std.specs.Prelude.{ℕ, List, [], ◌∷◌}
+use Rattle.stream_files.specs.declared.streams.Head.{Head}
 use Rattle.stream_files.specs.declared.packets.Packet.{Packet}
 use Rattle.packet_times.specs.declared.durations.Duration.{Duration}
 
@@ -17,3 +18,11 @@ frame stamp packet = record { stamp = stamp; bytes = packet }
 -- a number of units of 1/20 second
 abbrev pub twenty : ℕ → Duration
 twenty units = record { units = units; rate = 20; scale = 1 }
+
+-- a number of units of 1/30 second
+abbrev pub thirty : ℕ → Duration
+thirty units = record { units = units; rate = 30; scale = 1 }
+
+-- a head with this frame rate
+abbrev pub head_of : ℕ → ℕ → Head
+head_of rate scale = record { width = 0; height = 0; rate = rate; scale = scale }

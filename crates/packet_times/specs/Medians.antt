@@ -1,7 +1,7 @@
 -- The step between frames of a file.
 use Rattle.std.specs.Prelude.{ℕ, ◌-◌, ◌*◌, ◌&&◌, Bool, nat_le, nat_lt, max, min, if◌then◌else◌, List, [], ◌∷◌, ◌++◌, length, filter, count_by, Option, Some, None}
 use Rattle.stream_files.specs.declared.packets.Packet.{Packet}
-use Rattle.stream_files.specs.declared.ivf.Head.{Head}
+use Rattle.stream_files.specs.declared.streams.Head.{Head}
 use Rattle.frame_header.specs.Tags.{is_shown}
 use Rattle.packet_times.specs.declared.durations.Duration.{Duration}
 

@@ -1,11 +1,11 @@
 // Durations of packets.
 ghost use Rattle.std.specs.Prelude.{◌≡◌, ◌<◌, IfOk};
-ghost use Rattle.packet_times.specs.Durations.{in_units_of, durations_of, frame_rate, next_stamp, shown_or, units_between, units_in};
+ghost use Rattle.packet_times.specs.Durations.{durations_of, frame_rate, in_units_of, shown_or, units_between};
 
 use frame_header::is_shown;
 use pixel_planes::NoMemory;
 use std::alloc::Global;
-use stream_files::{Head, Packet};
+use stream_files::Packet;
 
 /// How long a packet is shown: `units * scale / rate` seconds. A rate or scale of 0 is one of 30 frames a second, as
 /// in the first line of a YUV4MPEG2 stream.
@@ -17,7 +17,7 @@ pub struct Duration {
 }
 
 /// A frame rate and its scale, neither of them 0.
-fn frame_rate(rate: u32, scale: u32) -> (u32, u32)
+pub(crate) fn frame_rate(rate: u32, scale: u32) -> (u32, u32)
     ensures value { result ≡ frame_rate rate scale }
     ensures positive { (0 < result.0) × (0 < result.1) }
 {
@@ -29,19 +29,6 @@ fn frame_rate(rate: u32, scale: u32) -> (u32, u32)
 }
 
 impl Duration {
-    /// The duration in units of a file with this head, `scale / rate` seconds each: rounded down, and at least 1. It is
-    /// at most 18,446,744,073,709,551,615.
-    pub fn units_in(self, head: Head) -> u64
-        ensures { result ≡ units_in head self }
-    {
-        let (rate, scale) = frame_rate(self.rate, self.scale);
-        let (head_rate, head_scale) = frame_rate(head.rate, head.scale);
-        let from = u128::from(scale) * u128::from(head_rate);
-        let to = u128::from(rate) * u128::from(head_scale);
-        let units = u128::from(self.units) * from / to;
-        units.clamp(1, u128::from(u64::MAX)) as u64
-    }
-
     /// This many units, or this duration if there is no number.
     fn with_units(self, units: Option<u64>) -> Duration
         ensures { result ≡ in_units_of self units }

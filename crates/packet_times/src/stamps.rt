@@ -1,58 +1,62 @@
-// Time stamps from durations.
-ghost use Rattle.std.specs.Prelude.{◌≡◌, IfOk, map};
-ghost use Rattle.packet_times.specs.Stamps.{stamp_after, stamped, units_after, units_first};
+// Packets with the time stamps of frames.
+ghost use Rattle.std.specs.Prelude.{◌≡◌, IfOk};
+ghost use Rattle.packet_times.specs.Stamps.{first_stamp, stamped, stamps_after};
+ghost use Rattle.packet_times.specs.Sums.{stamps_of};
 
+use crate::clocks::Clock;
+use crate::durations::Duration;
 use frame_header::is_shown;
 use pixel_planes::NoMemory;
 use std::alloc::Global;
-use stream_files::{Bytes, Packet, Packets};
+use stream_files::{Bytes, Head, Packet, Packets};
 
-/// The time stamp after a packet with this time stamp: later by its units if it is shown. It is at most
-/// 18,446,744,073,709,551,615.
-pub fn stamp_after(stamp: u64, packet: &[u8], units: u64) -> u64
-    ensures { result ≡ stamp_after stamp packet.now units }
+/// The time stamps of frames with these durations in a file with this head, and that of a frame after them. The first one is 0, and each
+/// other one is the time after the frames before it, or one more than the time stamp before it if that is greater, and at most
+/// 18,446,744,073,709,551,615. In the time the units of the durations are summed for each time base, and each sum is rounded half up.
+pub fn stamps_of(alloc: Global, head: Head, durations: &[Duration]) -> Result<Vec<u64>, NoMemory>
+    ensures { IfOk result (λ stamps. stamps.items ≡ stamps_of head durations.now) }
 {
-    if is_shown(packet) {
-        stamp.saturating_add(units)
-    } else {
-        stamp
+    let mut stamps = Vec::new(alloc);
+    let mut clock = Clock::starting(alloc, head);
+    for duration in durations {
+        stamps.push(clock.stamp())?;
+        clock.show(*duration)?;
     }
+    stamps.push(clock.stamp())?;
+    Ok(stamps)
 }
 
 /// The number at the front, or 0.
-fn units_first(units: &[u64]) -> u64
-    ensures { result ≡ units_first units.now }
+fn first_stamp(stamps: &[u64]) -> u64
+    ensures { result ≡ first_stamp stamps.now }
 {
-    match units.first() {
+    match stamps.first() {
         Some(first) => *first,
         None => 0,
     }
 }
 
 /// The numbers after the one of this packet.
-fn units_after<'a>(packet: &[u8], units: &'a [u64]) -> &'a [u64]
-    ensures { result.now ≡ units_after packet.now units.now }
+fn stamps_after<'a>(packet: &[u8], stamps: &'a [u64]) -> &'a [u64]
+    ensures { result.now ≡ stamps_after packet.now stamps.now }
 {
-    match units.split_first() {
+    match stamps.split_first() {
         Some((_first, rest)) if is_shown(packet) => rest,
-        _ => units,
+        _ => stamps,
     }
 }
 
-/// Packets with the time stamps of frames that are shown for these units: the first shown packet has time stamp 0, the
-/// next one that plus the first of the units, and so on, up to 18,446,744,073,709,551,615; a hidden packet has the
-/// time stamp of the next shown one.
-pub fn stamped(alloc: Global, packets: Vec<Bytes>, units: &[u64]) -> Result<Packets, NoMemory>
-    ensures { IfOk result (λ file. file ≡ stamped 0 units.now packets.items) }
+/// Packets with the time stamps of the frames that they show: the first shown packet has the first of them, and so on; a hidden packet
+/// has the time stamp of the next frame. Past the last of the time stamps they are 0.
+pub fn stamped(alloc: Global, packets: Vec<Bytes>, stamps: &[u64]) -> Result<Packets, NoMemory>
+    ensures { IfOk result (λ file. file ≡ stamped stamps.now packets.items) }
 {
     let mut out = Vec::with_capacity(alloc, packets.len())?;
-    let mut stamp = 0;
-    let mut left = units;
+    let mut left = stamps;
     for bytes in packets {
-        let next = stamp_after(stamp, bytes.as_slice(), units_first(left));
-        left = units_after(bytes.as_slice(), left);
+        let stamp = first_stamp(left);
+        left = stamps_after(bytes.as_slice(), left);
         out.push(Packet { stamp, bytes })?;
-        stamp = next;
     }
     Ok(Packets::new(out))
 }

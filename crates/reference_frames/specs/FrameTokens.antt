@@ -2,7 +2,7 @@
 use Rattle.std.specs.Prelude.{ℕ, zero, suc, ◌+◌, ◌%◌, ◌/◌, ◌==◌, nat_lt, Bool, true, false, not, if◌then◌else◌, List, [], map, length, replicate, slice_get, slice_index_or, slice_range, slice_set, Option, Some, None, ℤ, pos}
 use Rattle.std.specs.List.{range_with_len}
 use Rattle.bool_coder.specs.Reader.{Reader, started}
-use Rattle.frame_header.specs.declared.places.Place.{Place}
+use Rattle.frame_header.specs.declared.places.PartitionRange.{PartitionRange}
 use Rattle.frame_header.specs.declared.header.Header.{Header}
 use Rattle.mode_parser.specs.declared.records.MbMode.{MbMode}
 use Rattle.mode_parser.specs.declared.records.YMode.{YMode}
@@ -61,10 +61,10 @@ pub record TokenState : Type 0 where
 abbrev pub outside : List Bool
 outside = replicate 9 false
 
-abbrev pub reader_of : List ℕ → Place → Reader
+abbrev pub reader_of : List ℕ → PartitionRange → Reader
 reader_of packet place = started (slice_range packet place.start (place.start + place.length))
 
-abbrev pub tokens_start : List Place → List ℕ → ℕ → TokenState
+abbrev pub tokens_start : List PartitionRange → List ℕ → ℕ → TokenState
 tokens_start partitions packet columns = record { readers = map (reader_of packet) partitions; above = replicate columns outside; left = outside }
 
 -- the flags above and to the left of the macroblock in a column; at the start of a row there are none to the left

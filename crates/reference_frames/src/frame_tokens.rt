@@ -12,7 +12,7 @@ ghost use Rattle.reference_frames.specs.FrameTokens.{outside, reader_of, tokens_
 
 use crate::kept_blocks::{Blocks, Flags, TokenTables};
 use bool_coder::Decoder;
-use frame_header::{Header, Place};
+use frame_header::{Header, PartitionRange};
 use mode_parser::Record;
 use pixel_planes::NoMemory;
 use std::alloc::Global;
@@ -38,7 +38,7 @@ fn partition_of(row: usize, count: usize) -> usize
 pub fn partition_readers<'a>(
     alloc: Global,
     packet: &'a [u8],
-    partitions: &[Place],
+    partitions: &[PartitionRange],
 ) -> Result<Vec<Decoder<'a>>, NoMemory>
     requires { All (λ place. place.start + place.length ≤ length packet.now) partitions.now }
     ensures { IfOk result (λ readers. readers.items ≡ map (reader_of packet.now) partitions.now) }
@@ -72,7 +72,7 @@ impl<'a> FrameTokens<'a> {
     pub fn new(
         alloc: Global,
         packet: &'a [u8],
-        partitions: &[Place],
+        partitions: &[PartitionRange],
         columns: usize,
     ) -> Result<FrameTokens<'a>, NoMemory>
         requires { All (λ place. place.start + place.length ≤ length packet.now) partitions.now }

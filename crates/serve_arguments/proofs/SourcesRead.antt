@@ -5,9 +5,9 @@ use Rattle.std.specs.Borrow.{Bor}
 use Rattle.std.proofs.lemmas.List.{map_more}
 use Rattle.std.proofs.lemmas.List.Elements.{AllZip-push}
 use Rattle.serve_arguments.specs.CommandLines.{names_of}
-use Rattle.program_parts.specs.Readings.{IsPathFault}
-use Rattle.program_parts.specs.declared.fault.FileFault.{FileFault}
-use Rattle.program_parts.specs.declared.fault.FileFault.TheVariants.{CannotRead, TooLong, Tables, NoMemory}
+use Rattle.command_lines.specs.Readings.{IsPathFault}
+use Rattle.command_lines.specs.declared.fault.FileFault.{FileFault}
+use Rattle.command_lines.specs.declared.fault.FileFault.TheVariants.{CannotRead, TooLong, Tables, NoMemory}
 use Rattle.serve_arguments.specs.Readings.{AreNamed, AreUnread, Contents, IsNamed}
 
 -- the bytes of one more source

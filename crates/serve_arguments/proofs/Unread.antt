@@ -1,8 +1,8 @@
 -- Why the files were not read, part by part.
 use Rattle.std.proofs.Common.{ℕ, List, Option, inl, inr, refl, sym}
-use Rattle.program_parts.specs.Readings.{IsArgumentFault, IsTablesFault}
-use Rattle.program_parts.specs.declared.fault.FileFault.{FileFault}
-use Rattle.program_parts.specs.declared.fault.FileFault.TheVariants.{CannotRead, TooLong, Tables, NoMemory}
+use Rattle.command_lines.specs.Readings.{IsArgumentFault, IsTablesFault}
+use Rattle.command_lines.specs.declared.fault.FileFault.{FileFault}
+use Rattle.command_lines.specs.declared.fault.FileFault.TheVariants.{CannotRead, TooLong, Tables, NoMemory}
 use Rattle.serve_arguments.specs.Readings.{AreUnread, Contents, IsInputFault}
 
 module _ (contents : Contents) (tables : Option (List ℕ)) (names : List (List ℕ)) (requests : List ℕ) where

@@ -2,7 +2,7 @@
 use Rattle.std.specs.Prelude.{ℕ, ◌+◌, ◌*◌, nat_le, List, [], ◌++◌, Option, Some, None, codes, if◌then◌else◌}
 use Rattle.std.specs.Fmt.{decimal}
 use Rattle.pixel_planes.specs.Pictures.{macroblocks}
-use Rattle.state_cache.specs.Bytes.{plane_bytes}
+use Rattle.stream_steps.specs.PlaneBytes.{plane_bytes}
 use Rattle.serve_arguments.specs.declared.capacities.Capacity.{Capacity}
 use Rattle.serve_arguments.specs.declared.capacities.Capacity.TheVariants.{States, Bytes}
 

@@ -2,9 +2,9 @@
 use Rattle.std.specs.Prelude.{◌≡◌, ◌≢◌, ◌⊎◌, ℕ, List, Contains, Option, Some, None, IfSome, codes}
 use Rattle.std.specs.List.{AllZip}
 use Rattle.vp8_tables.specs.Tables.{TableEntries}
-use Rattle.program_parts.specs.Readings.{AreNoTables, AreTables, IsTooLong, Known}
-use Rattle.program_parts.specs.declared.fault.FileFault.{FileFault}
-use Rattle.program_parts.specs.declared.fault.FileFault.TheVariants.{CannotRead, TooLong, Tables, NoMemory}
+use Rattle.command_lines.specs.Readings.{AreNoTables, AreTables, IsTooLong, Known}
+use Rattle.command_lines.specs.declared.fault.FileFault.{FileFault}
+use Rattle.command_lines.specs.declared.fault.FileFault.TheVariants.{CannotRead, TooLong, Tables, NoMemory}
 
 -- the bytes of files: those at a path, where they are known, and those of a source that is not named
 pub record Contents : Type 0 where

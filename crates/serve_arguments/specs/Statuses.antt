@@ -2,10 +2,10 @@
 use Rattle.std.specs.Prelude.{ℕ}
 use Rattle.output_files.specs.declared.saving.Unsaved.{Unsaved}
 use Rattle.output_files.specs.declared.saving.Unsaved.TheVariants as unsaved
-use Rattle.program_parts.specs.declared.fault.ArgumentFault.{ArgumentFault}
-use Rattle.program_parts.specs.declared.fault.ArgumentFault.TheVariants as arguments
-use Rattle.program_parts.specs.declared.fault.FileFault.{FileFault}
-use Rattle.program_parts.specs.declared.fault.FileFault.TheVariants as files
+use Rattle.command_lines.specs.declared.fault.ArgumentFault.{ArgumentFault}
+use Rattle.command_lines.specs.declared.fault.ArgumentFault.TheVariants as arguments
+use Rattle.command_lines.specs.declared.fault.FileFault.{FileFault}
+use Rattle.command_lines.specs.declared.fault.FileFault.TheVariants as files
 use Rattle.serve_arguments.specs.declared.fault.Fault.{Fault}
 use Rattle.serve_arguments.specs.declared.fault.Mistake.TheVariants as mistakes
 use Rattle.serve_arguments.specs.declared.fault.Fault.TheVariants.{CommandLine, NamedTwice, CannotRead, TooLong, Tables, Input, NotExported, CannotWrite, NoMemory}

@@ -5,7 +5,7 @@ ghost use Rattle.clap.specs.Matches.{first_value, found_of};
 use crate::help::{ABOUT, GRAMMAR};
 use crate::words::Words;
 use clap::{Arg, ArgMatches, Command};
-use program_parts::{NO_FILE, VERSION, flag};
+use command_lines::{NO_FILE, VERSION, flag};
 use std::alloc::{AllocError, Global};
 use std::convert::AsStr;
 

@@ -4,8 +4,8 @@ ghost use Rattle.serve_arguments.specs.Statuses.{argument_fault, fault_of, file_
 
 use crate::exports::NotExported;
 use crate::files::SameFile;
+use command_lines::{ArgumentFault, Ending, FileFault, InLine};
 use output_files::Unsaved;
-use program_parts::{ArgumentFault, Ending, FileFault, InLine};
 use std::fmt;
 use stream_files::IvfFault;
 use thiserror::Error;

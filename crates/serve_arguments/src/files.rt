@@ -4,7 +4,7 @@ ghost use Rattle.serve_arguments.specs.CommandLines.{AreApart, argument_name, Is
 
 use crate::fault::Fault;
 use crate::words::Words;
-use program_parts::{InLine, NO_FILE};
+use command_lines::{InLine, NO_FILE};
 use std::alloc::{AllocError, Global};
 use std::fmt;
 

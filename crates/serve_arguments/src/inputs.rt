@@ -1,11 +1,11 @@
 // The files that the program reads.
 ghost use Rattle.std.specs.Prelude.{◌≡◌, ◌∷◌, ℕ, List, Option, IfOk, IfErr, map};
-ghost use Rattle.program_parts.specs.Readings.{IsPathFault};
+ghost use Rattle.command_lines.specs.Readings.{IsPathFault};
 ghost use Rattle.serve_arguments.specs.CommandLines.{names_of, source_names, tables_name};
 ghost use Rattle.serve_arguments.specs.Readings.{AreNamed, AreRead, AreRequests, AreUnread, IsInputFault, IsNamed, contents_of};
 
 use crate::words::Accepted;
-use program_parts::{FileFault, NO_FILE, NamedFiles, read_file, read_input, read_tables};
+use command_lines::{FileFault, NO_FILE, NamedFiles, read_file, read_input, read_tables};
 use std::io::Read;
 use stream_files::EMPTY;
 use vp8_tables::Tables;

@@ -6,8 +6,8 @@ ghost use Rattle.serve_arguments.specs.Locations.{ArePlaced, AreSeparate, IsApar
 use crate::fault::Fault;
 use crate::files::{Argument, Named, SameFile, exported_file, out_file, read_files, saved_file};
 use crate::words::{Accepted, Words};
+use command_lines::NO_FILE;
 use output_files::{Place, place_of};
-use program_parts::NO_FILE;
 use std::alloc::{AllocError, Global};
 use std::rt::Files;
 

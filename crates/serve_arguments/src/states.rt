@@ -2,10 +2,10 @@
 ghost use Rattle.std.specs.Prelude.{◌≡◌, ◌<◌, ◌≤◌, ◌^◌, IfErr, IfOk, OnOk};
 ghost use Rattle.std.specs.Io.KnownBytes.{Appends};
 ghost use Rattle.stream_files.specs.Ivf.{IsIvf};
-ghost use Rattle.stream_files.specs.declared.ivf.Ivf.{Ivf};
+ghost use Rattle.stream_files.specs.declared.streams.Stream.{Stream};
 ghost use Rattle.stream_facts.specs.Facts.{first_key_size};
 ghost use Rattle.serve_arguments.specs.CachedStates.{cache_report, cache_text, picture_bytes, planes_bytes};
-ghost use Rattle.state_cache.specs.Bytes.{plane_bytes};
+ghost use Rattle.stream_steps.specs.PlaneBytes.{plane_bytes};
 
 use crate::capacities::Capacity;
 use crate::fault::Fault;
@@ -50,7 +50,7 @@ fn key_size_in<B: FileBytes>(
     alloc: Global,
     stream: &B,
 ) -> Result<Option<(u16, u16)>, Fault<'static>>
-    ensures size { IfOk result (λ size. (file : Ivf) → IsIvf (B.bytes stream.now) file → size ≡ first_key_size file.packets) }
+    ensures size { IfOk result (λ size. (file : Stream) → IsIvf (B.bytes stream.now) file → size ≡ first_key_size file.packets) }
     ensures fault { IfErr result (λ fault. fault ≡ Fault.NoMemory) }
 {
     match ivf_read_from(alloc, stream) {
@@ -92,7 +92,7 @@ pub fn report_cache<B: FileBytes, E: Write>(
     decoded: u64,
     errors: &mut E,
 ) -> io::Result<()>
-    ensures { OnOk result ((file : Ivf) → IsIvf (B.bytes stream.now) file → Appends (E.contents errors.old) (E.contents errors.new) (cache_report capacity (first_key_size file.packets) decoded)) }
+    ensures { OnOk result ((file : Stream) → IsIvf (B.bytes stream.now) file → Appends (E.contents errors.old) (E.contents errors.new) (cache_report capacity (first_key_size file.packets) decoded)) }
 {
     let Capacity::States(states) = capacity else {
         return Ok(());

@@ -10,8 +10,8 @@ use Rattle.frame_session.specs.declared.serving.RunFault.{RunFault}
 use Rattle.frame_session.specs.declared.serving.RunFault.TheVariants as runs
 use Rattle.output_files.specs.declared.saving.Unsaved.{Unsaved}
 use Rattle.output_files.specs.declared.saving.Unsaved.TheVariants as unsaved
-use Rattle.program_parts.specs.declared.fault.FileFault.{FileFault}
-use Rattle.program_parts.specs.declared.fault.FileFault.TheVariants as files
+use Rattle.command_lines.specs.declared.fault.FileFault.{FileFault}
+use Rattle.command_lines.specs.declared.fault.FileFault.TheVariants as files
 use Rattle.serve_arguments.specs.CommandLines.{source_names, tables_name}
 use Rattle.serve_arguments.specs.Readings.{AreRequests, IsInputFault}
 use Rattle.serve_arguments.specs.Statuses.{fault_of, file_fault}

@@ -15,7 +15,7 @@ use Rattle.frame_session.specs.Sessions.{SessionState}
 use Rattle.frame_session.specs.declared.export.Export.{Export}
 use Rattle.serve_arguments.specs.CommandLines.{IsAccepted}
 use Rattle.serve_arguments.specs.Locations.{ArePlaced, AreSeparate}
-use Rattle.program_parts.specs.Endings.{exit_status}
+use Rattle.command_lines.specs.Endings.{exit_status}
 use Rattle.serve_arguments.specs.Statuses.{status_of}
 use Rattle.serve_arguments.specs.declared.fault.Fault.{Fault}
 use Rattle.serve_arguments.specs.declared.fault.Fault.TheVariants.{CommandLine, NamedTwice, CannotRead, TooLong, Tables, Input, NotExported, CannotWrite, NoMemory}

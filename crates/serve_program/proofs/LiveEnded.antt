@@ -4,7 +4,7 @@ use Rattle.std.specs.Borrow.{Bor}
 use Rattle.std.specs.Io.KnownBytes.{Keeps}
 use Rattle.std.proofs.KnownBytes.{Keeps-refl}
 use Rattle.vp8_tables.specs.Tables.{TableEntries}
-use Rattle.program_parts.specs.declared.fault.FileFault.{FileFault}
+use Rattle.command_lines.specs.declared.fault.FileFault.{FileFault}
 use Rattle.serve_arguments.specs.CommandLines.{source_names, tables_name}
 use Rattle.serve_arguments.specs.Readings.{IsInputFault}
 use Rattle.serve_arguments.specs.Statuses.{file_fault}

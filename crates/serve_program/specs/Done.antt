@@ -3,7 +3,7 @@ use Rattle.std.specs.Prelude.{◌≡◌, ℕ, Bool, false, ◌&&◌, List, Optio
 use Rattle.clap.specs.declared.error.Error.{Error}
 use Rattle.frame_session.specs.Cached.{Capacity as Cached}
 use Rattle.frame_session.specs.Sessions.{SessionState}
-use Rattle.program_parts.specs.Endings.{IsHelp}
+use Rattle.command_lines.specs.Endings.{IsHelp}
 use Rattle.serve_arguments.specs.CommandLines.{IsAccepted}
 use Rattle.serve_arguments.specs.Locations.{ArePlaced, AreSeparate}
 use Rattle.serve_arguments.specs.declared.words.Accepted.{Accepted}

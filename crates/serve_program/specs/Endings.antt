@@ -3,9 +3,9 @@ use Rattle.std.specs.Prelude.{◌≡◌, ◌≢◌, ◌<◌, ◌⊎◌, Bool, �
 use Rattle.std.specs.Fmt.{decimal}
 use Rattle.std.specs.Io.KnownBytes.{IsAtEnd, Keeps}
 use Rattle.vp8_tables.specs.Tables.{TableEntries}
-use Rattle.program_parts.specs.Readings.{AreNoTables, Known}
+use Rattle.command_lines.specs.Readings.{AreNoTables, Known}
 use Rattle.std.specs.Borrow.{Bor}
-use Rattle.stream_files.specs.declared.ivf.Ivf.{Ivf}
+use Rattle.stream_files.specs.declared.streams.Stream.{Stream}
 use Rattle.stream_files.specs.declared.ivf.IvfFault.{IvfFault}
 use Rattle.stream_files.specs.declared.ivf.TheConstants.{EMPTY}
 use Rattle.frame_session.specs.Cached.{Capacity as Cached, of_bytes, of_states}
@@ -227,7 +227,7 @@ AreLiveReplied files line left replies replies' end tables sources =
 
 -- the lines before one that the reader did not give whole were answered over the files of these bytes with these replies
 pub record IsInterrupted (tables : TableEntries) (sources : List (List ℕ)) (given replies replies' : Option (List ℕ)) (fault : LiveFault) : Type 0 where
-  pub files : List Ivf
+  pub files : List Stream
   pub are : AreIvfs sources files
   pub given' : Option (List ℕ)
   pub frames : Option (List ℕ)

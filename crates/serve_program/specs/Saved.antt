@@ -1,7 +1,7 @@
 -- What is saved after a run: the packets of source 0, and the frames as they were exported.
 use Rattle.std.specs.Prelude.{◌≡◌, ◌≤◌, Bool, false, ℕ, List, map, IfSome, is_some, if◌then◌else◌}
 use Rattle.stream_files.specs.Texts.{written_text}
-use Rattle.stream_files.specs.declared.ivf.Head.{Head}
+use Rattle.stream_files.specs.declared.streams.Head.{Head}
 use Rattle.stream_files.specs.declared.packets.Packet.{Packet}
 use Rattle.packet_edits.specs.Edits.{Listing}
 use Rattle.packet_edits.specs.Saved.{packets_of, padded_if, padded_packets_of, restamped}

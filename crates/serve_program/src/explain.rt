@@ -8,10 +8,10 @@ ghost use Rattle.serve_program.specs.Reports.{export_line, export_report, number
 
 use crate::exports::Answered;
 use crate::messages::{Messages, UnsavedFile};
+use command_lines::{Format, InLine, NO_FILE, write_format};
 use explanations::{CutRecord, StreamReason, cut_record, stream_reason};
 use frame_session::Export;
 use output_files::{Taken, Unsaved};
-use program_parts::{Format, InLine, NO_FILE, write_format};
 use serve_arguments::{Argument, Fault, Mistake, NotExported, Words};
 use std::convert::AsStr;
 use std::fs::{self, File};

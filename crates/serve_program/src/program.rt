@@ -8,7 +8,7 @@ ghost use Rattle.std.specs.Rc.{rc_slice_items};
 ghost use Rattle.frame_session.specs.Answers.{Means};
 ghost use Rattle.frame_session.specs.Noted.{MeansNoted};
 ghost use Rattle.frame_session.specs.Sessions.{SessionState};
-ghost use Rattle.program_parts.specs.Endings.{IsHelp};
+ghost use Rattle.command_lines.specs.Endings.{IsHelp};
 ghost use Rattle.serve_arguments.specs.Capacities.{IsGiven};
 ghost use Rattle.serve_arguments.specs.Readings.{AreRequests, contents_of};
 ghost use Rattle.serve_program.specs.Done.{IsDone, IsExitStatus, IsServedAs};
@@ -22,9 +22,9 @@ use crate::live::answer_live;
 use crate::messages::Messages;
 use crate::runs::{run_fault, settings_with, shared};
 use crate::saving::{Saves, begin_saves, finish_saves};
+use command_lines::{NO_FILE, NamedFiles, exit_status, help_or_mistake};
 use frame_session::{Observer, Session, Settings, run_over};
 use output_files::{Counted, SavedFiles, Taken};
-use program_parts::{NO_FILE, NamedFiles, exit_status, help_or_mistake};
 use serve_arguments::{
     Accepted, Fault, FilesRead, Inputs, Words, check_places, read_inputs, report_cache,
 };

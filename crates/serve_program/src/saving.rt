@@ -1,5 +1,5 @@
 // Saves the packets of a session, and the export of its frames.
-ghost use Rattle.std.specs.Prelude.{◌≡◌, ◌≢◌, IfErr, IfOk, IfSome, OnOk, is_some};
+ghost use Rattle.std.specs.Prelude.{◌≡◌, ◌≢◌, ◌⊎◌, IfErr, IfOk, IfSome, OnOk, is_some, true};
 ghost use Rattle.std.specs.IoError.{error_kind};
 ghost use Rattle.serve_program.specs.Endings.{IsSaveFault};
 ghost use Rattle.serve_program.specs.Saved.{ArePacketsSaved, IsExportSaved, exported_text, saved_text};
@@ -7,9 +7,20 @@ ghost use Rattle.serve_program.specs.Saved.{ArePacketsSaved, IsExportSaved, expo
 use crate::exports::Answered;
 use crate::messages::{Messages, UnsavedFile};
 use frame_session::{Export, Session};
-use output_files::{SavedFiles, SavedText, Unsaved};
+use output_files::{OneUnsaved, Save, SavedFiles, SavedText, Unsaved};
+use packet_edits::RestampFault;
 use serve_arguments::{Argument, Fault, Words};
 use std::io::{self, BufWriter, ErrorKind, Write};
+
+/// Why packets were not saved with new time stamps.
+fn unrestamped(fault: RestampFault) -> Unsaved
+    ensures { (result ≡ Unsaved.NoMemory) ⊎ (result ≡ Unsaved.Write) }
+{
+    match fault {
+        RestampFault::Write => Unsaved::Write,
+        RestampFault::NoMemory => Unsaved::NoMemory,
+    }
+}
 
 /// The packets of source 0 as they are saved.
 #[derive(Clone, Copy)]
@@ -23,14 +34,15 @@ impl SavedText for Packets<'_> {
     ghost text = { λ packets. saved_text packets.pads packets.restamps packets.session.now.state };
 
     fn write_to<W: Write + Drop>(&self, w: &mut BufWriter<W>) -> Result<(), Unsaved> {
-        let saved = if self.restamps {
-            self.session.save_restamped(w, self.pads)
+        if self.restamps {
+            self.session
+                .save_restamped(w, self.pads)
+                .map_err(unrestamped)?;
         } else if self.pads {
-            self.session.save_padded(w)
+            self.session.save_padded(w).map_err(|_| Unsaved::Write)?;
         } else {
-            self.session.save(w)
-        };
-        saved.map_err(|_| Unsaved::Write)?;
+            self.session.save(w).map_err(|_| Unsaved::Write)?;
+        }
         w.flush().map_err(|_| Unsaved::Write)
     }
 }
@@ -187,7 +199,95 @@ fn finish_frames<R: SavedFiles + AllocGlobal>(
     finish_one(rt, words.exported, begun, &frames)
 }
 
-/// Saves the packets of source 0 of a session, and then the export of its frames, as they were begun. If the first fails, the second is given up.
+/// Saves the packets of source 0 of a session and the export of its frames, as they were begun, at both paths: both files are whole before either
+/// is replaced.
+fn finish_two<R: SavedFiles + AllocGlobal>(
+    rt: &R,
+    session: &Session,
+    export: &Export,
+    words: Words<'_>,
+    begun: (R::Begun, R::Begun),
+) -> Result<(), OneUnsaved>
+    requires packets { is_some words.saved ≡ true }
+    requires frames { is_some words.exported ≡ true }
+    ensures packets { OnOk result (ArePacketsSaved (R.is_saved_at rt.now) words.entry session.now.state) }
+    ensures frames { OnOk result (IsExportSaved (R.is_saved_at rt.now) words.entry export.now) }
+{
+    let (Some(saved), Some(exported)) = (words.saved, words.exported) else {
+        return Ok(());
+    };
+    let packets = Packets {
+        session,
+        pads: words.pads,
+        restamps: words.restamps,
+    };
+    let frames = Frames {
+        export,
+        pads: words.pads,
+    };
+    let first = Save {
+        path: saved,
+        begun: begun.0,
+        text: &packets,
+    };
+    let second = Save {
+        path: exported,
+        begun: begun.1,
+        text: &frames,
+    };
+    rt.finish_both(rt.alloc(), first, second)
+}
+
+/// Saves the packets of source 0 of a session, or the export of its frames, as they were begun.
+fn finish_each<R: SavedFiles + AllocGlobal>(
+    rt: &R,
+    done: &Answered,
+    words: Words<'_>,
+    saves: Saves<R::Begun>,
+) -> Result<(), OneUnsaved>
+    requires packets { is_some saves.packets ≡ is_some words.saved }
+    requires frames { is_some saves.frames ≡ is_some words.exported }
+    ensures packets { OnOk result (ArePacketsSaved (R.is_saved_at rt.now) words.entry done.now.session.state) }
+    ensures frames { OnOk result (IfSome done.now.export (IsExportSaved (R.is_saved_at rt.now) words.entry)) }
+{
+    let Saves { packets, frames } = saves;
+    if let Err(why) = finish_packets(rt, &done.session, words, packets) {
+        abandon(rt, frames);
+        return Err(OneUnsaved::First(why));
+    }
+    finish_frames(rt, done.export.as_ref(), words, frames).map_err(OneUnsaved::Second)
+}
+
+/// Saves what was begun.
+fn finish_begun<R: SavedFiles + AllocGlobal>(
+    rt: &R,
+    done: &Answered,
+    words: Words<'_>,
+    saves: Saves<R::Begun>,
+) -> Result<(), OneUnsaved>
+    requires packets { is_some saves.packets ≡ is_some words.saved }
+    requires frames { is_some saves.frames ≡ is_some words.exported }
+    ensures packets { OnOk result (ArePacketsSaved (R.is_saved_at rt.now) words.entry done.now.session.state) }
+    ensures frames { OnOk result (IfSome done.now.export (IsExportSaved (R.is_saved_at rt.now) words.entry)) }
+{
+    let Saves { packets, frames } = saves;
+    let Some(export) = done.export.as_ref() else {
+        return finish_each(rt, done, words, Saves { packets, frames });
+    };
+    let Some(first) = packets else {
+        let packets = None;
+        return finish_each(rt, done, words, Saves { packets, frames });
+    };
+    let Some(second) = frames else {
+        let packets = Some(first);
+        let frames = None;
+        return finish_each(rt, done, words, Saves { packets, frames });
+    };
+    finish_two(rt, &done.session, export, words, (first, second))
+}
+
+/// Saves the packets of source 0 of a session and the export of its frames, as they were begun. If both are saved, both files are whole and on the
+/// disk before either is replaced; if one fails, neither is replaced, unless the second could not be.
 #[tactic(auto, using(crate::proofs::Ended::save_fault))]
 pub fn finish_saves<R: SavedFiles + AllocGlobal, E: Write>(
     rt: &R,
@@ -202,17 +302,13 @@ pub fn finish_saves<R: SavedFiles + AllocGlobal, E: Write>(
     ensures frames { OnOk result (IfSome done.now.export (IsExportSaved (R.is_saved_at rt.now) words.entry)) }
     ensures fault { IfErr result IsSaveFault }
 {
-    let Saves { packets, frames } = saves;
-    if let Err(why) = finish_packets(rt, &done.session, words, packets) {
-        abandon(rt, frames);
-        return Err(messages.not_saved(UnsavedFile {
+    match finish_begun(rt, done, words, saves) {
+        Ok(()) => Ok(()),
+        Err(OneUnsaved::First(why)) => Err(messages.not_saved(UnsavedFile {
             option: Argument::Save,
             why,
-        }));
-    }
-    match finish_frames(rt, done.export.as_ref(), words, frames) {
-        Ok(()) => Ok(()),
-        Err(why) => Err(messages.not_saved(UnsavedFile {
+        })),
+        Err(OneUnsaved::Second(why)) => Err(messages.not_saved(UnsavedFile {
             option: Argument::Export,
             why,
         })),

@@ -13,7 +13,7 @@ use Rattle.reference_frames.specs.declared.references.References.{References}
 use Rattle.reference_frames.specs.States.{StateValue}
 use Rattle.state_cache.specs.declared.outcomes.Kept.{Kept}
 use Rattle.state_cache.specs.Costs.{IsCachedAsDecoded, IsOneRun, IsSettled, cut_at}
-use Rattle.state_cache.specs.Decoding.{Outcome, outcomes}
+use Rattle.stream_steps.specs.Decoding.{Outcome, outcomes}
 use Rattle.state_cache.specs.Views.{MarkedPacket, View, cached_at, outcome_at}
 use Rattle.state_cache.proofs.Runs.{same_or_not, up_to_or_behind}
 

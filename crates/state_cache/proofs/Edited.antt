@@ -12,9 +12,9 @@ use Rattle.packet_times.specs.declared.durations.Duration.{Duration}
 use Rattle.packet_edits.specs.declared.entry.Entry.{Entry}
 use Rattle.packet_edits.specs.Edits.{moved, numbered, showing}
 use Rattle.packet_edits.specs.Marks.{StoreValue}
-use Rattle.show_bits.specs.Laws.{OnlyTheBitChanges}
-use Rattle.show_bits.specs.ShowBits.{with_show_bit}
-use Rattle.step_laws.specs.Hidden.{ShowBitKeepsSteps}
+use Rattle.frame_header.specs.ShowLaws.{OnlyTheBitChanges}
+use Rattle.frame_header.specs.ShowBits.{with_show_bit}
+use Rattle.stream_steps.specs.Hidden.{ShowBitKeepsSteps}
 use Rattle.state_cache.specs.declared.outcomes.Kept.{Kept}
 use Rattle.state_cache.specs.EditLaws.{EditsKeepCoherence, IsViewWithout, IsMarked, IsWithout, after_push, after_deletion, after_insertion, after_move, after_replacement, after_show_bit, id_at}
 use Rattle.state_cache.specs.Views.{Before, CoherentFrom, Drops, Fits, Follows, IsCoherent, MarkedPacket, View, entering, failed, known, leaving, left_known, marked_packet, marked_packets, marked_packets_of, stepped, unknown}

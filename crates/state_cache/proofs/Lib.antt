@@ -1,7 +1,6 @@
 pub mod Keys
 pub mod Known
 pub mod Marked
-pub mod Decoded
 pub mod Steps
 pub mod Truth
 pub mod Trust
@@ -10,7 +9,6 @@ pub mod Entries
 pub mod Shows
 pub mod Found
 pub mod Reached
-pub mod Breaks
 pub mod Edited
 pub mod Progress
 pub mod Runs

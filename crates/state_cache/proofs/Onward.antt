@@ -5,7 +5,7 @@ use Rattle.frame_header.specs.Tags.{has_key_tag}
 use Rattle.reference_frames.specs.declared.states.State.{State}
 use Rattle.state_cache.specs.declared.outcomes.Kept.{Kept}
 use Rattle.state_cache.specs.Costs.{IsCachedAsDecoded, IsOneRun, IsSettled, cut_at}
-use Rattle.state_cache.specs.Decoding.{Outcome, outcomes}
+use Rattle.stream_steps.specs.Decoding.{Outcome, outcomes}
 use Rattle.state_cache.specs.Reaching.{IsNext, Converged, following}
 use Rattle.state_cache.specs.Views.{Drops, IsCoherent, MarkedPacket, View, is_cut, is_usable, cached_at, key_at, with_cached, mark_at, outcome_at}
 use Rattle.state_cache.specs.Walks.{ConvergesWithSame}

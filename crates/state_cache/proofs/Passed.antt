@@ -5,7 +5,7 @@ use Rattle.std.specs.Option.{option_map_or}
 use Rattle.vp8_tables.specs.Tables.{TableEntries}
 use Rattle.state_cache.specs.declared.outcomes.Kept.{Kept}
 use Rattle.state_cache.specs.Costs.{IsCachedAsDecoded, cut_at}
-use Rattle.state_cache.specs.Decoding.{outcomes}
+use Rattle.stream_steps.specs.Decoding.{outcomes}
 use Rattle.state_cache.specs.Views.{Drops, MarkedPacket, View, cached_at, key_at, with_cached, mark_at, outcome_at}
 use Rattle.state_cache.proofs.Marked.{IsOwn, apart_get, mark_set}
 use Rattle.state_cache.proofs.Settled.{Leaves}

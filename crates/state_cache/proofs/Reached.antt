@@ -8,16 +8,16 @@ use Rattle.packet_edits.specs.Edits.{Listing}
 use Rattle.packet_edits.specs.Laws.{HaveOwnIds}
 use Rattle.packet_edits.specs.Shown.{stream_of}
 use Rattle.reference_frames.specs.Steps.{step_of}
-use Rattle.state_cache.specs.declared.outcomes.Broken.{Broken}
+use Rattle.stream_steps.specs.declared.broken.Broken.{Broken}
 use Rattle.state_cache.specs.declared.outcomes.Kept.{Kept}
 use Rattle.state_cache.specs.declared.outcomes.ReachFault.{ReachFault}
 use Rattle.state_cache.specs.declared.outcomes.ReachFault.TheVariants.{Refused, NoMemory, TooManyShares}
-use Rattle.state_cache.specs.Decoding.{outcomes}
+use Rattle.stream_steps.specs.Decoding.{outcomes}
 use Rattle.state_cache.specs.Faults.{is_share_fault}
 use Rattle.state_cache.specs.Reaching.{Begins, IsNext, Converged, Reaches, passed_marks, state_from}
 use Rattle.state_cache.specs.ProofsOnly.{CachedAnswers, IterationAnswers, Reports}
 use Rattle.state_cache.specs.Views.{Drops, IsCoherent, MarkedPacket, View, cached_at, is_cut, is_usable, key_at, marked_packets_of, step_result, with_cached, mark_at}
-use Rattle.state_cache.proofs.Decoded.{outcome_present}
+use Rattle.stream_steps.proofs.Decoded.{outcome_present}
 use Rattle.state_cache.proofs.Marked.{bytes_seens, own_seens}
 use Rattle.state_cache.proofs.Shows.{shows}
 use Rattle.state_cache.proofs.Trust.{trust}

@@ -43,10 +43,13 @@ bytes_shown es ms i p r h k =
     cc
 
 -- stated by indexes
-pub key_told : (es : List Entry) (ms : List Bool) (i : ℕ) (r : List ℕ) (b : Bool) → i < length es → slice_get (map (λ (e : Entry). e.bytes) es) i ≡ Some r → b ≡ has_key_tag r → b ≡ key_at (marked_packets_of es ms) i
-key_told es ms i r b h k e =
-    let s = shows es ms i h in
-    e ∙ ap has_key_tag (bytes_shown es ms i s.packet r s.is k) ∙ sym (rw s.is refl)
+key_tag_seen : (xs : List MarkedPacket) (i : ℕ) → key_tag_at (map (λ (p : MarkedPacket). p.bytes) xs) i ≡ key_at xs i
+key_tag_seen [] i = refl
+key_tag_seen (x ∷ xs) zero = refl
+key_tag_seen (x ∷ xs) (suc i) = key_tag_seen xs i
+
+pub key_tag_told : (es : List Entry) (ms : List Bool) (i : ℕ) (b : Bool) → b ≡ key_tag_at (map (λ (e : Entry). e.bytes) es) i → b ≡ key_at (marked_packets_of es ms) i
+key_tag_told es ms i b e = e ∙ ap (λ (bs : List (List ℕ)). key_tag_at bs i) (sym (bytes_seens es ms)) ∙ key_tag_seen (marked_packets_of es ms) i
 
 pub mark_told : (es : List Entry) (ms : List Bool) (i : ℕ) (b : Bool) → i < length es → slice_get ms i ≡ Some b → b ≡ mark_at (marked_packets_of es ms) i
 mark_told es ms i b h k =

@@ -6,12 +6,12 @@ use Rattle.frame_header.specs.declared.cause.Cause.{Cause}
 use Rattle.pixel_planes.specs.Pictures.{PictureSamples}
 use Rattle.reference_frames.specs.declared.states.State.{State}
 use Rattle.reference_frames.specs.Steps.{step_of}
-use Rattle.state_cache.specs.declared.outcomes.Broken.{Broken}
+use Rattle.stream_steps.specs.declared.broken.Broken.{Broken}
 use Rattle.state_cache.specs.declared.outcomes.Kept.{Kept}
-use Rattle.state_cache.specs.Decoding.{Outcome, Progress, following, left_by, outcome, outcomes, reported_at}
+use Rattle.stream_steps.specs.Decoding.{Outcome, Progress, following, left_by, outcome, outcomes, reported_at}
 use Rattle.state_cache.specs.Reaching.{Begins, state_cached_before, state_from}
 use Rattle.state_cache.specs.Views.{Before, CoherentFrom, Fits, Follows, IsCoherent, MarkedPacket, View, entering, failed, is_usable, key_at, known, known_after, leaving, step_result, trusted_after, unknown}
-use Rattle.state_cache.proofs.Decoded.{outcome_found, stands_more, progress_after}
+use Rattle.stream_steps.proofs.Decoded.{outcome_found, stands_more, progress_after}
 use Rattle.state_cache.proofs.Known.{coherent_parts}
 use Rattle.state_cache.proofs.Marked.{split_here}
 use Rattle.state_cache.proofs.Steps.{begins_stands, both_true, key_here, usable_here}

@@ -1,15 +1,11 @@
 -- The bytes of the pictures of cached outcomes, and the limit that a cache may have.
-use Rattle.std.specs.Prelude.{ℕ, ◌+◌, ◌*◌, ◌≤◌, ◌⊎◌, List, [], ◌∷◌, length, map, sum, Option, Some, None}
+use Rattle.std.specs.Prelude.{ℕ, ◌+◌, ◌≤◌, ◌⊎◌, List, [], ◌∷◌, length, map, sum, Option, Some, None}
 use Rattle.std.specs.List.{sum_by}
 use Rattle.std.specs.Option.{option_map_or}
-use Rattle.pixel_planes.specs.Layout.{bordered_side}
 use Rattle.pixel_planes.specs.Pictures.{PictureSamples}
+use Rattle.stream_steps.specs.PlaneBytes.{plane_bytes}
 use Rattle.state_cache.specs.declared.outcomes.Kept.{Kept}
 use Rattle.state_cache.specs.declared.outcomes.PacketKey.{PacketKey}
-
--- the bytes of a plane of these sides: a byte for each sample, with a border of 32 samples around them
-abbrev pub plane_bytes : ℕ → ℕ → ℕ
-plane_bytes width height = bordered_side width 32 * bordered_side height 32
 
 -- the bytes of a picture: its three planes, which have the sides of whole macroblocks
 abbrev pub picture_bytes : PictureSamples → ℕ

@@ -7,7 +7,7 @@ use Rattle.packet_edits.specs.Edits.{Listing}
 use Rattle.packet_edits.specs.Marks.{StoreValue}
 use Rattle.state_cache.specs.declared.outcomes.Kept.{Kept}
 use Rattle.state_cache.specs.Bytes.{IsWithinBytes}
-use Rattle.state_cache.specs.Decoding.{outcomes}
+use Rattle.stream_steps.specs.Decoding.{outcomes}
 use Rattle.state_cache.specs.Reaching.{CacheValue, IsNext, view_of}
 use Rattle.state_cache.specs.Views.{MarkedPacket, View, is_usable, cached_at, key_at, mark_at, marked_packets, outcome_at}
 

@@ -1,5 +1,3 @@
-pub mod Decoding
-pub mod DecodingLaws
 pub mod Views
 pub mod Bytes
 pub mod Reaching

@@ -15,7 +15,7 @@ use Rattle.state_cache.specs.declared.outcomes.ReachFault.{ReachFault}
 use Rattle.state_cache.specs.declared.outcomes.ReachFault.TheVariants.{Refused, NoMemory, TooManyShares}
 use Rattle.state_cache.specs.Bytes.{cached_bytes, outcome_bytes}
 use Rattle.state_cache.specs.Costs.{AreUnsettled, HasRoom, IsIdOf, IsOneRun, IsSettled}
-use Rattle.state_cache.specs.Decoding.{outcomes}
+use Rattle.stream_steps.specs.Decoding.{outcomes}
 use Rattle.state_cache.specs.declared.savings.Saving.{Saving}
 use Rattle.state_cache.specs.Evictions.{SavesLess, age, saved}
 use Rattle.state_cache.specs.Reaching.{CacheValue, IsNext, state_from, view_of}

@@ -10,7 +10,7 @@ use Rattle.state_cache.specs.declared.outcomes.Kept.{Kept}
 use Rattle.state_cache.specs.declared.outcomes.PacketKey.{PacketKey}
 use Rattle.state_cache.specs.declared.outcomes.ReachFault.{ReachFault}
 use Rattle.state_cache.specs.declared.outcomes.ReachFault.TheVariants.{Refused, NoMemory, TooManyShares}
-use Rattle.state_cache.specs.Decoding.{Outcome, outcomes}
+use Rattle.stream_steps.specs.Decoding.{Outcome, outcomes}
 use Rattle.state_cache.specs.Views.{Drops, MarkedPacket, View, is_usable, key_at, cached_in, outcome_at, step_result}
 
 -- a capacity of so many outcomes, without a limit in bytes

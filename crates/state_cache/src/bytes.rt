@@ -1,20 +1,10 @@
 //! The bytes of the pictures of cached outcomes.
 ghost use Rattle.std.specs.Prelude.{◌≡◌, ◌+◌, ◌<◌, ◌^◌, ◌↔◌, IsTrue};
-ghost use Rattle.state_cache.specs.Bytes.{bytes_in, outcome_bytes, picture_bytes, plane_bytes};
+ghost use Rattle.state_cache.specs.Bytes.{bytes_in, outcome_bytes, picture_bytes};
 
 use crate::outcomes::Kept;
-use pixel_planes::{Picture, Plane};
-
-/// The number of samples around a plane of a picture, at each side.
-const BORDER: u64 = 32;
-
-/// The bytes of a plane of a picture.
-fn plane_bytes(plane: &Plane) -> u64
-    ensures value { result ≡ plane_bytes plane.now.shown.width plane.now.shown.height }
-    ensures few { result < 2 ^ 29 }
-{
-    (plane.width() as u64 + 2 * BORDER) * (plane.height() as u64 + 2 * BORDER)
-}
+use pixel_planes::Picture;
+use stream_steps::plane_bytes;
 
 /// The bytes of the planes of a picture.
 fn picture_bytes(picture: &Picture) -> u64

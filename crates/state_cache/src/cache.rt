@@ -17,15 +17,15 @@ ghost use Rattle.state_cache.specs.Views.{Drops, IsCoherent, is_usable, cached_a
 use crate::bytes::{bytes_in, is_over, outcome_bytes};
 use crate::capacity::Capacity;
 use crate::counted_steps::{StepCount, decode_counted};
-use crate::outcomes::{Broken, Kept, PacketKey, ReachFault};
+use crate::outcomes::{Kept, PacketKey, ReachFault};
 use crate::savings::Savings;
-use frame_header::has_key_tag;
 use indexmap::IndexMap;
 use packet_edits::Store;
 use pixel_planes::{NoMemory, Picture, Recycled};
 use reference_frames::{State, StepFault, same_state};
 use std::alloc::Global;
 use std::marker::Model;
+use stream_steps::Broken;
 use vp8_tables::Tables;
 
 /// Good outcomes of packets, cached by source and id, and the number of steps made.
@@ -584,7 +584,7 @@ fn has_key(store: &Store, place: usize) -> bool
     requires { place < length store.now.list.entries }
     ensures { result ≡ key_at (marked_packets store.now) place }
 {
-    has_key_tag(store.packet(place))
+    store.has_key_tag(place)
 }
 
 /// Whether the packet at `place` is marked.

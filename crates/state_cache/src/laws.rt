@@ -2,7 +2,6 @@
 //! nothing.
 
 ghost use Rattle.state_cache.specs.CostLaws.{UnsettledAreListed};
-ghost use Rattle.state_cache.specs.DecodingLaws.{BreaksAreNamed, EachHasOutcome, KeysDependOnNothing};
 ghost use Rattle.state_cache.specs.EvictionLaws.{VictimIsUnique, WorkedVictims};
 ghost use Rattle.state_cache.specs.EditLaws.{DropsKeepCoherence, EditsKeepCoherence, EditsKeepIds, LaterIdsAreNotCached, NextIdIsNotCached};
 ghost use Rattle.state_cache.specs.CacheViews.{CoherentIsCacheView};
@@ -10,28 +9,13 @@ ghost use Rattle.state_cache.specs.WalkLaws.{NextIsUnique, WalksSettle, WalksSte
 
 use vp8_tables::Tables;
 
-/// Each packet of a stream has one outcome.
-pub fn each_has_outcome()
-    ensures { EachHasOutcome }
-{}
-
-/// A broken outcome names the packet that broke the stream.
-pub fn breaks_are_named()
-    ensures { BreaksAreNamed }
-{}
-
-/// The outcome of a packet with a key tag does not depend on the packets before it.
-pub fn keys_depend_on_nothing()
-    ensures { KeysDependOnNothing }
-{}
-
 /// After each edit the cache is coherent with the new packets and marks, once the outcomes of
 /// removed packets are dropped. A packet keeps its outcome when its show bit is set or cleared.
 pub fn edits_keep_coherence(tables: &Tables)
     ensures { EditsKeepCoherence tables.now }
 {
-    show_bits::laws::only_the_show_bit_changes();
-    step_laws::laws::show_bits_keep_steps();
+    frame_header::show_laws::only_the_show_bit_changes();
+    stream_steps::laws::show_bits_keep_steps();
 }
 
 /// Once any outcomes are dropped, the cache is still coherent.

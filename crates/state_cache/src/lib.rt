@@ -19,4 +19,4 @@ mod savings;
 
 pub use cache::Cache;
 pub use capacity::Capacity;
-pub use outcomes::{Broken, Kept, ReachFault};
+pub use outcomes::{Kept, ReachFault};

@@ -1,17 +1,10 @@
 ghost use Rattle.std.specs.Prelude.{◌≡◌, IfOk};
 ghost use Rattle.state_cache.specs.Faults.{reach_fault_word};
 
-use frame_header::Cause;
 use pixel_planes::{NoMemory, Picture, Recycled};
 use reference_frames::State;
+use stream_steps::Broken;
 use thiserror::Error;
-
-/// A break of the stream: the index of the packet, counted from 0, and the cause.
-#[derive(Clone, Copy, Debug, PartialEq, Eq)]
-pub struct Broken {
-    pub place: usize,
-    pub cause: Cause,
-}
 
 /// Why an index is not reached.
 #[derive(Clone, Copy, Debug, PartialEq, Eq, Error)]

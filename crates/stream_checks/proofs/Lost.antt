@@ -5,8 +5,8 @@ use Rattle.vp8_tables.specs.declared.tables.Tables.{Tables}
 use Rattle.frame_header.specs.Tags.{has_key_tag}
 use Rattle.reference_frames.specs.Steps.{step_of}
 use Rattle.stream_files.specs.declared.packets.Packet.{Packet}
-use Rattle.state_cache.specs.declared.outcomes.Broken.{Broken}
-use Rattle.state_cache.specs.Decoding.{Outcome, Progress, left_by, outcomes_from, reported_at}
+use Rattle.stream_steps.specs.declared.broken.Broken.{Broken}
+use Rattle.stream_steps.specs.Decoding.{Outcome, Progress, left_by, outcomes_from, reported_at}
 use Rattle.stream_checks.specs.Packets.{bytes_of, lost_after}
 
 -- one packet after a break, by whether it has a key tag

@@ -2,11 +2,11 @@
 use Rattle.std.proofs.Common.{◌≡◌, ◌++◌, ◌∷◌, List, sym, ap, ◌∙◌}
 use Rattle.vp8_tables.specs.Tables.{TableEntries}
 use Rattle.stream_files.specs.declared.packets.Packet.{Packet}
-use Rattle.macroblock_lists.specs.Known.{Progress}
+use Rattle.macroblock_lists.specs.Known.{Knowledge}
 use Rattle.stream_checks.specs.declared.checker.Checker.{Checker}
 use Rattle.stream_checks.specs.declared.finding.Finding.{Finding}
 use Rattle.stream_checks.specs.declared.packets.Ahead.{Ahead}
-use Rattle.stream_checks.specs.declared.packets.Position.{Position}
+use Rattle.stream_checks.specs.declared.packets.PacketsBefore.{PacketsBefore}
 use Rattle.stream_checks.specs.declared.stamps.Pace.{Pace}
 use Rattle.stream_checks.specs.Packets.{ahead_of, bytes_of, each_from, joined, position_after}
 use Rattle.stream_checks.specs.Breaks.{progresses_from}
@@ -20,10 +20,10 @@ pub each_more : (tables : TableEntries) (before after : Checker) (packet : Packe
     → each_after tables before (packet ∷ rest) ≡ findings_next tables before packet ahead ∷ each_after tables after rest
 each_more tables before after packet rest ahead pace position reader is =
     let found : List Finding = findings_next tables before packet (ahead_of packet rest) in
-    let from : Pace → Position → Progress → List (List Finding) = λ s p d. found ∷ each_from s p rest (progresses_from tables p.packets d (bytes_of rest)) (ends_from tables p.packets d (bytes_of rest)) in
+    let from : Pace → PacketsBefore → Knowledge → List (List Finding) = λ s p d. found ∷ each_from s p rest (progresses_from tables p.packets d (bytes_of rest)) (ends_from tables p.packets d (bytes_of rest)) in
     ap (λ (s : Pace). from s (position_after before.pace.step before.position packet) (progress_next tables before packet)) (sym pace)
-    ∙ ap (λ (p : Position). from after.pace p (progress_next tables before packet)) (sym position)
-    ∙ ap (λ (d : Progress). from after.pace after.position d) (sym reader)
+    ∙ ap (λ (p : PacketsBefore). from after.pace p (progress_next tables before packet)) (sym position)
+    ∙ ap (λ (d : Knowledge). from after.pace after.position d) (sym reader)
     ∙ ap (λ (a : Ahead). findings_next tables before packet a ∷ each_after tables after rest) (sym is)
 
 pub one_more : (tables : TableEntries) (before after : Checker) (packet : Packet) (rest : List Packet) (ahead : Ahead)

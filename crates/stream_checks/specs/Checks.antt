@@ -2,9 +2,9 @@
 use Rattle.std.specs.Prelude.{◌≡◌, ◌⊎◌, ℕ, List, ◌++◌, length, Option, IfSome}
 use Rattle.std.specs.Io.KnownBytes.{Appends}
 use Rattle.vp8_tables.specs.Tables.{TableEntries}
-use Rattle.stream_files.specs.declared.ivf.Ivf.{Ivf}
+use Rattle.stream_files.specs.declared.streams.Stream.{Stream}
 use Rattle.stream_files.specs.declared.packets.Packet.{Packet}
-use Rattle.macroblock_lists.specs.Known.{Progress, progress_after}
+use Rattle.macroblock_lists.specs.Known.{Knowledge, progress_after}
 use Rattle.macroblock_lists.specs.PartitionEnds.{ends_before}
 use Rattle.stream_checks.specs.declared.checker.Checker.{Checker}
 use Rattle.stream_checks.specs.Breaks.{progresses_from}
@@ -23,7 +23,7 @@ use Rattle.stream_checks.specs.Severity.{tally_of}
 use Rattle.stream_checks.specs.Texts.{end_of, texts_of}
 
 -- what is known after the packet after a checker's position
-abbrev pub progress_next : TableEntries → Checker → Packet → Progress
+abbrev pub progress_next : TableEntries → Checker → Packet → Knowledge
 progress_next tables checker packet = progress_after tables checker.position.packets checker.reader packet.bytes
 
 abbrev pub ends_next : TableEntries → Checker → Packet → PartitionEnds
@@ -48,11 +48,11 @@ abbrev pub findings_after : TableEntries → Checker → List Packet → List Fi
 findings_after tables checker rest = joined (each_after tables checker rest)
 
 -- the text of findings, and what follows them
-abbrev pub text_of_check : Form → Ivf → List Finding → List ℕ
+abbrev pub text_of_check : Form → Stream → List Finding → List ℕ
 text_of_check form file found = texts_of form found ++ end_of form (length file.packets) (frames_of file.packets) (tally_of found)
 
 -- a check of a file: the output gained the text of its findings, and the tally is theirs
-pub record IsChecked (form : Form) (tables : TableEntries) (bytes : List ℕ) (file : Ivf) (tally : Tally) (output output' : Option (List ℕ)) : Type 0 where
+pub record IsChecked (form : Form) (tables : TableEntries) (bytes : List ℕ) (file : Stream) (tally : Tally) (output output' : Option (List ℕ)) : Type 0 where
   pub written : Appends output output' (text_of_check form file (findings tables bytes file))
   pub counted : tally ≡ tally_of (findings tables bytes file)
 
@@ -64,7 +64,7 @@ pub record IsBegun (form : Form) (all : List Finding) (output output' : Option (
   pub said : Appends output output' (texts_of form done)
 
 -- what was written when a check ended early
-abbrev pub IsEarlyEnd : Form → TableEntries → List ℕ → Ivf → Option (List ℕ) → Option (List ℕ) → CheckFault → Type 0
+abbrev pub IsEarlyEnd : Form → TableEntries → List ℕ → Stream → Option (List ℕ) → Option (List ℕ) → CheckFault → Type 0
 IsEarlyEnd form tables bytes file output output' NoMemory = (output' ≡ output) ⊎ IsBegun form (findings tables bytes file) output output'
 IsEarlyEnd form tables bytes file output output' Write = Unit {0}
 

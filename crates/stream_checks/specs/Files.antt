@@ -2,8 +2,8 @@
 use Rattle.std.specs.Prelude.{ℕ, ◌-◌, ◌==◌, ◌||◌, if◌then◌else◌, nat_le, List, ◌++◌, drop, length, Option, Some, None}
 use Rattle.byteorder.specs.Endian.{little_number}
 use Rattle.vp8_tables.specs.Tables.{TableEntries}
-use Rattle.stream_files.specs.declared.ivf.Head.{Head}
-use Rattle.stream_files.specs.declared.ivf.Ivf.{Ivf}
+use Rattle.stream_files.specs.declared.streams.Head.{Head}
+use Rattle.stream_files.specs.declared.streams.Stream.{Stream}
 use Rattle.stream_facts.specs.Facts.{first_key_size}
 use Rattle.stream_checks.specs.declared.finding.Finding.{Finding}
 use Rattle.stream_checks.specs.declared.finding.Trouble.{Trouble}
@@ -41,16 +41,16 @@ abbrev pub cut_trouble : List ℕ → ℕ → ℕ → Option Trouble
 cut_trouble bytes packets spare = if spare == 0 then None else Some (cut_at bytes packets (length bytes - spare) spare)
 
 -- the findings at the header
-abbrev pub head_findings : List ℕ → Ivf → List Finding
+abbrev pub head_findings : List ℕ → Stream → List Finding
 head_findings bytes file =
     listed (found_around (count_trouble (claimed_frames bytes) (length file.packets)))
     ++ listed (found_around (size_trouble (file.head.width, file.head.height) (first_key_size file.packets)))
     ++ listed (found_around (rate_trouble file.head))
 
 -- and at the end
-abbrev pub end_findings : List ℕ → Ivf → List Finding
+abbrev pub end_findings : List ℕ → Stream → List Finding
 end_findings bytes file = listed (found_around (cut_trouble bytes (length file.packets) file.spare))
 
 -- the findings of a file: at its header, at its packets, and at its end
-abbrev pub findings : TableEntries → List ℕ → Ivf → List Finding
+abbrev pub findings : TableEntries → List ℕ → Stream → List Finding
 findings tables bytes file = head_findings bytes file ++ packet_findings tables file.packets ++ end_findings bytes file

@@ -4,7 +4,7 @@ use Rattle.std.specs.List.{filter_map, zip}
 use Rattle.vp8_tables.specs.Tables.{TableEntries}
 use Rattle.stream_files.specs.declared.packets.Packet.{Packet}
 use Rattle.frame_header.specs.Tags.{is_shown}
-use Rattle.state_cache.specs.Decoding.{Outcome, Progress, outcomes_from}
+use Rattle.stream_steps.specs.Decoding.{Outcome, Progress, outcomes_from}
 use Rattle.stream_checks.specs.HashLines.{Frame}
 
 -- the frame of a packet, if it is shown and its outcome is good

@@ -3,8 +3,8 @@ use Rattle.std.specs.Prelude.{◌≡◌, ℕ, Bool, if◌then◌else◌, List, [
 use Rattle.std.specs.List.{flat_map}
 use Rattle.std.specs.Io.KnownBytes.{Appends}
 use Rattle.vp8_tables.specs.Tables.{TableEntries}
-use Rattle.stream_files.specs.declared.ivf.Head.{Head}
-use Rattle.stream_files.specs.declared.ivf.Ivf.{Ivf}
+use Rattle.stream_files.specs.declared.streams.Head.{Head}
+use Rattle.stream_files.specs.declared.streams.Stream.{Stream}
 use Rattle.stream_checks.specs.declared.hashes.HashFault.{HashFault}
 use Rattle.stream_checks.specs.declared.hashes.HashFault.TheVariants.{NoMemory, Write}
 use Rattle.stream_checks.specs.declared.time_bases.TimeBase.{TimeBase}
@@ -27,13 +27,13 @@ added_by base has_begun None = []
 added_by base has_begun (Some frame) = (if has_begun then [] else head_lines base frame.picture.width frame.picture.height) ++ line_of frame
 
 -- the output gained the text of the file's frames
-pub record IsHashed (tables : TableEntries) (file : Ivf) (output output' : Option (List ℕ)) : Type 0 where
+pub record IsHashed (tables : TableEntries) (file : Stream) (output output' : Option (List ℕ)) : Type 0 where
   pub base : TimeBase
   pub unit : IsTimeBase file.head base
   pub written : Appends output output' (text_of file.head base (frames_of tables file.packets))
 
 -- the output gained the front of that text
-pub record IsCut (tables : TableEntries) (file : Ivf) (output output' : Option (List ℕ)) : Type 0 where
+pub record IsCut (tables : TableEntries) (file : Stream) (output output' : Option (List ℕ)) : Type 0 where
   pub base : TimeBase
   pub unit : IsTimeBase file.head base
   pub gained : List ℕ
@@ -42,6 +42,6 @@ pub record IsCut (tables : TableEntries) (file : Ivf) (output output' : Option (
   pub written : Appends output output' gained
 
 -- after an error: if memory ran out, the output gained the front of the text; if the writer failed, the writer alone knows what it gained
-abbrev pub IsHashFault : TableEntries → Ivf → Option (List ℕ) → Option (List ℕ) → HashFault → Type 0
+abbrev pub IsHashFault : TableEntries → Stream → Option (List ℕ) → Option (List ℕ) → HashFault → Type 0
 IsHashFault tables file output output' NoMemory = IsCut tables file output output'
 IsHashFault tables file output output' Write = Unit {0}

@@ -3,9 +3,9 @@ use Rattle.std.specs.Prelude.{◌≡◌, ℕ, ◌<◌, Bool, true, false, List, 
 use Rattle.vp8_tables.specs.declared.tables.Tables.{Tables}
 use Rattle.frame_header.specs.declared.cause.Cause.TheVariants.{NoKeyFrame}
 use Rattle.stream_files.specs.declared.packets.Packet.{Packet}
-use Rattle.state_cache.specs.declared.outcomes.Broken.{Broken}
-use Rattle.state_cache.specs.Decoding.{Progress as Decoded, left_by, outcomes_from}
-use Rattle.macroblock_lists.specs.Known.{Progress}
+use Rattle.stream_steps.specs.declared.broken.Broken.{Broken}
+use Rattle.stream_steps.specs.Decoding.{Progress as Decoded, left_by, outcomes_from}
+use Rattle.macroblock_lists.specs.Known.{Knowledge}
 use Rattle.macroblock_lists.specs.KnownLaws.{known_in}
 use Rattle.macroblock_lists.specs.PartitionEnds.{no_ends}
 use Rattle.macroblock_lists.specs.declared.partition_ends.PartitionEnd.{PartitionEnd}
@@ -44,7 +44,7 @@ key stamp = record { stamp = stamp; bytes = 0x10 ∷ 0 ∷ 0 ∷ [] }
 abbrev pub found_at_pace : Pace → List Packet → List Finding
 found_at_pace pace packets =
     let broken : Broken = record { place = 1000; cause = NoKeyFrame } in
-    let lost : Progress = Err broken in
+    let lost : Knowledge = Err broken in
     findings_from pace first_position packets (map (λ packet. lost) packets) (map (λ packet. no_ends) packets)
 
 abbrev pub found_in : ℕ → List Packet → List Finding

@@ -9,7 +9,7 @@ use Rattle.frame_header.specs.Tags.{has_key_tag, is_shown, key_size_of}
 use Rattle.vp8_tables.specs.Tables.{TableEntries}
 use Rattle.header_bits.specs.Copies.{copy_numbers, no_copies}
 use Rattle.header_bits.specs.declared.copies.CopyNumbers.{CopyNumbers}
-use Rattle.macroblock_lists.specs.Known.{Progress}
+use Rattle.macroblock_lists.specs.Known.{Knowledge}
 use Rattle.macroblock_lists.specs.declared.partition_ends.PartitionEnds.{PartitionEnds}
 use Rattle.stream_checks.specs.Breaks.{break_in, progresses_from}
 use Rattle.stream_checks.specs.Listed.{found, listed}
@@ -20,7 +20,7 @@ use Rattle.stream_checks.specs.declared.finding.Spot.{Spot}
 use Rattle.stream_checks.specs.declared.finding.Trouble.{Trouble}
 use Rattle.stream_checks.specs.declared.finding.Trouble.TheVariants.{Refused, SizeChanges, NeverShown, NoBytes, GoldenCopiesNone, AltrefCopiesNone, ComesTwice}
 use Rattle.stream_checks.specs.declared.packets.Ahead.{Ahead}
-use Rattle.stream_checks.specs.declared.packets.Position.{Position}
+use Rattle.stream_checks.specs.declared.packets.PacketsBefore.{PacketsBefore}
 use Rattle.stream_checks.specs.declared.packets.Found.{Found}
 use Rattle.stream_checks.specs.declared.packets.Read.{Read}
 use Rattle.stream_checks.specs.declared.stamps.Pace.{Pace}
@@ -55,12 +55,12 @@ abbrev pub emptiness : List ℕ → Option Trouble
 emptiness packet = if length packet == 0 then Some NoBytes else None
 
 -- a packet that is decoded has the numbers of copies that are coded, any other none
-abbrev pub copies_in : Progress → List ℕ → CopyNumbers
+abbrev pub copies_in : Knowledge → List ℕ → CopyNumbers
 copies_in (Ok known) packet = copy_numbers packet
 copies_in (Err broken) packet = no_copies
 
 -- what reading a packet says: the cause, if the stream breaks at it, and the numbers of its copies
-abbrev pub read_in : ℕ → Progress → List ℕ → Read
+abbrev pub read_in : ℕ → Knowledge → List ℕ → Read
 read_in place after packet = record { cause = break_in place after; copies = copies_in after packet }
 
 -- a number 3, which names no reference
@@ -83,14 +83,14 @@ abbrev pub ahead_of : Packet → List Packet → Ahead
 ahead_of packet rest = record { lost = lost_after rest; is_unshown = is_unshown rest; is_repeated = is_repeated packet rest }
 
 -- before the first packet
-abbrev pub first_position : Position
+abbrev pub first_position : PacketsBefore
 first_position = record { packets = 0; frames = 0; stamps = None; size = None }
 
 abbrev pub newer : {A : Type 0} → Option A → Option A → Option A
 newer None before = before
 newer (Some now) before = Some now
 
-abbrev pub position_after : ℕ → Position → Packet → Position
+abbrev pub position_after : ℕ → PacketsBefore → Packet → PacketsBefore
 position_after step position packet = record {
   packets = position.packets + 1;
   frames = position.frames + from_bool (is_shown packet.bytes);
@@ -98,16 +98,16 @@ position_after step position packet = record {
   size = newer (key_size_of packet.bytes) position.size;
 }
 
-abbrev pub position_over : ℕ → Position → List Packet → Position
+abbrev pub position_over : ℕ → PacketsBefore → List Packet → PacketsBefore
 position_over step position [] = position
 position_over step position (packet ∷ packets) = position_over step (position_after step position packet) packets
 
 -- the packet at a position, and the frame that it is shown as
-abbrev pub spot_of : Position → List ℕ → Spot
+abbrev pub spot_of : PacketsBefore → List ℕ → Spot
 spot_of position packet = record { packet = position.packets; frame = if is_shown packet then Some position.frames else None }
 
 -- what is wrong with a packet by the packets around it
-abbrev pub found_at : Pace → Position → Packet → Ahead → Read → Found
+abbrev pub found_at : Pace → PacketsBefore → Packet → Ahead → Read → Found
 found_at pace position packet ahead read = record {
   refused = refusal read.cause ahead.lost;
   empty = emptiness packet.bytes;
@@ -126,13 +126,13 @@ listed_of spot all =
 
 -- the findings at a packet. A packet whose partitions are read is not refused, so its first findings are those of its partitions,
 -- as a refused packet's first is the refusal
-abbrev pub findings_at : Pace → Position → Packet → Ahead → Progress → PartitionEnds → List Finding
+abbrev pub findings_at : Pace → PacketsBefore → Packet → Ahead → Knowledge → PartitionEnds → List Finding
 findings_at pace position packet ahead after ends =
     partition_findings (spot_of position packet.bytes) ends
     ++ listed_of (spot_of position packet.bytes) (found_at pace position packet ahead (read_in position.packets after packet.bytes))
 
 -- the findings at each of these packets, by what is known after it and by its partitions
-abbrev pub each_from : Pace → Position → List Packet → List Progress → List PartitionEnds → List (List Finding)
+abbrev pub each_from : Pace → PacketsBefore → List Packet → List Knowledge → List PartitionEnds → List (List Finding)
 each_from pace position (packet ∷ packets) (after ∷ progresses) (ends ∷ later) =
     findings_at pace position packet (ahead_of packet packets) after ends ∷ each_from pace (position_after pace.step position packet) packets progresses later
 each_from pace position packets progresses ends = []
@@ -141,7 +141,7 @@ each_from pace position packets progresses ends = []
 abbrev pub joined : List (List Finding) → List Finding
 joined each = flat_map (λ found. found) each
 
-abbrev pub findings_from : Pace → Position → List Packet → List Progress → List PartitionEnds → List Finding
+abbrev pub findings_from : Pace → PacketsBefore → List Packet → List Knowledge → List PartitionEnds → List Finding
 findings_from pace position packets progresses ends = joined (each_from pace position packets progresses ends)
 
 -- the bytes of packets

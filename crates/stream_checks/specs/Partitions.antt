@@ -1,7 +1,7 @@
 -- The findings in the partitions of a packet: where decoding ends in each.
 use Rattle.std.specs.Prelude.{ℕ, ◌+◌, ◌==◌, nat_lt, if◌then◌else◌, List, [], ◌∷◌, ◌++◌, Option, Some, None}
 use Rattle.vp8_tables.specs.declared.tables.Tables.{Tables}
-use Rattle.macroblock_lists.specs.Known.{Progress, progress_after}
+use Rattle.macroblock_lists.specs.Known.{Knowledge, progress_after}
 use Rattle.macroblock_lists.specs.PartitionEnds.{ends_before}
 use Rattle.macroblock_lists.specs.declared.partition_ends.PartitionEnd.{PartitionEnd}
 use Rattle.macroblock_lists.specs.declared.partition_ends.PartitionEnds.{PartitionEnds}
@@ -12,7 +12,7 @@ use Rattle.stream_checks.specs.declared.finding.Trouble.TheVariants.{PastFirst, 
 use Rattle.stream_checks.specs.Listed.{found, listed}
 
 -- where decoding each packet of a stream ends in its partitions; the first has the index `place`
-abbrev pub ends_from : Tables → ℕ → Progress → List (List ℕ) → List PartitionEnds
+abbrev pub ends_from : Tables → ℕ → Knowledge → List (List ℕ) → List PartitionEnds
 ends_from tables place before [] = []
 ends_from tables place before (packet ∷ packets) =
     ends_before tables before packet ∷ ends_from tables (place + 1) (progress_after tables place before packet) packets

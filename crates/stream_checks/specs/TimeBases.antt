@@ -1,7 +1,7 @@
 -- The time base of a file: the unit of its time stamps.
 use Rattle.std.specs.Prelude.{◌≡◌, ℕ, ◌*◌, ◌==◌, ◌||◌, if◌then◌else◌}
 use Rattle.std.specs.Int.{IsGcd}
-use Rattle.stream_files.specs.declared.ivf.Head.{Head}
+use Rattle.stream_files.specs.declared.streams.Head.{Head}
 use Rattle.stream_checks.specs.declared.time_bases.TimeBase.{TimeBase}
 
 -- a fraction in lowest terms: both numbers divided by their greatest common divisor

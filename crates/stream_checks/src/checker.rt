@@ -10,12 +10,12 @@ ghost use Rattle.stream_checks.specs.Checks.{findings_next, progress_next};
 
 use crate::fault::CheckFault;
 use crate::finding::{Spot, Tally};
-use crate::packets::{Ahead, Found, Position};
+use crate::packets::{Ahead, Found, PacketsBefore};
 use crate::partitions::{found, write_partitions};
 use crate::reader::Reader;
 use crate::stamps::Pace;
 use crate::texts::write_found;
-use macroblock_lists::{Form, PartitionEnds, Progress};
+use macroblock_lists::{Form, Knowledge, PartitionEnds};
 use std::alloc::Global;
 use std::io::Write;
 use stream_files::WriteFault;
@@ -26,7 +26,7 @@ use vp8_tables::Tables;
 pub struct Checker {
     pub form: Form,
     pub pace: Pace,
-    pub position: Position,
+    pub position: PacketsBefore,
     pub reader: Reader,
 }
 
@@ -77,8 +77,8 @@ impl Checker {
         alloc: Global,
         form: Form,
         pace: Pace,
-        position: Position,
-        progress: Progress,
+        position: PacketsBefore,
+        progress: Knowledge,
     ) -> Checker
         ensures { result ≡ record { form = form; pace = pace; position = position; reader = progress } }
     {

@@ -13,14 +13,14 @@ use crate::checker::Checker;
 use crate::fault::CheckFault;
 use crate::file::{write_cut, write_head};
 use crate::finding::Tally;
-use crate::packets::{Position, ahead_of};
-use crate::progress::Progress;
+use crate::packets::{PacketsBefore, ahead_of};
+use crate::progress::Watch;
 use crate::stamps::pace_of;
 use crate::texts::write_end;
 use macroblock_lists::Form;
 use std::alloc::Global;
 use std::io::Write;
-use stream_files::{Ivf, Packet};
+use stream_files::{Packet, Stream};
 use vp8_tables::Tables;
 
 /// What a check of packets counts: what is found at them, and the frames that are shown up to the last one.
@@ -31,7 +31,7 @@ struct Checked {
 }
 
 /// Reads the packets after a checker's position and writes their findings, and returns their tally and the number of frames after them.
-fn write_packets<W: Write, G: Progress>(
+fn write_packets<W: Write, G: Watch>(
     w: &mut W,
     tables: &Tables,
     checker: Checker,
@@ -74,13 +74,13 @@ fn write_packets<W: Write, G: Progress>(
 ///
 /// `NoMemory` if memory runs out: the findings before were written whole. `Write` if the writer
 /// returns an error; part of a line may have been written.
-pub fn check<W: Write, G: Progress>(
+pub fn check<W: Write, G: Watch>(
     w: &mut W,
     alloc: Global,
     form: Form,
     tables: &Tables,
     bytes: &[u8],
-    file: &Ivf,
+    file: &Stream,
     progress: &mut G,
 ) -> Result<Tally, CheckFault>
     requires { IsIvf bytes.now file.now }
@@ -94,7 +94,7 @@ pub fn check<W: Write, G: Progress>(
     let Ok(at_head) = write_head(w, form, bytes, file) else {
         return Err(CheckFault::Write);
     };
-    let checker = Checker::new(alloc, form, pace, Position::first(), Ok(None));
+    let checker = Checker::new(alloc, form, pace, PacketsBefore::first(), Ok(None));
     let checked = match write_packets(w, tables, checker, packets, progress) {
         Ok(checked) => checked,
         Err(fault) => return Err(fault),

@@ -3,15 +3,15 @@
 ghost use Rattle.std.specs.Prelude.{◌≡◌, ◌+◌, ◌^◌, ◌<◌, IfOk, None, OnOk};
 ghost use Rattle.std.specs.Option.{option_copied, option_map};
 ghost use Rattle.reference_frames.specs.Steps.{step_of};
-ghost use Rattle.state_cache.specs.Decoding.{left_by, outcome, reported_at};
+ghost use Rattle.stream_steps.specs.Decoding.{left_by, outcome, reported_at};
 ghost use Rattle.stream_checks.specs.Frames.{frame_of};
 
 use frame_header::{has_key_tag, is_shown};
 use pixel_planes::{NoMemory, Picture, Recycled};
 use reference_frames::{State, StepFault, step_with};
-use state_cache::Broken;
 use std::alloc::Global;
 use stream_files::Packet;
+use stream_steps::Broken;
 use vp8_tables::Tables;
 
 /// A position between two packets of a stream: the number of packets before it, and what they

@@ -13,7 +13,7 @@ use byteorder::{ByteOrder, LittleEndian};
 use macroblock_lists::Form;
 use std::io::Write;
 use stream_facts::first_key_size;
-use stream_files::{Head, Ivf, WriteFault};
+use stream_files::{Head, Stream, WriteFault};
 
 /// The number of frames that the header gives.
 fn claimed_frames(bytes: &[u8]) -> u32
@@ -106,7 +106,7 @@ pub(crate) fn write_head<W: Write>(
     w: &mut W,
     form: Form,
     bytes: &[u8],
-    file: &Ivf,
+    file: &Stream,
 ) -> Result<Tally, WriteFault>
     requires { 32 ≤ length bytes.now }
     ensures written { OnOk result (Appends (W.contents w.old) (W.contents w.new) (texts_of form (head_findings bytes.now file.now))) }
@@ -127,7 +127,7 @@ pub(crate) fn write_cut<W: Write>(
     w: &mut W,
     form: Form,
     bytes: &[u8],
-    file: &Ivf,
+    file: &Stream,
 ) -> Result<Tally, WriteFault>
     ensures written { OnOk result (Appends (W.contents w.old) (W.contents w.new) (texts_of form (end_findings bytes.now file.now))) }
     ensures counted { IfOk result (λ tally. tally ≡ tally_of (end_findings bytes.now file.now)) }

@@ -3,18 +3,18 @@
 ghost use Rattle.std.specs.Prelude.{◌≡◌, ◌+◌, ◌^◌, ◌<◌, ◌||◌, [], Err, IfErr, OnErr, OnOk, Some, if◌then◌else◌, is_some};
 ghost use Rattle.std.specs.Io.KnownBytes.{Appends};
 ghost use Rattle.stream_checks.specs.Hashes.{IsHashFault, IsHashed, added_by};
-ghost use Rattle.state_cache.specs.Decoding.{left_by, outcome};
+ghost use Rattle.stream_steps.specs.Decoding.{left_by, outcome};
 ghost use Rattle.stream_checks.specs.Frames.{frame_of};
 ghost use Rattle.stream_checks.specs.HashLines.{head_lines};
 
 use crate::decoding::Decoding;
 use crate::hash_lines::{write_head, write_line};
-use crate::progress::Progress;
+use crate::progress::Watch;
 use crate::time_bases::{TimeBase, time_base};
 use pixel_planes::Picture;
 use std::alloc::Global;
 use std::io::Write;
-use stream_files::{Ivf, Packet, WriteFault};
+use stream_files::{Packet, Stream, WriteFault};
 use thiserror::Error;
 use vp8_tables::Tables;
 
@@ -106,11 +106,11 @@ impl Writing {
 ///
 /// `NoMemory` if memory for decoding was refused; the front of the text is then written. `Write` if
 /// the writer returns an error; part of the text may have been written.
-pub fn write_hashes<W: Write, G: Progress>(
+pub fn write_hashes<W: Write, G: Watch>(
     w: &mut W,
     alloc: Global,
     tables: &Tables,
-    file: &Ivf,
+    file: &Stream,
     progress: &mut G,
 ) -> Result<(), HashFault>
     ensures hashed { OnOk result (IsHashed tables.now file.now (W.contents w.old) (W.contents w.new)) }

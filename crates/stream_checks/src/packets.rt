@@ -13,7 +13,7 @@ use stream_files::Packet;
 /// What is known of the packets before an index: their number and that of the shown ones, their time
 /// stamps, and the size of the last key packet with a size.
 #[derive(Clone, Copy)]
-pub struct Position {
+pub struct PacketsBefore {
     pub packets: usize,
     pub frames: usize,
     pub stamps: Option<Stamps>,
@@ -209,11 +209,11 @@ fn newer(size: Option<(u16, u16)>, before: Option<(u16, u16)>) -> Option<(u16, u
     }
 }
 
-impl Position {
-    pub fn first() -> Position
+impl PacketsBefore {
+    pub fn first() -> PacketsBefore
         ensures { result ≡ first_position }
     {
-        Position {
+        PacketsBefore {
             packets: 0,
             frames: 0,
             stamps: None,
@@ -237,14 +237,14 @@ impl Position {
     }
 
     /// The position after a packet with this time stamp. `step` is that of the stream's pace.
-    pub fn after(self, step: u64, stamp: u64, packet: &[u8]) -> Position
+    pub fn after(self, step: u64, stamp: u64, packet: &[u8]) -> PacketsBefore
         requires room { self.packets + 1 < 2 ^ 64 }
         requires frames { self.frames ≤ self.packets }
         requires step { 1 ≤ step }
         ensures after { result ≡ position_after step self (record { stamp = stamp; bytes = packet.now }) }
         ensures frames { result.frames ≤ result.packets }
     {
-        Position {
+        PacketsBefore {
             packets: self.packets + 1,
             frames: self.frames + usize::from(is_shown(packet)),
             stamps: stamps_after(step, self.packets, self.stamps, stamp, packet),

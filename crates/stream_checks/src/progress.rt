@@ -1,7 +1,7 @@
 // Progress through the packets of a stream.
 
 /// Follows the decoding of a stream, packet after packet.
-pub trait Progress {
+pub trait Watch {
     /// Is called after each packet. `count` is the number of packets of the whole stream.
     fn packet_done(&mut self, count: usize);
 
@@ -13,7 +13,7 @@ pub trait Progress {
 #[derive(Clone, Copy, Debug)]
 pub struct Unwatched;
 
-impl Progress for Unwatched {
+impl Watch for Unwatched {
     fn packet_done(&mut self, _count: usize) {}
 
     fn end(&mut self) {}

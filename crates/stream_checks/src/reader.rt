@@ -10,7 +10,7 @@ ghost use Rattle.stream_checks.specs.Packets.{copies_in, read_in};
 use crate::packets::Read;
 use frame_header::Cause;
 use header_bits::{CopyNumbers, copy_numbers};
-use macroblock_lists::{PartitionEnds, Progress, read_packet};
+use macroblock_lists::{Knowledge, PartitionEnds, read_packet};
 use pixel_planes::NoMemory;
 use std::alloc::Global;
 use std::marker::Model;
@@ -22,27 +22,27 @@ use vp8_tables::Tables;
 #[derive(Drop)]
 pub struct Reader {
     alloc: Global,
-    progress: Progress,
+    progress: Knowledge,
 }
 
 impl Model for Reader {
-    ghost use Rattle.macroblock_lists.specs.Known.{Progress};
+    ghost use Rattle.macroblock_lists.specs.Known.{Knowledge};
 
-    ghost Value = { Progress };
+    ghost Value = { Knowledge };
 
     ghost view = { λ r. r.progress };
 }
 
 impl Reader {
     /// Where decoding knows so much.
-    pub fn new(alloc: Global, progress: Progress) -> Reader
+    pub fn new(alloc: Global, progress: Knowledge) -> Reader
         ensures { result ≡ progress }
     {
         Reader { alloc, progress }
     }
 
     /// What is known there.
-    pub fn into_progress(self) -> Progress
+    pub fn into_progress(self) -> Knowledge
         ensures { result ≡ self }
     {
         self.progress

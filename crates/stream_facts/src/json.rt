@@ -10,7 +10,7 @@ use crate::lines::{write_cause, write_text};
 use crate::listing::first_record;
 use frame_header::{Cause, Colors, Outline, Reference, ReferenceUpdates, Tag};
 use std::io::Write;
-use stream_files::{Ivf, Packet, WriteFault};
+use stream_files::{Packet, Stream, WriteFault};
 
 const NO_FIELDS: &str =
     "\"partitions\":null,\"quantizer\":null,\"level\":null,\"last\":null,\"golden\":null,\"altref\":null,";
@@ -294,7 +294,7 @@ fn write_all<W: Write>(w: &mut W, begins: usize, packets: &[Packet]) -> Result<(
 }
 
 /// Writes a line for each packet of an IVF file, a JSON object with its facts. Only headers are read.
-pub fn write_objects<W: Write>(w: &mut W, bytes: &[u8], file: &Ivf) -> Result<(), WriteFault>
+pub fn write_objects<W: Write>(w: &mut W, bytes: &[u8], file: &Stream) -> Result<(), WriteFault>
     requires { IsIvf bytes.now file.now }
     ensures { OnOk result (Appends (W.contents w.old) (W.contents w.new) (objects_of (header_length bytes.now) file.now.packets)) }
 {

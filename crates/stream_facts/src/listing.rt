@@ -9,7 +9,7 @@ use crate::facts::Position;
 use crate::lines::{write_line, write_text};
 use byteorder::{ByteOrder, LittleEndian};
 use std::io::Write;
-use stream_files::{Ivf, Packet, WriteFault};
+use stream_files::{Packet, Stream, WriteFault};
 
 /// The names of the columns.
 const HEAD: &str =
@@ -38,7 +38,7 @@ fn write_all<W: Write>(w: &mut W, begins: usize, packets: &[Packet]) -> Result<(
 
 /// Writes a line with the names of the columns, and a line for each packet of an IVF file with its
 /// facts. Only headers are read.
-pub fn write_listing<W: Write>(w: &mut W, bytes: &[u8], file: &Ivf) -> Result<(), WriteFault>
+pub fn write_listing<W: Write>(w: &mut W, bytes: &[u8], file: &Stream) -> Result<(), WriteFault>
     requires { IsIvf bytes.now file.now }
     ensures { OnOk result (Appends (W.contents w.old) (W.contents w.new) (list_text (header_length bytes.now) file.now.packets)) }
 {

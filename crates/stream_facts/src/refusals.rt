@@ -11,7 +11,7 @@ use crate::lines::{write_cause, write_text};
 use crate::listing::first_record;
 use frame_header::{Cause, Outline};
 use std::io::Write;
-use stream_files::{Ivf, Packet, WriteFault};
+use stream_files::{Packet, Stream, WriteFault};
 
 fn write_start<W: Write>(w: &mut W, packet: usize) -> Result<(), WriteFault>
     ensures { OnOk result (Appends (W.contents w.old) (W.contents w.new) (refusal_start packet)) }
@@ -80,7 +80,7 @@ fn write_all<W: Write>(w: &mut W, begins: usize, packets: &[Packet]) -> Result<(
 
 /// Writes a line for each packet of an IVF file that decoding refuses, except for those that are lost
 /// with an earlier one. Only headers are read.
-pub fn write_refusals<W: Write>(w: &mut W, bytes: &[u8], file: &Ivf) -> Result<(), WriteFault>
+pub fn write_refusals<W: Write>(w: &mut W, bytes: &[u8], file: &Stream) -> Result<(), WriteFault>
     requires { IsIvf bytes.now file.now }
     ensures { OnOk result (Appends (W.contents w.old) (W.contents w.new) (refusals_of (header_length bytes.now) file.now.packets)) }
 {
@@ -88,7 +88,7 @@ pub fn write_refusals<W: Write>(w: &mut W, bytes: &[u8], file: &Ivf) -> Result<(
 }
 
 /// Whether decoding refuses a packet of an IVF file.
-pub fn has_refused(bytes: &[u8], file: &Ivf) -> bool
+pub fn has_refused(bytes: &[u8], file: &Stream) -> bool
     requires { IsIvf bytes.now file.now }
     ensures { result ≡ has_refused (facts_in (header_length bytes.now) file.now.packets) }
 {

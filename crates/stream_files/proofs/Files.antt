@@ -3,8 +3,9 @@ use Rattle.std.proofs.Common.{◌≡◌, ℕ, ◌-◌, ◌≤◌, List, length, 
 use Rattle.std.proofs.lemmas.List.{take_rest}
 use Rattle.stream_files.specs.declared.packets.Packet.{Packet}
 use Rattle.stream_files.specs.declared.packets.TheConstants.{MAX_PACKETS}
-use Rattle.stream_files.specs.declared.ivf.Head.{Head}
-use Rattle.stream_files.specs.declared.ivf.Ivf.{Ivf}
+use Rattle.stream_files.specs.declared.streams.Head.{Head}
+use Rattle.stream_files.specs.declared.streams.Stream.{Stream}
+use Rattle.stream_files.specs.Streams.{rate_of}
 use Rattle.stream_files.specs.Ivf.{HasHeader, HasRecord, Records, IsRecordCount, IsIvf, body, head_of, header_length}
 use Rattle.stream_files.proofs.Walks.{records-longest}
 
@@ -12,7 +13,7 @@ use Rattle.stream_files.proofs.Walks.{records-longest}
 pub is_ivf : (bytes : List ℕ) (head : Head) (packets : List Packet) (rest : List ℕ) (spare count : ℕ)
     → HasHeader bytes → head ≡ head_of bytes → Records (body bytes) packets rest → ¬ HasRecord rest → spare ≡ length rest
     → IsRecordCount (body bytes) count → count ≤ MAX_PACKETS
-    → IsIvf bytes (record { head = head; packets = packets; spare = spare })
+    → IsIvf bytes (record { head = head; frame_rate = rate_of head; packets = packets; spare = spare })
 is_ivf bytes head packets rest spare count has_header is_head records over is_spare counted few = record {
   header = has_header;
   head = is_head;
@@ -20,15 +21,16 @@ is_ivf bytes head packets rest spare count has_header is_head records over is_sp
   records = records;
   over = over;
   spare = is_spare;
+  frame_rate = refl;
   few =
       let fewer = records-longest (body bytes) counted.packets counted.rest packets rest counted.records counted.over records in
       omega (arith, fewer, counted.counted, few);
 }
 
 -- if the records can be counted there is a file
-pub is_some_ivf : (bytes : List ℕ) (count : ℕ) → HasHeader bytes → IsRecordCount (body bytes) count → count ≤ MAX_PACKETS → (file : Ivf) × IsIvf bytes file
+pub is_some_ivf : (bytes : List ℕ) (count : ℕ) → HasHeader bytes → IsRecordCount (body bytes) count → count ≤ MAX_PACKETS → (file : Stream) × IsIvf bytes file
 is_some_ivf bytes count has_header counted few = (
-  record { head = head_of bytes; packets = counted.packets; spare = length counted.rest },
+  record { head = head_of bytes; frame_rate = rate_of (head_of bytes); packets = counted.packets; spare = length counted.rest },
   is_ivf bytes (head_of bytes) counted.packets counted.rest (length counted.rest) count has_header refl counted.records counted.over refl counted few,
 )
 
@@ -43,7 +45,7 @@ pub reads_ivf : (file bytes : List ℕ) (head : Head) (packets : List Packet) (s
     → bytes ≡ file → HasHeader bytes × (head ≡ head_of bytes) × (start ≡ header_length bytes)
     → IsRecordCount (take (length bytes - start) (drop start bytes)) count → count ≤ MAX_PACKETS
     → Records (drop start file) packets (drop end file) → ¬ HasRecord (drop end file) → end ≤ length file
-    → IsIvf file (record { head = head; packets = packets; spare = length bytes - end })
+    → IsIvf file (record { head = head; frame_rate = rate_of head; packets = packets; spare = length bytes - end })
 reads_ivf file bytes head packets start end count is_file found counted few records over inside =
     let P : List ℕ → Type 0 = λ b. HasHeader b × (head ≡ head_of b) × (start ≡ header_length b) in
     let of_file : P file = subst P is_file found in
@@ -56,7 +58,7 @@ reads_ivf file bytes head packets start end count is_file found counted few reco
 -- the same when there is no memory for the packets
 pub lacks_ivf : (file bytes : List ℕ) (start count : ℕ) → bytes ≡ file → HasHeader bytes × (start ≡ header_length bytes)
     → IsRecordCount (take (length bytes - start) (drop start bytes)) count → count ≤ MAX_PACKETS
-    → (ivf : Ivf) × IsIvf file ivf
+    → (ivf : Stream) × IsIvf file ivf
 lacks_ivf file bytes start count is_file found counted few =
     let of_file = subst (λ b. HasHeader b × (start ≡ header_length b)) is_file found in
     is_some_ivf file count of_file.0 (counted_body file bytes start count is_file of_file.1 counted) few

@@ -3,8 +3,8 @@ use Rattle.std.proofs.Common.{◌≡◌, ℕ, ◌+◌, ◌-◌, ◌^◌, ◌<◌
 use Rattle.std.proofs.lemmas.List.{take_at, drop_at, drop-drop, length-take-le}
 use Rattle.byteorder.specs.Endian.{little_number, little_bytes}
 use Rattle.byteorder.specs.Numbers.{little_from-lt, little_number-reads_back, length-bytes_low_first}
-use Rattle.stream_files.specs.declared.ivf.Head.{Head}
-use Rattle.stream_files.specs.declared.ivf.Ivf.{Ivf}
+use Rattle.stream_files.specs.declared.streams.Head.{Head}
+use Rattle.stream_files.specs.declared.streams.Stream.{Stream}
 use Rattle.stream_files.specs.Ivf.{IsIvf, Records, body, head_of, header_length}
 use Rattle.stream_files.specs.Texts.{IsBytes, IsIvfText, FieldsFit, fields_text, records_text}
 use Rattle.stream_files.proofs.Texts.{bytes-drop, field_at, records_read, records_spelled}
@@ -72,7 +72,7 @@ same_head : (h : Head) (w g r s : ℕ) → w ≡ h.width → g ≡ h.height → 
 same_head h w g r s a b c d = rw (a, b, c, d) refl
 
 -- a text of this form is read
-pub text_is_ivf : (bytes : List ℕ) (file : Ivf) → IsIvfText bytes file → IsIvf bytes file
+pub text_is_ivf : (bytes : List ℕ) (file : Stream) → IsIvfText bytes file → IsIvf bytes file
 text_is_ivf bytes file is =
     let len = 28 + length is.unused in
     let head = file.head in
@@ -88,6 +88,7 @@ text_is_ivf bytes file is =
       records = subst (λ text. Records text file.packets is.rest) body_is (records_read file.packets is.rest is.packets);
       over = is.over;
       spare = is.spare;
+      frame_rate = is.frame_rate;
       few = is.few;
     }
 
@@ -105,7 +106,7 @@ part_at k n text part is_part =
     sym (take-append-drop n (drop k text)) ∙ ap (λ t. t ++ drop n (drop k text)) is_part ∙ ap (λ t. part ++ t) (drop-drop n k text)
 
 -- a text that is read has this form
-pub ivf_is_text : (bytes : List ℕ) (file : Ivf) → IsBytes bytes → IsIvf bytes file → IsIvfText bytes file
+pub ivf_is_text : (bytes : List ℕ) (file : Stream) → IsBytes bytes → IsIvf bytes file → IsIvfText bytes file
 ivf_is_text bytes file are is =
     let len = header_length bytes in
     let head = head_of bytes in
@@ -149,5 +150,6 @@ ivf_is_text bytes file are is =
       least = omega arith;
       over = is.over;
       spare = is.spare;
+      frame_rate = is.frame_rate;
       few = is.few;
     }

@@ -2,33 +2,37 @@
 use Rattle.std.proofs.Common.{◌≡◌, ℕ, ◌≤◌, ◌<◌, List, length, refl, sym, ◌∙◌, ap, arith}
 use Rattle.stream_files.specs.declared.packets.Packet.{Packet}
 use Rattle.stream_files.specs.declared.packets.TheConstants.{MAX_PACKETS}
-use Rattle.stream_files.specs.declared.ivf.Head.{Head}
-use Rattle.stream_files.specs.declared.ivf.Ivf.{Ivf}
+use Rattle.stream_files.specs.declared.streams.FrameRate.{FrameRate}
+use Rattle.stream_files.specs.declared.streams.Head.{Head}
+use Rattle.stream_files.specs.declared.streams.Stream.{Stream}
 use Rattle.stream_files.specs.declared.ivf.IvfFault.{IvfFault}
 use Rattle.stream_files.specs.declared.ivf.IvfFault.TheVariants.{Header, Magic, FourCc, HeaderLength, TooMany, NoMemory}
 use Rattle.stream_files.specs.Ivf.{HasFields, HasMagic, HasFourCc, HasLength, HasHeader, HasTooMany, IsIvf, IvfRefuses, body}
+use Rattle.stream_files.specs.Streams.{rate_of}
 use Rattle.stream_files.proofs.Walks.{records-longest, records-one}
 
-same_file : (h h' : Head) (p p' : List Packet) (s s' : ℕ) → h ≡ h' → p ≡ p' → s ≡ s'
-    → (let file : Ivf = record { head = h; packets = p; spare = s } in let other : Ivf = record { head = h'; packets = p'; spare = s' } in file ≡ other)
-same_file h h' p p' s s' a b c = cc
+same_file : (h h' : Head) (f f' : FrameRate) (p p' : List Packet) (s s' : ℕ) → h ≡ h' → f ≡ f' → p ≡ p' → s ≡ s'
+    → (let file : Stream = record { head = h; frame_rate = f; packets = p; spare = s } in let other : Stream = record { head = h'; frame_rate = f'; packets = p'; spare = s' } in file ≡ other)
+same_file h h' f f' p p' s s' a r b c = cc
 
 -- a text has at most one file
-pub one_file : (bytes : List ℕ) (file other : Ivf) → IsIvf bytes file → IsIvf bytes other → file ≡ other
+pub one_file : (bytes : List ℕ) (file other : Stream) → IsIvf bytes file → IsIvf bytes other → file ≡ other
 one_file bytes file other is is' =
     let walks = records-one (body bytes) file.packets is.rest other.packets is'.rest is.records is.over is'.records is'.over in
     let spare : file.spare ≡ other.spare = is.spare ∙ ap length walks.1 ∙ sym is'.spare in
-    same_file file.head other.head file.packets other.packets file.spare other.spare (is.head ∙ sym is'.head) walks.0 spare
+    let head : file.head ≡ other.head = is.head ∙ sym is'.head in
+    let frame_rate : file.frame_rate ≡ other.frame_rate = is.frame_rate ∙ ap rate_of head ∙ sym is'.frame_rate in
+    same_file file.head other.head file.frame_rate other.frame_rate file.packets other.packets file.spare other.spare head frame_rate walks.0 spare
 
 -- a file does not have too many packets
-not_too_many : (bytes : List ℕ) (file : Ivf) → IsIvf bytes file → ¬ HasTooMany (body bytes)
+not_too_many : (bytes : List ℕ) (file : Stream) → IsIvf bytes file → ¬ HasTooMany (body bytes)
 not_too_many bytes file is many =
     let fewer : length many.0 ≤ length file.packets = records-longest (body bytes) file.packets is.rest many.0 many.1 is.records is.over many.2 in
     let more : MAX_PACKETS < length many.0 = many.3 in
     omega (arith, fewer, more, is.few)
 
 -- the text of a file can only be refused as out of memory
-pub file_refused : (bytes : List ℕ) (file : Ivf) (fault : IvfFault) → IsIvf bytes file → IvfRefuses bytes fault → fault ≡ NoMemory
+pub file_refused : (bytes : List ℕ) (file : Stream) (fault : IvfFault) → IsIvf bytes file → IvfRefuses bytes fault → fault ≡ NoMemory
 file_refused bytes file Header is reported = absurd (reported is.header.0)
 file_refused bytes file Magic is reported = absurd (reported.1 is.header.1)
 file_refused bytes file FourCc is reported = absurd (reported.2 is.header.2)

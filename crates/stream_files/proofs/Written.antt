@@ -3,7 +3,7 @@ use Rattle.std.proofs.Common.{◌≤◌, List, [], ◌++◌, length, refl, sym, 
 use Rattle.byteorder.specs.Endian.{little_bytes}
 use Rattle.stream_files.specs.declared.packets.Packet.{Packet}
 use Rattle.stream_files.specs.declared.packets.TheConstants.{MAX_PACKETS}
-use Rattle.stream_files.specs.declared.ivf.Head.{Head}
+use Rattle.stream_files.specs.declared.streams.Head.{Head}
 use Rattle.stream_files.specs.Texts.{FieldsFit, PacketsFit, IsIvfText, WrittenIsRead, file_of, written_text, records_text, header_text}
 use Rattle.stream_files.proofs.Headers.{text_is_ivf}
 
@@ -19,6 +19,7 @@ written_is_text head packets fields fit few = record {
   least = omega arith;
   over = λ has. absurd (omega (arith, has));
   spare = refl;
+  frame_rate = refl;
   few = few;
 }
 

@@ -4,8 +4,9 @@ use Rattle.std.specs.Prelude.{◌≡◌, ℕ, ◌+◌, ◌<◌, ◌≤◌, List,
 use Rattle.byteorder.specs.Endian.{little_number}
 use Rattle.stream_files.specs.declared.packets.Packet.{Packet}
 use Rattle.stream_files.specs.declared.packets.TheConstants.{MAX_PACKETS}
-use Rattle.stream_files.specs.declared.ivf.Head.{Head}
-use Rattle.stream_files.specs.declared.ivf.Ivf.{Ivf}
+use Rattle.stream_files.specs.declared.streams.Head.{Head}
+use Rattle.stream_files.specs.declared.streams.Stream.{Stream}
+use Rattle.stream_files.specs.Streams.{rate_of}
 use Rattle.stream_files.specs.declared.ivf.IvfFault.{IvfFault}
 use Rattle.stream_files.specs.declared.ivf.IvfFault.TheVariants.{Header, Magic, FourCc, HeaderLength, TooMany, NoMemory}
 
@@ -71,9 +72,10 @@ abbrev pub body : List ℕ → List ℕ
 body bytes = drop (header_length bytes) bytes
 
 -- the bytes are the text of an IVF file with this head, these packets and this many trailing bytes
-pub record IsIvf (bytes : List ℕ) (file : Ivf) : Type 0 where
+pub record IsIvf (bytes : List ℕ) (file : Stream) : Type 0 where
   pub header : HasHeader bytes
   pub head : file.head ≡ head_of bytes
+  pub frame_rate : file.frame_rate ≡ rate_of file.head
   pub rest : List ℕ
   pub records : Records (body bytes) file.packets rest
   pub over : ¬ HasRecord rest
@@ -91,10 +93,10 @@ IvfRefuses bytes Magic = HasFields bytes × ¬ HasMagic bytes
 IvfRefuses bytes FourCc = HasFields bytes × HasMagic bytes × ¬ HasFourCc bytes
 IvfRefuses bytes HeaderLength = HasFields bytes × HasMagic bytes × HasFourCc bytes × ¬ HasLength bytes
 IvfRefuses bytes TooMany = HasHeader bytes × HasTooMany (body bytes)
-IvfRefuses bytes NoMemory = (file : Ivf) × IsIvf bytes file
+IvfRefuses bytes NoMemory = (file : Stream) × IsIvf bytes file
 
 -- the result of reading a file
-abbrev pub IvfAnswers : List ℕ → Result Ivf IvfFault → Type 0
+abbrev pub IvfAnswers : List ℕ → Result Stream IvfFault → Type 0
 IvfAnswers bytes (Ok file) = IsIvf bytes file
 IvfAnswers bytes (Err fault) = IvfRefuses bytes fault
 

@@ -1,8 +1,8 @@
 -- The bytes of a packet, wherever they lie.
 use Rattle.std.specs.Prelude.{ℕ, List}
-use Rattle.stream_files.specs.declared.parts.Place.{Place}
-use Rattle.stream_files.specs.declared.parts.Place.TheVariants.{Own, Shared}
+use Rattle.stream_files.specs.declared.parts.Storage.{Storage}
+use Rattle.stream_files.specs.declared.parts.Storage.TheVariants.{Own, Shared}
 
-abbrev pub bytes_at : Place → List ℕ
+abbrev pub bytes_at : Storage → List ℕ
 bytes_at (Own bytes) = bytes.items
 bytes_at (Shared part) = part

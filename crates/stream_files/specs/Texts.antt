@@ -4,8 +4,9 @@ use Rattle.std.specs.List.{flat_map}
 use Rattle.byteorder.specs.Endian.{little_bytes}
 use Rattle.stream_files.specs.declared.packets.Packet.{Packet}
 use Rattle.stream_files.specs.declared.packets.TheConstants.{MAX_PACKETS}
-use Rattle.stream_files.specs.declared.ivf.Head.{Head}
-use Rattle.stream_files.specs.declared.ivf.Ivf.{Ivf}
+use Rattle.stream_files.specs.declared.streams.Head.{Head}
+use Rattle.stream_files.specs.declared.streams.Stream.{Stream}
+use Rattle.stream_files.specs.Streams.{rate_of}
 use Rattle.stream_files.specs.Ivf.{HasRecord, IsIvf}
 
 -- a list of numbers that are bytes
@@ -54,7 +55,7 @@ pub record FieldsFit (reported len : ℕ) (head : Head) (packets : ℕ) : Type 0
 
 -- the bytes are a header of this file, four unused bytes or more, the records of its packets, and a rest that begins
 -- with no whole record
-pub record IsIvfText (bytes : List ℕ) (file : Ivf) : Type 0 where
+pub record IsIvfText (bytes : List ℕ) (file : Stream) : Type 0 where
   pub version : ℕ
   pub count : ℕ
   pub unused : List ℕ
@@ -62,14 +63,15 @@ pub record IsIvfText (bytes : List ℕ) (file : Ivf) : Type 0 where
   pub spelled : bytes ≡ fields_text version (28 + length unused) file.head count ++ unused ++ records_text file.packets ++ rest
   pub fields : FieldsFit version (28 + length unused) file.head count
   pub packets : PacketsFit file.packets
+  pub frame_rate : file.frame_rate ≡ rate_of file.head
   pub least : 4 ≤ length unused
   pub over : ¬ HasRecord rest
   pub spare : file.spare ≡ length rest
   pub few : length file.packets ≤ MAX_PACKETS
 
 -- the file with this head, these packets and no trailing bytes
-abbrev pub file_of : Head → List Packet → Ivf
-file_of head packets = record { head = head; packets = packets; spare = 0 }
+abbrev pub file_of : Head → List Packet → Stream
+file_of head packets = record { head = head; frame_rate = rate_of head; packets = packets; spare = 0 }
 
 -- reading what was written returns the same head, the same packets and no trailing bytes
 abbrev pub WrittenIsRead : Type 0

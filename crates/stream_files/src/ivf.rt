@@ -7,6 +7,7 @@ ghost use Rattle.stream_files.specs.Ivf.{ivf_fault_word};
 use super::file_bytes::FileBytes;
 use super::packets::Packets;
 use super::records;
+use super::streams::{Head, Stream};
 use byteorder::{ByteOrder, LittleEndian};
 use std::alloc::Global;
 use std::rc::RcSlice;
@@ -51,25 +52,6 @@ impl IvfFault {
     }
 }
 
-/// The head of an IVF file: the frame size in samples, and the frame rate: `rate / scale` frames per
-/// second.
-#[derive(Clone, Copy, Debug, PartialEq, Eq)]
-pub struct Head {
-    pub width: u16,
-    pub height: u16,
-    pub rate: u32,
-    pub scale: u32,
-}
-
-/// An IVF file: its head, its packets, and the number of trailing bytes after the last whole
-/// record.
-#[derive(Debug, Drop)]
-pub struct Ivf {
-    pub head: Head,
-    pub packets: Packets,
-    pub spare: u64,
-}
-
 /// The length of a header's fields, which is also the least header length.
 const FIELDS: usize = 32;
 
@@ -109,7 +91,7 @@ fn read_head(bytes: &[u8]) -> Result<(Head, usize), IvfFault>
 }
 
 /// Reads an IVF file as [`ivf_read`] does, from bytes that are borrowed or shared: the packets of shared bytes are not copied.
-pub fn ivf_read_from<B: FileBytes>(alloc: Global, file: &B) -> Result<Ivf, IvfFault>
+pub fn ivf_read_from<B: FileBytes>(alloc: Global, file: &B) -> Result<Stream, IvfFault>
     ensures { IvfAnswers (B.bytes file.now) result }
 {
     let bytes = file.whole();
@@ -120,8 +102,9 @@ pub fn ivf_read_from<B: FileBytes>(alloc: Global, file: &B) -> Result<Ivf, IvfFa
     let Ok((packets, end)) = records::read_records(alloc, file, start, count) else {
         return Err(IvfFault::NoMemory);
     };
-    Ok(Ivf {
+    Ok(Stream {
         head,
+        frame_rate: head.frame_rate(),
         packets,
         spare: (bytes.len() - end) as u64,
     })
@@ -132,7 +115,7 @@ pub fn ivf_read_from<B: FileBytes>(alloc: Global, file: &B) -> Result<Ivf, IvfFa
 /// Errors come in the order of [`IvfFault`]; `NoMemory` only if none of the others holds. The header's
 /// version and frame count are ignored, and so are header bytes after the first 32. Each packet's bytes
 /// are copied into memory of their own.
-pub fn ivf_read(alloc: Global, bytes: &[u8]) -> Result<Ivf, IvfFault>
+pub fn ivf_read(alloc: Global, bytes: &[u8]) -> Result<Stream, IvfFault>
     ensures { IvfAnswers bytes.now result }
 {
     ivf_read_from(alloc, &bytes)
@@ -140,7 +123,7 @@ pub fn ivf_read(alloc: Global, bytes: &[u8]) -> Result<Ivf, IvfFault>
 
 /// Reads an IVF file as [`ivf_read`] does, without a copy of its packets' bytes: each packet has a part of `file`, whose
 /// bytes stay in memory as long as `file` or one of the packets.
-pub fn ivf_share(alloc: Global, file: &RcSlice<u8>) -> Result<Ivf, IvfFault>
+pub fn ivf_share(alloc: Global, file: &RcSlice<u8>) -> Result<Stream, IvfFault>
     ensures { IvfAnswers (rc_slice_items file.now) result }
 {
     ivf_read_from(alloc, file)

@@ -4,7 +4,7 @@ ghost use Rattle.std.specs.Io.KnownBytes.{Appends};
 ghost use Rattle.byteorder.specs.Endian.{little_bytes};
 ghost use Rattle.stream_files.specs.Texts.{header_text, record_text};
 
-use super::ivf::Head;
+use super::streams::Head;
 use super::y4m::WriteFault;
 use byteorder::{LittleEndian, WriteBytesExt};
 use std::io::{self, Write};

@@ -10,11 +10,13 @@ mod packets;
 mod parts;
 mod reading;
 mod records;
+mod streams;
 mod y4m;
 
 pub use file_bytes::FileBytes;
-pub use ivf::{EMPTY, Head, Ivf, IvfFault, ivf_read, ivf_read_from, ivf_share};
+pub use ivf::{EMPTY, IvfFault, ivf_read, ivf_read_from, ivf_share};
 pub use ivf_writing::{ivf_packet, ivf_padded_packet, ivf_start};
 pub use packets::{Bytes, MAX_PACKETS, Packet, Packets};
 pub use reading::{ReadFault, read_all};
+pub use streams::{FrameRate, Head, Stream};
 pub use y4m::{WriteFault, y4m_frame, y4m_header};

@@ -3,7 +3,7 @@ ghost use Rattle.std.specs.Prelude.{◌≡◌, ◌+◌, ◌≤◌, IfOk, drop, l
 ghost use Rattle.std.specs.Option.{option_copied};
 ghost use Rattle.std.specs.Rc.{rc_slice_items};
 
-use super::parts::{Part, Place};
+use super::parts::{Part, Storage};
 use pixel_planes::NoMemory;
 use std::alloc::Global;
 use std::fmt::{self, Debug, Formatter, Write};
@@ -17,7 +17,7 @@ pub const MAX_PACKETS: usize = 1_048_576;
 /// them as a list of bytes.
 #[derive(Drop)]
 pub struct Bytes {
-    place: Place,
+    place: Storage,
 }
 
 impl Model for Bytes {
@@ -35,7 +35,7 @@ impl Bytes {
         ensures { result ≡ bytes.items }
     {
         Bytes {
-            place: Place::Own(bytes),
+            place: Storage::Own(bytes),
         }
     }
 
@@ -53,7 +53,7 @@ impl Bytes {
         ensures { IfOk result (λ part. part ≡ take size (drop start (rc_slice_items file.now))) }
     {
         Ok(Bytes {
-            place: Place::Shared(Part::new(file, start, size)?),
+            place: Storage::Shared(Part::new(file, start, size)?),
         })
     }
 
@@ -62,9 +62,9 @@ impl Bytes {
         ensures { IfOk result (λ same. same ≡ self.now) }
     {
         match &self.place {
-            Place::Own(bytes) => Bytes::from_slice(alloc, bytes.as_slice()),
-            Place::Shared(part) => Ok(Bytes {
-                place: Place::Shared(part.share()?),
+            Storage::Own(bytes) => Bytes::from_slice(alloc, bytes.as_slice()),
+            Storage::Shared(part) => Ok(Bytes {
+                place: Storage::Shared(part.share()?),
             }),
         }
     }
@@ -74,8 +74,8 @@ impl Bytes {
         ensures { result.now ≡ self.now }
     {
         match &self.place {
-            Place::Own(bytes) => bytes.as_slice(),
-            Place::Shared(part) => part.as_slice(),
+            Storage::Own(bytes) => bytes.as_slice(),
+            Storage::Shared(part) => part.as_slice(),
         }
     }
 }

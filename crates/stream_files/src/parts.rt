@@ -55,7 +55,7 @@ impl Part {
 
 /// Where a packet's bytes lie.
 #[derive(Drop)]
-pub(crate) enum Place {
+pub(crate) enum Storage {
     /// In memory of their own.
     Own(Vec<u8>),
     /// In a file that other packets share.

@@ -1,9 +1,9 @@
 // The cached states, by their number and by the bytes of their pictures.
 use crate::expected::{ONE, clear, expect, put, run_line};
+use command_lines::NamedFiles;
 use frame_session::Session;
 use output_files::SavedFiles;
 use pixel_planes::Plane;
-use program_parts::NamedFiles;
 use std::process::Abort;
 use std::test::Fail;
 use stream_files::ivf_read;

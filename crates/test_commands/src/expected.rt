@@ -1,6 +1,6 @@
 // Runs the program, and compares what it leaves.
+use command_lines::NamedFiles;
 use output_files::SavedFiles;
-use program_parts::NamedFiles;
 use serve_program::{parse, serve};
 use std::alloc::AllocError;
 use std::fs;

@@ -1,9 +1,8 @@
 // Refusals and errors that are explained.
 use crate::expected::{ONE, clear, expect, expect_from, put, run_line};
 use crate::live::Pieces;
-use message_writer::MessageWriter;
+use command_lines::{MessageWriter, NamedFiles};
 use output_files::SavedFiles;
-use program_parts::NamedFiles;
 use serve_program::name_explain;
 use std::io::Write;
 use std::process::Abort;

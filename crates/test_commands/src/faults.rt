@@ -1,8 +1,8 @@
 // Errors that end the program: their texts, their statuses, and which of two is reported.
 use crate::expected::{Broken, ONE, check, clear, expect, expect_fault, put};
+use command_lines::{NamedFiles, tell};
 use frame_header::Cause;
 use output_files::SavedFiles;
-use program_parts::{NamedFiles, tell};
 use serve_arguments::{Argument, Fault, Mistake, NotExported, SameFile};
 use std::fs::hard_link;
 use std::os::unix::fs::symlink;

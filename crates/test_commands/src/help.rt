@@ -1,7 +1,7 @@
 // Help and the version.
 use crate::expected::expect;
+use command_lines::NamedFiles;
 use list_program::answer;
-use program_parts::NamedFiles;
 use std::io::BufWriter;
 use std::process::Abort;
 use stream_checks::Unwatched;

@@ -1,7 +1,7 @@
 // Tests of requests that are answered as they come.
 use crate::expected::{check, clear, expect, expect_from, put, run_line};
+use command_lines::NamedFiles;
 use output_files::SavedFiles;
-use program_parts::NamedFiles;
 use std::alloc::{AllocError, Global};
 use std::cell::Cell;
 use std::io::{self, ErrorKind, Read, Write};

@@ -1,11 +1,11 @@
 // The program over files in memory, of which its contract says all bytes.
-ghost use Rattle.std.specs.Prelude.{◌≡◌, ℕ, List, Option, None, Some, codes, if◌then◌else◌, nat_eq, option_map};
+ghost use Rattle.std.specs.Prelude.{◌≡◌, ℕ, List, Option, None, OnOk, Some, codes, if◌then◌else◌, nat_eq, option_map};
 ghost use Rattle.std.specs.Cmp.Lexicographic.{pointwise};
 
 use crate::expected::{CODED, NONE, ONE, OPENING, push_frame};
 use crate::runs::frame_with;
-use output_files::{SavedFiles, SavedText, Unsaved};
-use program_parts::NamedFiles;
+use command_lines::NamedFiles;
+use output_files::{OneUnsaved, Save, SavedFiles, SavedText, Unsaved};
 use serve_program::{parse, serve};
 use std::alloc::{AllocError, Allocator, Global};
 use std::cell::Cell;
@@ -135,6 +135,23 @@ impl<'a> SavedFiles for Memory<'a> {
     ) -> Result<(), Unsaved> {
         let mut file = BufWriter::new(alloc, begun).map_err(|_| Unsaved::NoMemory)?;
         text.write_to(&mut file)
+    }
+
+    fn finish_both<T: SavedText, U: SavedText>(
+        &self,
+        alloc: Global,
+        first: Save<'_, Made<'a>, T>,
+        second: Save<'_, Made<'a>, U>,
+    ) -> Result<(), OneUnsaved>
+        ensures first { OnOk result (Unit {0}) }
+        ensures second { OnOk result (Unit {0}) }
+    {
+        let Save { path, begun, text } = first;
+        self.finish_save(alloc, path, begun, text)
+            .map_err(OneUnsaved::First)?;
+        let Save { path, begun, text } = second;
+        self.finish_save(alloc, path, begun, text)
+            .map_err(OneUnsaved::Second)
     }
 
     fn abandon_save(&self, _alloc: Global, _begun: Made<'a>) {

@@ -2,9 +2,9 @@
 use crate::expected::{
     Broken, CODED, NONE, ONE, OPENING, check, clear, expect, push_frame, put, run_line,
 };
+use command_lines::NamedFiles;
 use frame_session::{RunFault, run};
 use output_files::SavedFiles;
-use program_parts::NamedFiles;
 use std::alloc::Global;
 use std::process::Abort;
 use std::test::Fail;

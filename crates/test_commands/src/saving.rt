@@ -5,8 +5,8 @@ ghost use Rattle.std.specs.Io.KnownBytes.{Appends};
 ghost use Rattle.output_files.specs.Logs.{steps_of};
 
 use crate::expected::{NONE, ONE, check, clear, expect, put};
-use output_files::{Call, Log, SavePlace, SavedFiles, SavedText, Unsaved, finish};
-use program_parts::NamedFiles;
+use command_lines::NamedFiles;
+use output_files::{Call, Log, SavePlace, SavedFiles, SavedText, Unsaved, finish, finish_both};
 use std::fs;
 use std::io::{self, BufWriter, ErrorKind, Write};
 use std::os::unix::fs::{MetadataExt, PermissionsExt, symlink};
@@ -119,6 +119,7 @@ impl SavePlace for FalseFiles {
 /// What is saved.
 const TEXT: &[u8] = b"the new text";
 
+#[derive(Drop)]
 struct Text {
     bytes: &'static [u8],
 }
@@ -213,6 +214,92 @@ fn expect_left<R: Abort + AllocGlobal>(rt: &R, case: &Case) {
 fn keeps_a_file_whole(rt: HostRuntime) {
     for case in CASES {
         expect_left(&rt, case);
+    }
+}
+
+/// The calls that fail of two saves, and what is left of both files.
+struct BothCase {
+    failing: (Failing, Failing),
+    files: (u8, u8),
+}
+
+const BOTH: &[BothCase] = &[
+    BothCase {
+        failing: (Failing::Nothing, Failing::Nothing),
+        files: (2, 2),
+    },
+    BothCase {
+        failing: (Failing::Write, Failing::Nothing),
+        files: (1, 1),
+    },
+    BothCase {
+        failing: (Failing::Of(Call::Sync), Failing::Nothing),
+        files: (1, 1),
+    },
+    BothCase {
+        failing: (Failing::Nothing, Failing::Write),
+        files: (1, 1),
+    },
+    BothCase {
+        failing: (Failing::Nothing, Failing::Of(Call::Sync)),
+        files: (1, 1),
+    },
+    BothCase {
+        failing: (Failing::Of(Call::Rename), Failing::Nothing),
+        files: (1, 1),
+    },
+    BothCase {
+        failing: (Failing::Nothing, Failing::Of(Call::Rename)),
+        files: (2, 1),
+    },
+    BothCase {
+        failing: (Failing::Of(Call::Rename), Failing::Write),
+        files: (1, 1),
+    },
+];
+
+/// An old file, and no new one.
+fn old_file(failing: Failing) -> FalseFiles
+    ensures { steps_of result.log ≡ [] }
+{
+    FalseFiles {
+        failing,
+        file: 1,
+        fresh: None,
+        log: Log::new(),
+    }
+}
+
+/// Saves twice over file systems, and returns whether that failed.
+fn both_fail<R: AllocGlobal>(rt: &R, first: &mut FalseFiles, second: &mut FalseFiles) -> bool
+    requires first { steps_of first.old.log ≡ [] }
+    requires second { steps_of second.old.log ≡ [] }
+{
+    let Ok(file) = first.make() else {
+        return true;
+    };
+    let Ok(next) = second.make() else {
+        return true;
+    };
+    let text = Text { bytes: TEXT };
+    finish_both(rt.alloc(), first, second, (file, next), (&text, &text)).is_err()
+}
+
+/// Saves twice over file systems of which calls fail, and checks what is left.
+fn expect_both<R: Abort + AllocGlobal>(rt: &R, case: &BothCase) {
+    let mut first = old_file(case.failing.0);
+    let mut second = old_file(case.failing.1);
+    let has_failed = both_fail(rt, &mut first, &mut second);
+    assert!(rt; has_failed == (case.files.1 == 1));
+    assert!(rt; first.file == case.files.0 && second.file == case.files.1);
+    assert!(rt; first.fresh.is_none() && second.fresh.is_none());
+}
+
+/// Two files are both replaced, or neither is, unless only the second new file cannot replace its file.
+#[test]
+fn keeps_both_or_neither(rt: HostRuntime) {
+    for case in BOTH {
+        expect_both(&rt, case);
     }
 }
 

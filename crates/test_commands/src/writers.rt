@@ -1,8 +1,8 @@
 // Readers and writers that fail.
 use crate::expected::{Broken, ONE, OPENING, run_line};
+use command_lines::NamedFiles;
 use frame_session::{Capacity, LiveFault, Settings, Unobserved, run_live_over};
 use output_files::SavedFiles;
-use program_parts::NamedFiles;
 use serve_program::{Fault, run_to};
 use std::cell::Cell;
 use std::io::{self, BufWriter, Read, Write};

@@ -1,5 +1,5 @@
 // Show bits, by RFC 6386, section 9.1: bit 4 of the first byte.
-use show_bits::{ShowFault, set_show_bit, with_show_bit};
+use frame_header::{ShowFault, set_show_bit, with_show_bit};
 use std::alloc::Global;
 use std::process::Abort;
 use std::test::Fail;

@@ -7,7 +7,7 @@ use std::process::Abort;
 use std::rc::RcSlice;
 use std::test::Fail;
 use stream_files::{
-    Bytes, EMPTY, Head, Ivf, IvfFault, MAX_PACKETS, ReadFault, WriteFault, ivf_packet, ivf_read,
+    Bytes, EMPTY, Head, IvfFault, MAX_PACKETS, ReadFault, Stream, WriteFault, ivf_packet, ivf_read,
     ivf_share, ivf_start, read_all, y4m_frame, y4m_header,
 };
 
@@ -102,7 +102,7 @@ const HEAD: Head = Head {
 };
 
 /// Whether a file has this packet at an index.
-fn has_packet(file: &Ivf, place: usize, stamp: u64, bytes: &[u8]) -> bool {
+fn has_packet(file: &Stream, place: usize, stamp: u64, bytes: &[u8]) -> bool {
     match file.packets.as_slice().get(place) {
         None => false,
         Some(packet) => packet.stamp == stamp && packet.bytes.as_slice() == bytes,
@@ -110,7 +110,7 @@ fn has_packet(file: &Ivf, place: usize, stamp: u64, bytes: &[u8]) -> bool {
 }
 
 /// Whether a file has this header and so many packets and trailing bytes.
-fn has_sizes(file: &Ivf, head: Head, packets: usize, spare: u64) -> bool {
+fn has_sizes(file: &Stream, head: Head, packets: usize, spare: u64) -> bool {
     file.head == head && file.packets.len() == packets && file.spare == spare
 }
 
@@ -124,13 +124,13 @@ fn reads_two_packets_and_reports_the_rest(rt: HostRuntime) -> Result<(), Fail> {
 }
 
 /// The packets of a file that is read from shared bytes, which the caller lets go.
-fn shared_packets(alloc: Global, bytes: &[u8]) -> Result<Ivf, IvfFault> {
+fn shared_packets(alloc: Global, bytes: &[u8]) -> Result<Stream, IvfFault> {
     let file = RcSlice::from_slice(alloc, bytes).map_err(|_| IvfFault::NoMemory)?;
     ivf_share(alloc, &file)
 }
 
 /// Whether two files have the same heads, packets and numbers of trailing bytes.
-fn is_same_file(file: &Ivf, other: &Ivf) -> bool {
+fn is_same_file(file: &Stream, other: &Stream) -> bool {
     let same = file.head == other.head && file.spare == other.spare;
     let packets = file.packets.as_slice();
     let others = other.packets.as_slice();
@@ -156,7 +156,7 @@ fn shared_packets_are_those_that_are_copied(rt: HostRuntime) -> Result<(), Fail>
 }
 
 /// The first packet's bytes again, from a file that is let go.
-fn first_shared(alloc: Global, file: Ivf) -> Result<Bytes, NoMemory> {
+fn first_shared(alloc: Global, file: Stream) -> Result<Bytes, NoMemory> {
     match file.packets.get(0) {
         Some(packet) => packet.bytes.share(alloc),
         None => Err(NoMemory),

@@ -9,3 +9,5 @@ mod lists;
 mod packets;
 #[cfg(test)]
 mod scripts;
+#[cfg(test)]
+mod times;

@@ -1,5 +1,5 @@
 use frame_header::is_shown;
-use packet_edits::{EditFault, Store};
+use packet_edits::{EditFault, RestampFault, Store};
 use packet_times::usual_duration;
 use pixel_planes::NoMemory;
 use std::alloc::Global;
@@ -1044,7 +1044,7 @@ fn expect_restamped<R: Abort>(rt: &R, alloc: Global, store: &Store, pads: bool, 
         }
         Err(_) => assert!(rt; false, "the file is not read"),
     }
-    assert!(rt; store.save_restamped(&mut Broken {}, HEAD, pads) == Err(WriteFault::Write));
+    assert!(rt; store.save_restamped(&mut Broken {}, HEAD, pads) == Err(RestampFault::Write));
 }
 
 /// Whether these are the packets of a store, each of which is one byte longer if they are padded.
@@ -1108,6 +1108,29 @@ const RESTAMPED: Case = Case {
         ]),
         Check::Restamped(false, &[0, 5, 8, 11, 17, 20, 23]),
         Check::Restamped(true, &[0, 5, 8, 11, 17, 20, 23]),
+    ],
+};
+
+// Three frames of 1/20 second, which are 1.5 units of 1/30 second each, of which a packet in between is hidden: the sums 1.5, 3 and 4.5 are rounded half up, and
+// not each frame. The packet of the file itself has the median step, 1.
+#[test]
+fn time_stamps_of_two_rates(rt: HostRuntime) -> Result<(), Fail> {
+    expect_case(&rt, rt.alloc(), &TWO_RATES)
+}
+
+const TWO_RATES: Case = Case {
+    first_id: 0,
+    other: &[(100, SHOWN), (101, SHOWN)],
+    packets: &[(7, SHOWN)],
+    checks: &[
+        Check::Marks(&[
+            (Edit::Copy(1, 0), &[]),
+            (Edit::Copy(2, 1), &[]),
+            (Edit::Insert(2, 9, HIDDEN), &[3]),
+            (Edit::Copy(4, 0), &[3]),
+            (Edit::Copy(5, 1), &[3]),
+        ]),
+        Check::Restamped(false, &[0, 1, 3, 3, 4, 6]),
     ],
 };
 

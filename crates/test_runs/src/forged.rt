@@ -6,7 +6,7 @@ use frame_session::{Edit, Refusal, RunFault, Session, run};
 use std::alloc::Global;
 use std::process::Abort;
 use std::test::Fail;
-use stream_files::{EMPTY, Ivf, Packet, WriteFault, ivf_read};
+use stream_files::{EMPTY, Packet, Stream, WriteFault, ivf_read};
 use test_fixtures::{HIDDEN, INTER, KEY, Ran, Run, ivf_of, run_over, run_packets, y4m_of};
 use vp8_tables::Tables;
 
@@ -121,14 +121,14 @@ fn check_padded<R: Abort + AllocGlobal>(
 }
 
 /// The packets of a session, saved and read.
-fn plain_file(alloc: Global, session: &Session) -> Result<Ivf, Fail> {
+fn plain_file(alloc: Global, session: &Session) -> Result<Stream, Fail> {
     let mut plain = Vec::new(alloc);
     session.save(&mut plain)?;
     Ok(ivf_read(alloc, plain.as_slice())?)
 }
 
 /// The same, saved padded.
-fn padded_file(alloc: Global, session: &Session) -> Result<Ivf, Fail> {
+fn padded_file(alloc: Global, session: &Session) -> Result<Stream, Fail> {
     let mut padded = Vec::new(alloc);
     session.save_padded(&mut padded)?;
     Ok(ivf_read(alloc, padded.as_slice())?)

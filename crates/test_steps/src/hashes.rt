@@ -5,7 +5,7 @@ use std::io::{self, ErrorKind, Write};
 use std::process::Abort;
 use std::test::Fail;
 use stream_checks::{HashFault, Unwatched, write_hashes};
-use stream_files::{Bytes, Head, Ivf, Packet, Packets};
+use stream_files::{Bytes, Head, Packet, Packets, Stream};
 use vp8_tables::Tables;
 
 /// A key packet of 7x5 samples, from vpxenc.
@@ -42,7 +42,7 @@ const TEXT: &str = "\
 ";
 
 /// A file whose header has another size than its frames, and a rate that is not in lowest terms.
-fn file_of(alloc: Global, texts: &[(u64, &str)]) -> Result<Ivf, Fail> {
+fn file_of(alloc: Global, texts: &[(u64, &str)]) -> Result<Stream, Fail> {
     let mut packets = Vec::new(alloc);
     for (stamp, text) in texts {
         let bytes = Bytes::new(hex::decode(alloc, *text)?);
@@ -57,8 +57,9 @@ fn file_of(alloc: Global, texts: &[(u64, &str)]) -> Result<Ivf, Fail> {
         rate: 60_000,
         scale: 2_002,
     };
-    Ok(Ivf {
+    Ok(Stream {
         head,
+        frame_rate: head.frame_rate(),
         packets: Packets::new(packets),
         spare: 0,
     })
@@ -66,7 +67,7 @@ fn file_of(alloc: Global, texts: &[(u64, &str)]) -> Result<Ivf, Fail> {
 
 /// A packet before the first key packet, frames with and without a gap between their time stamps, a hidden packet, and a packet that
 /// is cut to two bytes.
-fn clip(alloc: Global) -> Result<Ivf, Fail> {
+fn clip(alloc: Global) -> Result<Stream, Fail> {
     let texts = [
         (3, FIRST),
         (5, KEY),

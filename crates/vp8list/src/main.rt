@@ -1,9 +1,8 @@
 //! Lists the packets of a VP8 stream: an IVF file in, a line a packet out.
 #![tactic(auto)]
 
+use command_lines::{MessageWriter, exit_status, given};
 use list_program::{BYTES_AT_ONCE, Fault, ProgressLine, answer};
-use message_writer::MessageWriter;
-use program_parts::{exit_status, given};
 use std::io::{BufWriter, Write};
 use std::process::ExitCode;
 

@@ -2,8 +2,7 @@
 //! replies out.
 #![tactic(auto)]
 
-use message_writer::MessageWriter;
-use program_parts::{exit_status, given};
+use command_lines::{MessageWriter, exit_status, given};
 use serve_program::{Fault, name_explain, name_help, parse, serve};
 use std::fs::File;
 use std::io::{BufWriter, IsTerminal, Write};

@@ -1,7 +1,7 @@
 -- A session that was opened, and then put into a handle.
 use Rattle.std.proofs.Common.{◌≡◌, ℕ, List, [], None, Some, Option, ap, map, subst, sym, ◌∙◌}
 use Rattle.stream_files.specs.Ivf.{head_of}
-use Rattle.stream_files.specs.declared.ivf.Head.{Head}
+use Rattle.stream_files.specs.declared.streams.Head.{Head}
 use Rattle.vp8_tables.specs.declared.tables.Tables.{Tables}
 use Rattle.frame_session.specs.Answers.{Means}
 use Rattle.frame_session.specs.Cached.{Capacity, SessionValue}

@@ -5,8 +5,8 @@ use Rattle.vp8_tables.specs.Tables.{entries_of}
 use Rattle.vp8_tables.specs.declared.fault.TableFault.{TableFault}
 use Rattle.vp8_tables.specs.declared.tables.Tables.{Tables}
 use Rattle.stream_files.specs.Ivf.{head_of}
-use Rattle.stream_files.specs.declared.ivf.Head.{Head}
-use Rattle.stream_files.specs.declared.ivf.Ivf.{Ivf}
+use Rattle.stream_files.specs.declared.streams.Head.{Head}
+use Rattle.stream_files.specs.declared.streams.Stream.{Stream}
 use Rattle.stream_files.specs.declared.ivf.IvfFault.{IvfFault}
 use Rattle.frame_session.specs.Answers.{AreIvfs, Means, SourceRefuses}
 use Rattle.frame_session.specs.Cached.{Capacity}
@@ -57,7 +57,7 @@ abbrev pub OpenRefuses : List ℕ → List ℕ → ℕ → List ℕ → OpenFaul
 OpenRefuses bytes ends states tables faults.Argument = are_allowed bytes ends states ≡ false
 OpenRefuses bytes ends states tables faults.Tables = (fault : TableFault) × (entries_of tables ≡ Err fault)
 OpenRefuses bytes ends states tables (faults.File source fault) = SourceRefuses (files_in bytes ends) source fault
-OpenRefuses bytes ends states tables faults.Memory = (files : List Ivf) × AreIvfs (files_in bytes ends) files
+OpenRefuses bytes ends states tables faults.Memory = (files : List Stream) × AreIvfs (files_in bytes ends) files
 
 -- the number of an error, and what is reported of it
 abbrev pub Reports : OpenFault → ℕ → Fault → Type 0

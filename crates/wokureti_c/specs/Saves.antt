@@ -1,7 +1,7 @@
 -- The file of the packets of a source.
 use Rattle.std.specs.Prelude.{◌≡◌, ℕ, Bool, true, List, length, nat_lt, slice_index_or, if◌then◌else◌}
 use Rattle.stream_files.specs.Texts.{written_text}
-use Rattle.stream_files.specs.declared.ivf.Head.{Head}
+use Rattle.stream_files.specs.declared.streams.Head.{Head}
 use Rattle.stream_files.specs.declared.packets.Packet.{Packet}
 use Rattle.packet_edits.specs.Edits.{Listing}
 use Rattle.packet_edits.specs.Saved.{packets_of, padded_packets_of, restamped}

@@ -21,6 +21,7 @@ fn write_list(
 {
     if restamps {
         list.save_restamped(w, head, pads)
+            .map_err(|_| WriteFault::Write)
     } else if pads {
         list.save_padded(w, head)
     } else {

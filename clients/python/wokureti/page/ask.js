@@ -34,6 +34,13 @@ export function ask(title, action, fields, note = "") {
   dialog.returnValue = "";
   dialog.showModal();
   place.querySelector("input, select")?.focus();
+  // A list takes no Enter itself.
+  place.onkeydown = (event) => {
+    if (event.key !== "Enter" || !event.target.matches("select")) return;
+    event.preventDefault();
+    dialog.querySelector("button[value=yes]").click();
+  };
+  dialog.querySelector("button[value=no]").onclick = () => dialog.close("no");
   return new Promise((answer) => {
     dialog.addEventListener(
       "close",

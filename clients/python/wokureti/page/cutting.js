@@ -2,8 +2,10 @@
 
 import { ask } from "./ask.js";
 import * as server from "./interface.js";
+import { mark } from "./keys.js";
 import { nodesOf } from "./script.js";
 import * as parts from "./shots.js";
+import { notice } from "./status.js";
 import { timeText } from "./times.js";
 
 const find = (id) => document.getElementById(id);
@@ -84,6 +86,12 @@ export function followed(script, source) {
   return [...nodes, `source ${source}`, `splice ${last} ${last + 1}`];
 }
 
+/** Selected packets that are shown in several places. */
+export function severalText(places) {
+  const texts = places.map(([first, end]) => (end - first === 1 ? `frame ${first}` : `frames ${first} to ${end - 1}`));
+  return `The selected packets are shown in several places, ${texts.join(", ")}, with other frames between them, so nothing was done. Select those of one place.`;
+}
+
 export class Cutting {
   constructor(model, editing, status) {
     Object.assign(this, { model, editing, status });
@@ -91,6 +99,16 @@ export class Cutting {
     find("cut-out").addEventListener("click", () => this.cutOut());
     find("move-here").addEventListener("click", () => this.moveHere());
     find("frames-more").addEventListener("click", () => this.more());
+    // The frames at which In and Out were pressed last, and what waits for the last one of them.
+    this.marks = {};
+    this.marking = null;
+    model.addEventListener("session", () => {
+      if (Object.values(this.marks).some((one) => one && one.revision !== model.revision)) this.marks = {};
+    });
+    model.addEventListener("selection", () => {
+      // A selection that was dragged takes their place.
+      if (model.selection && !this.isMarking) this.marks = {};
+    });
     for (const name of ["session", "selection"]) model.addEventListener(name, () => this.enable());
   }
 
@@ -100,16 +118,95 @@ export class Cutting {
     find("frames-more").disabled = !session || !session.frames;
   }
 
-  /** The frames from the first one that shows a selected packet to the last, or null. */
+  /** The frames that show the packets of a source. */
+  rangeOf(source, first, end) {
+    return server.members(`range?source=${source}&first=${first}&end=${end}`);
+  }
+
+  /** The frames that show the selected packets, or null. Frames that have others between them are refused: something else would be cut. */
   async range() {
+    await this.marking;
     const { selection, source } = this.model;
-    if (!selection) return null;
-    const found = await server.members(`range?source=${source}&first=${selection.first}&end=${selection.end}`);
+    if (!selection) {
+      this.status.say("nothing is selected: I and O mark the first and the last frame, or drag on the timeline");
+      return null;
+    }
+    const found = await this.rangeOf(source, selection.first, selection.end);
     if (found.first === null || found.end <= found.first) {
       this.status.say("no frame shows a selected packet");
       return null;
     }
+    if (found.places.length > 1) {
+      notice(severalText(found.places), { isBad: true, id: "places" });
+      return null;
+    }
     return found;
+  }
+
+  /** Forgets where In and Out were pressed. */
+  forget() {
+    this.marks = {};
+  }
+
+  /** The selection begins, or ends, with the current frame. Marks on both sides of a join or a move are refused: the packets between them are others than
+   * the frames. */
+  mark(isBegin) {
+    const marking = this.markNow(isBegin);
+    this.marking = marking.catch(() => {});
+    return marking;
+  }
+
+  async markNow(isBegin) {
+    const { model } = this;
+    await model.going?.catch(() => {});
+    const { frame, revision, aside } = model;
+    const name = isBegin ? "begin" : "end";
+    if (aside) {
+      this.marks[name] = null;
+      this.select(() => mark(model, isBegin));
+      return;
+    }
+    // The packet of the frame may not be known yet.
+    const origin = await model.origin(frame);
+    if (!origin) return;
+    if (model.frame === frame) await model.follow();
+    const { source, packet } = origin;
+    const here = { frame, packet, source, revision };
+    const other = this.marks[isBegin ? "end" : "begin"];
+    this.marks[name] = here;
+    if (!other) {
+      const { selection } = model;
+      this.select(() => mark({ packet, selection, select: (first, end) => model.select(first, end) }, isBegin));
+      return;
+    }
+    const [begin, end] = isBegin ? [here, other] : [other, here];
+    if (begin.frame > end.frame) {
+      this.marks = { [name]: here };
+      this.select(() => model.select(packet, packet + 1));
+      this.status.say(`In, frame ${begin.frame}, is after Out, frame ${end.frame}: only this frame is selected`);
+      return;
+    }
+    if (!(await this.isOne(begin, end))) {
+      this.marks = {};
+      model.select(null);
+      notice(`In, frame ${begin.frame}, and Out, frame ${end.frame}, are on both sides of a join or a move. Mark frames of one shot, one after the other: Shift Page Down goes to the next join.`, { isBad: true, id: "places" });
+      return;
+    }
+    this.select(() => model.select(begin.packet, end.packet + 1));
+  }
+
+  /** Selects by marks, which stay. */
+  select(act) {
+    this.isMarking = true;
+    act();
+    this.isMarking = false;
+  }
+
+  /** Whether the frames between two marks show the packets between them, all of these and no others. */
+  async isOne(begin, end) {
+    if (begin.source !== end.source || begin.packet > end.packet) return false;
+    const found = await this.rangeOf(begin.source, begin.packet, end.packet + 1);
+    return found.places.length === 1 && found.first === begin.frame && found.end === end.frame + 1;
   }
 
   /** Sets a script, and goes to a frame. */

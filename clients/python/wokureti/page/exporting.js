@@ -10,18 +10,26 @@ const LATER = 60000;
 export class Exporting {
   constructor(status) {
     this.status = status;
-    this.isBusy = false;
+    // What ends the export that goes on.
+    this.making = null;
     find("export").addEventListener("click", (event) => {
       event.preventDefault();
       this.make();
     });
   }
 
+  /** Makes the file; while it is made, another click ends that. */
   async make() {
-    if (this.isBusy) return;
-    this.isBusy = true;
+    if (this.making) {
+      this.making.abort();
+      return;
+    }
+    this.making = new AbortController();
+    const button = find("export");
+    const { title } = button;
+    button.textContent = "Stop the export";
     try {
-      const { file, name, said } = await server.exported();
+      const { file, name, said } = await server.exported(this.making.signal);
       const link = document.createElement("a");
       link.href = URL.createObjectURL(file);
       link.download = name;
@@ -29,9 +37,12 @@ export class Exporting {
       setTimeout(() => URL.revokeObjectURL(link.href), LATER);
       this.status.say(`exported ${name}: ${said}`);
     } catch (error) {
-      notice(`Nothing was exported: ${error.message}`, { isBad: true, id: "exported" });
+      if (error.name === "AbortError") this.status.say("the export was stopped");
+      else notice(`Nothing was exported: ${error.message}`, { isBad: true, id: "exported" });
     } finally {
-      this.isBusy = false;
+      this.making = null;
+      button.textContent = "Export";
+      button.title = title;
     }
   }
 }

@@ -3,7 +3,7 @@ packets too: so they are found here a second time."""
 
 import os
 
-from ..tools import ivf
+from ..tools import containers, ivf
 
 
 def finding(severity, kind, **numbers):
@@ -30,17 +30,15 @@ def at_header(contents, stream, size):
 
 
 def at_end(contents, stream):
-    """Those at the end of the file, if the packets are all of its whole records."""
-    if not is_whole(contents, stream):
-        return []
+    """Those of the container, which no packet has, and those at the end of the file, if the packets are all of its whole records."""
     item = contents.inputs.all[0]
-    index, descriptor = item.records(), item.opened()
-    begins = index.starts[-1] + index.sizes[-1] if len(index) else ivf.parse_head(os.pread(descriptor, ivf.HEAD.size, 0))[1]
-    left = os.fstat(descriptor).st_size - begins
-    if left <= 0:
-        return []
-    claimed = os.pread(descriptor, 4, begins)
-    return [finding("damage", "cut_record", record=len(stream), byte=begins, claimed=int.from_bytes(claimed, "little") if len(claimed) == 4 else None, left=left)]
+    found = [finding("damage", "container", text=text) for text in containers.damage_of(item.path)]
+    if not is_whole(contents, stream) or not item.left():
+        return found
+    begins = os.fstat(item.opened()).st_size - item.left()
+    claimed = os.pread(item.opened(), 4, begins)
+    number = int.from_bytes(claimed, "little") if len(claimed) == 4 else None
+    return [*found, finding("damage", "cut_record", record=len(stream), byte=begins, claimed=number, left=item.left())]
 
 
 def is_whole(contents, stream):

@@ -57,6 +57,8 @@ export function sentence(finding) {
       return `size ${finding.claimed} in the header, first key packet ${finding.size}`;
     case "no_rate":
       return `rate ${finding.rate}, scale ${finding.scale} in the header`;
+    case "container":
+      return finding.text;
     case "cut_record":
       return `record ${finding.record} at byte ${finding.byte} is cut off, ${finding.left} bytes are left`;
     default:
@@ -70,7 +72,7 @@ function lost(count) {
 
 /** The place of a finding in words. */
 export function placeOf(finding) {
-  if (finding.packet === null) return finding.kind === "cut_record" ? "end of the file" : "header";
+  if (finding.packet === null) return finding.kind === "cut_record" ? "end of the file" : finding.kind === "container" ? "the file" : "header";
   return `packet ${finding.packet}${finding.frame === null ? ", hidden" : `, frame ${finding.frame}`}`;
 }
 
@@ -268,7 +270,9 @@ export class Findings {
 
   /** Shows the repairs below the finding that was pressed: the list may have been written again since. */
   unfoldOpen() {
-    const entry = [...find("findings-list").children].find((one) => one.dataset.key === this.open?.key);
+    // The row of a folded group has no key.
+    if (!this.open) return;
+    const entry = [...find("findings-list").children].find((one) => one.dataset.key === this.open.key);
     if (entry) this.unfold(entry, this.open);
   }
 
@@ -337,6 +341,7 @@ export class Findings {
     if (!repair) return;
     const { packet } = repair;
     this.close();
+    toTimeline();
     const isMade = await this.editing.make(this.model.session.source === 0 ? repair.lines : ["use 0", ...repair.lines], repair.step || repair.title);
     await this.viewer.setPreview(null);
     if (isMade) await this.model.goPacket(Math.min(packet, this.model.packets - 1));
@@ -348,6 +353,7 @@ export class Findings {
     this.shown = null;
     find("preview-bar").hidden = true;
     for (const button of find("findings-list").querySelectorAll(".is-shown")) button.classList.remove("is-shown");
+    toTimeline();
     await this.viewer.setPreview(null);
   }
 
@@ -377,6 +383,11 @@ export class Findings {
     const next = step > 0 ? packets.find((one) => one > packet) : packets.filter((one) => one < packet).pop();
     if (next !== undefined) this.model.goPacket(next).catch(() => {});
   }
+}
+
+/** The keys go to the timeline if the button that was pressed is gone. */
+function toTimeline() {
+  if (!document.activeElement || document.activeElement === document.body || document.activeElement.closest("#preview-bar")) find("timeline").focus({ focusVisible: false });
 }
 
 function fold(entry) {

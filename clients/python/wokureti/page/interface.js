@@ -17,6 +17,19 @@ export class Refusal extends Error {
 /** The server cannot be reached. */
 export class Unreachable extends Error {}
 
+// Where the edits are, and the command that goes on with them, once that is known.
+let kept = null;
+
+export function remember({ list, again }) {
+  kept = list && again ? { list, again } : null;
+}
+
+/** What is said when the server does not answer. */
+export function whenLost() {
+  const where = kept ? ` The edits are in ${kept.list}: ${kept.again} goes on from there, and this page with it.` : "";
+  return `The server of this page does not answer: was it ended?${where}`;
+}
+
 // Requests that are not answered yet, with when each began: what goes on is shown if one takes long.
 export const waiting = new Map();
 let next = 0;
@@ -46,7 +59,7 @@ async function ask(path, options, what) {
     throw new Refusal(status, members);
   } catch (error) {
     if (error instanceof Refusal || error.name === "AbortError") throw error;
-    throw new Unreachable("the server of this page does not answer: was it ended?");
+    throw new Unreachable(whenLost());
   } finally {
     waiting.delete(number);
   }
@@ -74,8 +87,8 @@ export async function save(source) {
 }
 
 /** The frames that are shown as a file: its bytes, its name, and what it has. */
-export async function exported() {
-  const answer = await ask("exported", {}, "the export");
+export async function exported(signal) {
+  const answer = await ask("exported", { signal }, "the export");
   return { file: await answer.blob(), name: nameIn(answer.headers.get("Content-Disposition")), said: answer.headers.get("X-Exported") };
 }
 

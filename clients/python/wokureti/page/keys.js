@@ -9,6 +9,11 @@ export function keysOf({ model, player, sound, timeline, editing, findings, view
     const same = Math.sign(player.speed) === direction;
     return player.play(same ? Math.sign(player.speed) * Math.min(8, Math.abs(player.speed) * 2) : direction);
   };
+  // What acts on the selection waits for marks that were just made.
+  const marked = (act) => async () => {
+    await cutting.marking;
+    return act();
+  };
   return [
     { keys: ["ArrowLeft"], show: "←", text: "back one frame", act: step(-1) },
     { keys: ["ArrowRight"], show: "→", text: "forward one frame", act: step(1) },
@@ -27,19 +32,19 @@ export function keysOf({ model, player, sound, timeline, editing, findings, view
     { keys: ["k", "K"], show: "K", text: "stop", act: () => player.stop() },
     { keys: ["l", "L"], show: "L", text: "play forward; again: faster", act: playOn(1) },
     { keys: ["u", "U"], show: "U", text: "the sound of playback on or off", act: () => sound.toggle() },
-    { keys: ["i", "I"], show: "I", text: "the selection begins here", act: () => mark(model, true) },
-    { keys: ["o", "O"], show: "O", text: "the selection ends here", act: () => mark(model, false) },
+    { keys: ["i", "I"], show: "I", text: "the selection begins here", act: () => cutting.mark(true) },
+    { keys: ["o", "O"], show: "O", text: "the selection ends here", act: () => cutting.mark(false) },
     { keys: ["Ctrl+a"], show: "Ctrl A", text: "select all packets", act: () => model.select(0, model.packets) },
     { keys: ["Escape"], show: "Esc", text: "leave the preview, or drop the selection", act: () => palette.escape() },
-    { keys: ["Delete", "Backspace"], show: "Delete", text: "delete the selected packets", act: () => editing.delete() },
-    { keys: ["h", "H"], show: "H", text: "hold the picture before in their place", act: () => editing.hold() },
-    { keys: ["d", "D"], show: "D", text: "drop them: packets of no bytes", act: () => editing.drop() },
+    { keys: ["Delete", "Backspace"], show: "Delete", text: "delete the selected packets", act: marked(() => editing.delete()) },
+    { keys: ["h", "H"], show: "H", text: "hold the picture before in their place", act: marked(() => editing.hold()) },
+    { keys: ["d", "D"], show: "D", text: "drop them: packets of no bytes", act: marked(() => editing.drop()) },
     { keys: ["e", "E"], show: "E", text: "show only the frames of the selection", act: () => cutting.keep() },
     { keys: ["x", "X"], show: "X", text: "cut the frames of the selection out: no packet is changed", act: () => cutting.cutOut() },
     { keys: ["v", "V"], show: "V", text: "show the frames of the selection before the current frame", act: () => cutting.moveHere() },
     { keys: ["r", "R"], show: "R", text: "fade, show black or a frame for a time, or join a source", act: () => cutting.more() },
-    { keys: ["Ctrl+c"], show: "Ctrl C", text: "remember them", act: () => editing.copy(false) },
-    { keys: ["Ctrl+x"], show: "Ctrl X", text: "remember them, to move them", act: () => editing.copy(true) },
+    { keys: ["Ctrl+c"], show: "Ctrl C", text: "remember them", act: marked(() => editing.copy(false)) },
+    { keys: ["Ctrl+x"], show: "Ctrl X", text: "remember them, to move them", act: marked(() => editing.copy(true)) },
     { keys: ["Ctrl+v"], show: "Ctrl V", text: "insert them before the current packet", act: () => editing.paste() },
     { keys: ["Ctrl+z"], show: "Ctrl Z", text: "undo", act: () => editing.undo() },
     { keys: ["Ctrl+Shift+Z", "Ctrl+Shift+z", "Ctrl+y"], show: "Ctrl Shift Z", text: "redo", act: () => editing.redo() },

@@ -19,7 +19,7 @@ import { PacketFacts } from "./packet_facts.js";
 import { Player } from "./player.js";
 import { ScriptPanel } from "./script.js";
 import { Sound } from "./sound.js";
-import { Status, notice } from "./status.js";
+import { Status, markToolbars, notice, withdraw } from "./status.js";
 import { Strip } from "./strip.js";
 import { frameOf, timeText } from "./times.js";
 import { Thumbs } from "./thumbs.js";
@@ -191,7 +191,11 @@ for (const [id, go] of [
 // Keys
 
 const palette = {
-  escape: () => (findings.shown ? findings.leave() : model.select(null)),
+  escape: () => {
+    if (findings.shown) return findings.leave();
+    cutting.forget();
+    return model.select(null);
+  },
   showKeys: () => find("keys").showModal(),
   fullScreen: () => (document.fullscreenElement ? document.exitFullscreen() : find("viewer").requestFullscreen()),
 };
@@ -204,22 +208,36 @@ find("full").addEventListener("click", () => palette.fullScreen().catch((error) 
 // What the server says
 
 let isLost = false;
+let isReloading = false;
 let restarts = null;
 
 server.listen((name, changes) => {
   if (name === "lost") {
+    if (!isLost) notice(server.whenLost(), { isBad: true, id: "lost" });
     isLost = true;
-    status.say("the server of this page does not answer: was it ended?");
+    status.say("the server of this page does not answer");
     return;
   }
   if (name === "open") {
     if (isLost) status.say("the server answers again");
+    withdraw("lost");
     isLost = false;
+    meet().catch(() => {});
     return;
   }
   if (name === "restarted") notice("vp8serve ended. It was started again, and all edits are there.", { id: "restarted" });
   model.load(changes).catch((error) => status.say(error.message));
 });
+
+/** Another server may have the address of the one that was ended: all is read again then. */
+async function meet() {
+  const known = model.session?.instance;
+  if (!known) return;
+  const { instance } = await server.members("session");
+  if (instance === known) return;
+  isReloading = true;
+  location.reload();
+}
 
 // What the server says without being asked.
 let noticed = 0;
@@ -242,11 +260,12 @@ model.addEventListener("session", () => {
 });
 
 addEventListener("beforeunload", (event) => {
-  if (model.session && !model.session.saved) event.preventDefault();
+  if (model.session && !model.session.saved && !isReloading) event.preventDefault();
 });
 
 async function begin() {
   writeLegend(find("legend"));
+  markToolbars();
   model.frame = start.frame || 0;
   if (start.view) viewer.choose_view(start.view);
   if (start.plane) viewer.choose_plane(start.plane);

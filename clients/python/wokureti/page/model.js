@@ -47,6 +47,7 @@ export class Model extends EventTarget {
       const session = await server.members("session", "the packets");
       const old = this.session;
       this.session = session;
+      server.remember(session);
       if (!old || old.revision !== session.revision || old.instance !== session.instance) this.blocks.clear();
       this.time().catch(() => {});
       if (this.selection && this.selection.end > this.packets) this.selection = null;

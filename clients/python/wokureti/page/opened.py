@@ -50,13 +50,15 @@ class Opened(live.Live):
             self.session.read_indexes()
             with self.lock:
                 contents = self.contents()
+                self.tell_damage()
             for source in range(len(contents.streams)):
                 while source not in contents.listing.seen:
                     contents.listing.go_on(source)
                     # Whoever waits for the session comes first.
                     time.sleep(PAUSE)
             # What the first edit writes to the list.
-            contents.inputs.all[0].digest()
+            for item in contents.inputs.all:
+                item.digest()
             with self.lock:
                 if self.current is not None and self.current.contents is contents:
                     self.current = self.make_view(self.current)

@@ -9,6 +9,8 @@ from typing import NamedTuple
 
 from ..server import serve
 from ..session.errors import Ended
+from . import doors
+from .doors import state_folder
 from .opened import Opened
 from .pages import PageRoutes
 from ..tools.progress import say
@@ -20,12 +22,6 @@ TEXT_BROWSERS = ("www-browser", "links", "elinks", "lynx", "w3m")
 
 def is_writable(folder):
     return os.access(folder or ".", os.W_OK | os.X_OK)
-
-
-def state_folder():
-    """The folder for what a program of this user keeps."""
-    home = os.environ.get("XDG_STATE_HOME", "")
-    return os.path.join(home if os.path.isabs(home) else os.path.expanduser("~/.local/state"), "wokureti")
 
 
 def stem_of(stream):
@@ -103,9 +99,10 @@ def run(options, titles, how, port, has_browser):
 
         def routes(*given):
             made.append(PageRoutes(*given, names, titles))
+            made[0].usual = f"{stems[0]}.edits"
             return made[0]
 
-        serve.serve_with(live, port, routes, announce)
+        serve.serve_with(live, port, routes, announce, lambda port: doors.opened(port, path))
     finally:
         for routed in made:
             routed.others.close()

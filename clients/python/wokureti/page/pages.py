@@ -6,6 +6,7 @@ import json
 import os
 import pathlib
 import re
+import shlex
 import tempfile
 import time
 
@@ -44,6 +45,8 @@ MOST_LINES = 1 << 20
 MOST_ORIGINS, SEARCH_TIME = 4096, 0.25
 # Frames that are served together, at most; packets whose key packets are asked for.
 MOST_TOGETHER, MOST_KEYS = 8, 200
+# Places of selected packets that are named, at most.
+MOST_PLACES = 3
 RANGE = re.compile("([0-9]{1,15})-([0-9]{1,15})\\.y4m")
 
 
@@ -61,6 +64,8 @@ class PageRoutes(Routes):
         self.titles, self.files = titles, files_of_page()
         # The streams that the command names, and those that were added.
         self.paths, self.added = list(paths), []
+        # The list of edits that is taken where none is named.
+        self.usual = None
         self.sounding, self.others = Sounding(live.room.name), others.Others()
         self.posts[("sources",)] = self.add_source
         self.posts[("pages",)] = self.open_page
@@ -162,6 +167,7 @@ class PageRoutes(Routes):
             "exports": exports.has_option(view.contents.program, "--export"),
             "changing": view.changing(),
             "list": edits.path,
+            "again": self.again(),
             "unwritten": max(0, len(edits) - edits.written),
             "notices": self.live.notices,
             "listed": view.is_listed,
@@ -170,6 +176,15 @@ class PageRoutes(Routes):
             "source_frames": [view.timeline(source).frames[-1] for source in range(len(view.streams))],
         }
         return as_json(members)
+
+    def again(self):
+        """The command that goes on with the list of edits, or None if there is no list."""
+        path = self.live.session.edits.path
+        if path is None or not self.paths:
+            return None
+        stream = self.paths[0] if self.paths[0] == "-" else os.path.abspath(self.paths[0])
+        words = ["wokureti", "open", stream, *(() if self.usual == path else ("--edits", os.path.abspath(path)))]
+        return " ".join(map(shlex.quote, words))
 
     def saves_of(self, view):
         """For each source whether it is edited, whether its packets are as they were opened or saved, in which file they are, and the file that
@@ -304,15 +319,16 @@ class PageRoutes(Routes):
         return as_json({"revision": view.revision, "contents": view.contents.name, "packets": packets, "numbers": numbers, "frames": frames})
 
     def range(self, request):
-        """The frames from the first one that shows one of the packets `first` to `end` - 1 to the last: the first and the one after them, or null."""
+        """The frames from the first one that shows one of the packets `first` to `end` - 1 to the last: the first and the one after them, or null. `places` has
+        pairs for the frames that show them, several if others are between them."""
         self.only(request, "source", "first", "end")
         view = self.live.current_view()
         source = self.source_of(request, view)
         first, end = self.number(request, "first", 0), self.number(request, "end", 0)
         if not first <= end <= len(view.streams[source]):
             raise Refuse(404, "there are no such packets")
-        found = view.range_of(source, first, end) or (None, None)
-        return as_json({"revision": view.revision, "first": found[0], "end": found[1]})
+        found = view.range_of(source, first, end) or (None, None, [])
+        return as_json({"revision": view.revision, "first": found[0], "end": found[1], "places": found[2][:MOST_PLACES]})
 
     def cut(self, request):
         """The next frame that does not follow the one before it in its source, or the one before: where a script joins, and its end."""
@@ -489,25 +505,32 @@ class PageRoutes(Routes):
         return self.y4m(self.live.original(source).picture(self.y4m_number(name)))
 
     def differs(self, request):
-        """The next frame that is another one than that of the opened file, as far as a quarter of a second goes. `next` is where to go on."""
-        self.only(request, "from", "step")
+        """The next frame that is another one than that of the opened file, or with `against` than the same frame of a source as it was opened, as far as a
+        quarter of a second goes. `next` is where to go on."""
+        self.only(request, "from", "step", "against")
         view = self.live.current_view()
+        against = self.number(request, "against", None)
+        if against is not None and against >= len(view.streams):
+            raise Refuse(404, "there is no such source")
         step = -1 if request.query.get("step") == "-1" else 1
         frame, limit, found = self.number(request, "from", 0), time.monotonic() + SEARCH_TIME, None
         frames = view.frames
         while 0 <= frame < frames and found is None and time.monotonic() < limit:
             if self.live.revision != view.revision:
                 raise Refuse(412, "the stream was changed", revision=self.live.revision)
-            if self.is_other(view, frame):
+            if self.is_other(view, frame, against):
                 found = frame
             frame += step
         is_over = found is not None or not 0 <= frame < frames
         return as_json({"revision": view.revision, "frame": found, "next": None if is_over else frame, "frames": frames})
 
-    def is_other(self, view, frame):
-        """Whether a frame differs from the one of the opened file."""
-        source, packet = view.origin(frame)
-        other = self.original_frame(view, source, packet)
+    def is_other(self, view, frame, against=None):
+        """Whether a frame differs from the one of the opened file, or from the frame of this number of a source as it was opened."""
+        if against is None:
+            source, packet = view.origin(frame)
+            other = self.original_frame(view, source, packet)
+        else:
+            source, other = against, frame
         pictures = []
         for one, number in ((self.live, frame), (self.live.original(source), other)):
             try:

@@ -47,7 +47,7 @@ class Proposals:
         """The proposals for a finding, the best one first. The last one keeps the packet as it is."""
         kind, packet = finding["kind"], finding["packet"]
         found = []
-        if kind == "cut_record":
+        if kind in ("cut_record", "container"):
             found += self.of_tail()
             packet = max(0, len(self.stream) - 1)
         elif packet is not None and packet < len(self.stream):

@@ -70,10 +70,29 @@ export class Status {
   }
 }
 
+/** Marks toolbars that have more on a side than is seen, in small windows. */
+export function markToolbars() {
+  for (const bar of document.querySelectorAll(".tools")) {
+    const mark = () => {
+      bar.classList.toggle("more-left", bar.scrollLeft > 1);
+      bar.classList.toggle("more-right", bar.scrollLeft + bar.clientWidth < bar.scrollWidth - 1);
+    };
+    bar.addEventListener("scroll", mark, { passive: true });
+    new ResizeObserver(mark).observe(bar);
+    new MutationObserver(mark).observe(bar, { childList: true, subtree: true, attributeFilter: ["hidden"] });
+  }
+}
+
+/** Takes a notice back. */
+export function withdraw(id) {
+  for (const old of [...find("notices").children]) if (old.dataset.id === id) old.remove();
+}
+
 /** Shows a notice, which goes by itself if it is not bad. */
 export function notice(text, { isBad = false, id = "" } = {}) {
   const place = find("notices");
-  for (const old of [...place.children]) if (id && old.dataset.id === id) old.remove();
+  // The same sentence is there once, also if two tabs were told it.
+  for (const old of [...place.children]) if ((id && old.dataset.id === id) || old.querySelector("span").textContent === text) old.remove();
   const box = document.createElement("div");
   box.className = `notice${isBad ? " bad" : ""}`;
   box.dataset.id = id;

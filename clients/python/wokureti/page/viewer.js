@@ -267,20 +267,22 @@ export class Viewer {
     const button = find("next-difference");
     button.textContent = "Stop the search";
     const start = this.model.frame;
+    const { other } = this;
+    const against = this.against === "before" ? "" : `&against=${this.against}`;
     try {
       let from = start + step;
       while (from >= 0 && from < this.model.frames) {
-        const found = await server.members(`differs?from=${from}&step=${step}`, "", this.search.signal);
+        const found = await server.members(`differs?from=${from}&step=${step}${against}`, "", this.search.signal);
         if (found.frame !== null) {
           await this.model.go(found.frame);
-          this.status.say(`frame ${found.frame} differs from before the edits`);
+          this.status.say(`frame ${found.frame} differs from ${other}`);
           return;
         }
         if (found.next === null) break;
         from = found.next;
         this.status.progress(`compared up to frame ${from}`, Math.abs(from - start), step > 0 ? found.frames - start : start);
       }
-      this.status.say(`no frame after frame ${start} differs from before the edits`);
+      this.status.say(`no frame ${step > 0 ? "after" : "before"} frame ${start} differs from ${other}`);
     } catch (error) {
       this.status.say(error.name === "AbortError" ? "the search was stopped" : error.message);
     } finally {

@@ -239,14 +239,22 @@ class View:
         return None
 
     def range_of(self, source, first, end):
-        """The frames from the first one that shows one of these packets to the last one, or None if none does."""
+        """The frames from the first one that shows one of these packets to the last one, and the places of those that do, which are all of them or have
+        others between them; None if none does."""
         _, runs, ends = self.runs()
         shown, found = self.timeline(source).frames, []
         for (count, other, start), stop in zip(runs, ends):
             low, high = max(start, shown[first]), min(start + count, shown[end])
             if other == source and low < high:
                 found.append((stop - count + low - start, stop - count + high - start))
-        return (min(found)[0], max(end for _, end in found)) if found else None
+        if not found:
+            return None
+        places = []
+        for one in sorted(found):
+            if places and places[-1][1] == one[0]:
+                one = (places.pop()[0], one[1])
+            places.append(one)
+        return places[0][0], places[-1][1], places
 
     @property
     def rate(self):

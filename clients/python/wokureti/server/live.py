@@ -2,6 +2,7 @@
 
 import contextlib
 import os
+import re
 import secrets
 import threading
 
@@ -24,6 +25,16 @@ MOST_NOTICES = 100
 
 class Changed(Exception):
     """The stream is no more that of the revision."""
+
+
+def with_damage(lines, contents):
+    """The lines of `vp8list --check` of the packets of source 0, with the damage of its file, which these packets do not have."""
+    item = contents.inputs.all[0]
+    texts = containers.damage_of(item.path) if contents.is_edited(0, contents.streams[0]) else item.damage()
+    if not texts or not lines:
+        return lines
+    summary = re.sub(r"damage: (\d+)", lambda found: f"damage: {int(found.group(1)) + len(texts)}", lines[-1])
+    return [*lines[:-1], *(f"damage: {text}" for text in texts), summary]
 
 
 class Viewer:
@@ -67,7 +78,7 @@ class Live:
         self.checking = threading.Lock()
         self.closed = False
         # How often the program was started again, and what else is to be said: sentences, numbered from 1.
-        self.events, self.notices, self.noticed = [], [], 0
+        self.events, self.notices, self.noticed, self.told = [], [], 0, set()
         try:
             self.session = self.open(edits=edits)
         except BaseException:
@@ -79,9 +90,18 @@ class Live:
         session.on_edit, session.edits.on_notice = self.heard, self.notice
         return session
 
-    def notice(self, text):
+    def tell_damage(self):
+        """Says which files end in the middle or are damaged. What was said when a container was read is said to the page only."""
+        for item in self.session.edits.contents().inputs.all:
+            for text in item.damage():
+                if text not in self.told:
+                    self.told.add(text)
+                    self.notice(text, is_said=text in containers.damage_of(item.path))
+
+    def notice(self, text, is_said=False):
         """Says something that nobody asked for."""
-        say(text)
+        if not is_said:
+            say(text)
         self.noticed += 1
         self.notices = [*self.notices, (self.noticed, text)][-MOST_NOTICES:]
 
@@ -318,6 +338,7 @@ class Live:
                 with open(path, "wb") as file:
                     file.writelines(contents.pieces(0))
             lines = [line.decode(errors="replace").rstrip("\n") for line in facts.run(contents.lister, path, "--check", statuses=(0, 1))]
+            lines = with_damage(lines, contents)
             with contextlib.suppress(OSError):
                 os.unlink(path)
             self.found = (revision, lines)

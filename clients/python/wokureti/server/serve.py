@@ -19,10 +19,14 @@ def serve(live, port=0, out=None):
     serve_with(live, port, Routes, announce)
 
 
-def serve_with(live, port, routes, announce):
+def opened(port):
+    """A server, and the words of its address: one with which the stream is edited, and one that only reads."""
+    return Server(port), secrets.token_urlsafe(18), secrets.token_urlsafe(18)
+
+
+def serve_with(live, port, routes, announce, open_server=opened):
     """Serves a stream with these routes until the process is interrupted. `announce` is called with the address, and the one that only reads."""
-    server = Server(port)
-    token, reading = secrets.token_urlsafe(18), secrets.token_urlsafe(18)
+    server, token, reading = open_server(port)
     server.routes = routes(live, server, token)
     server.routes.reading = reading
     thread = threading.Thread(target=server.serve, daemon=True)
@@ -43,5 +47,6 @@ def run(options, edits, save, port, how):
     live = Live(options, edits, save)
     live.keeps_stamps, live.sound, live.is_constant = how.keep_stamps, how.sound, how.constant
     paces.warn(live.contents(), how.constant, live.notice)
+    live.tell_damage()
     serve(live, port)
     return 0

@@ -275,7 +275,7 @@ class Server:
     def check(self, request):
         """Refuses what is not from this machine's own client."""
         if request.headers.get("host") != self.host:
-            raise Refuse(421, f"the Host is not {self.host}")
+            raise Refuse(421, f"the Host is not {self.host}: open {self.origin}/. With ssh, forward this port to the same one: ssh -L {self.port}:{self.host} MACHINE")
         origin = request.headers.get("origin")
         if origin is not None and origin != self.origin:
             raise Refuse(403, "the request comes from another site")

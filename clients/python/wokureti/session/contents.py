@@ -1,10 +1,14 @@
 """Which packet of which file each packet of a session is now. No question of the session says that, nor how long a packet is shown, so edits are followed
 here as far as these need it; all else of a packet is what the session answers."""
 
+import bisect
+import contextlib
 import copy
 import itertools
 import math
+import os
 import secrets
+import tempfile
 from array import array
 from typing import NamedTuple
 
@@ -51,6 +55,8 @@ class Plan(NamedTuple):
     @property
     def of_file(self):
         """For each edit whether the packet that it takes away is one of a file, so that it need not be asked for."""
+        if self.after.is_overwritten():
+            return [False] * len(self.inverses)
         return [inverse.packet is not None and inverse.packet < self.after.of_files for inverse in self.inverses]
 
 
@@ -78,6 +84,58 @@ def packet_of(text):
     return Packet(int(stamp), b"" if data == "-" else bytes.fromhex(data))
 
 
+class Kept:
+    """The records of packets of files, in a file without a name: those that follow each other are one part of it."""
+
+    def __init__(self, contents):
+        self.contents, self.file, self.firsts, self.parts = contents, None, [], []
+
+    def add(self, numbers):
+        """Keeps packets, if their files are still those that were opened, and if there is room."""
+        for first, end in parts_of(number for number in sorted(numbers) if self.place(number) is None):
+            while first < end:
+                # Packets of two files may follow each other.
+                item, index = self.contents.where(first)
+                stop = min(end, first + len(item.index) - index)
+                with contextlib.suppress(OSError):
+                    self.file = self.file or tempfile.TemporaryFile()
+                    start = self.file.seek(0, os.SEEK_END)
+                    self.file.writelines(item.read_records(index, index + stop - first))
+                    self.file.flush()
+                    place = bisect.bisect(self.firsts, first)
+                    self.firsts.insert(place, first)
+                    self.parts.insert(place, (stop, start))
+                first = stop
+
+    def place(self, number):
+        """The part that has a packet, or None."""
+        place = bisect.bisect(self.firsts, number) - 1
+        return place if place >= 0 and number < self.parts[place][0] else None
+
+    def data(self, number):
+        """The bytes of a packet, or None."""
+        place = self.place(number)
+        if place is None:
+            return None
+        item, index = self.contents.where(number)
+        first = index - (number - self.firsts[place])
+        start = self.parts[place][1] + item.index.starts[index] - (item.index.starts[first] - ivf.RECORD.size)
+        return os.pread(self.file.fileno(), item.index.sizes[index], start)
+
+
+def parts_of(numbers):
+    """Numbers in ascending order as ranges of those that follow each other: the first one, and the one after the last."""
+    first = end = None
+    for number in numbers:
+        if number != end:
+            if end is not None:
+                yield first, end
+            first = number
+        end = number + 1
+    if end is not None:
+        yield first, end
+
+
 class Contents:
     """The packets of all sources.
 
@@ -100,7 +158,11 @@ class Contents:
         self.of_files = count
         # The packets that edits made, and of those that edits took away since what `packet` answered.
         self.made, self.lost = [], {}
+        # The bytes of packets of files that edits took away: a file may be overwritten before they are wanted again.
+        self.kept = Kept(self)
         self.stamped = (None, None, None)
+        # Whether a packet that an edit took away was inserted again: the engine then takes its duration for that of a new packet.
+        self.has_inserted_again = False
         self.listing = Listing(self)
 
     # Edits
@@ -204,7 +266,7 @@ class Contents:
         """Whether the packet that an edit takes away is one of a file, so that it need not be asked for."""
         word, *rest = words_of(line)
         try:
-            return word in LOSING and self.streams[self.current][int(rest[0])] < self.of_files
+            return word in LOSING and self.streams[self.current][int(rest[0])] < self.of_files and not self.is_overwritten()
         except (IndexError, ValueError):
             # It is refused.
             return False
@@ -246,7 +308,7 @@ class Contents:
         if operation.packet >= self.of_files:
             return operation._replace(text=NOTHING[operation.word])
         item, index = self.where(operation.packet)
-        data = item.read(index).hex() or "-"
+        data = self.of_file(operation.packet).hex() or "-"
         return operation._replace(text=data if operation.word == "replace" else f"{item.index.stamps[index]} {data}")
 
     # Times
@@ -262,13 +324,19 @@ class Contents:
             number = self.made[number - self.of_files].timed
         return number
 
-    def duration(self, number, source):
-        """The duration of a packet in the time base of a source: that of its file; for one that has no time the median step of the source that it was made in."""
+    def lasting(self, number):
+        """How long a packet is shown, and the file in whose time base that is: as in its file; for one that has no time the median step of the source that it was
+        made in."""
         made_in = None
         while number is not None and number >= self.of_files:
             number, made_in, _ = self.made[number - self.of_files]
         item, index = (self.inputs.all[made_in], None) if number is None else self.where(number)
-        return times.scaled(item.step() if index is None else item.durations()[index], item.head, self.inputs.all[source].head)
+        return item.step() if index is None else item.durations()[index], item
+
+    def duration(self, number, source):
+        """The duration of a packet in the time base of a source."""
+        ticks, item = self.lasting(number)
+        return times.scaled(ticks, item.head, self.inputs.all[source].head)
 
     def durations(self, source, stream):
         """The durations of packets in the time base of a source."""
@@ -279,7 +347,9 @@ class Contents:
         known = self.stamped
         if known[:2] != (source, stream):
             self.listing.learn()
-            known = self.stamped = (source, array("I", stream), times.stamps_of(zip(map(self.is_shown, stream), self.durations(source, stream))))
+            lasting = ((number, *self.lasting(number)) for number in stream)
+            packets = ((self.is_shown(number), ticks, times.base_of(item.head)) for number, ticks, item in lasting)
+            known = self.stamped = (source, array("I", stream), times.stamps_of(packets, times.base_of(self.inputs.all[source].head)))
         return known[2]
 
     # Facts
@@ -320,13 +390,29 @@ class Contents:
         place = 0
         while place < len(numbers):
             if numbers[place] < self.of_files:
-                item, index = self.where(numbers[place])
-                yield item.read(index)
+                yield self.of_file(numbers[place])
                 place += 1
                 continue
             end = self.end_of_made(numbers, place)
             yield from (packet.data for packet in self.asked(numbers[place:end]))
             place = end
+
+    def of_file(self, number):
+        """The bytes of a packet of a file: if that was overwritten, those that were kept, or that the session has."""
+        item, index = self.where(number)
+        try:
+            return item.read(index)
+        except OSError:
+            data = self.kept.data(number)
+            if data is None and any(number in stream for stream in self.streams):
+                data = self.asked([number])[0].data
+            if data is None:
+                raise
+            return data
+
+    def is_overwritten(self):
+        """Whether a file is no more the one that was opened."""
+        return any(item.is_changed() for item in self.inputs.all)
 
     def end_of_made(self, numbers, place):
         """Up to where packets follow that edits made and that are asked for together."""
@@ -375,16 +461,11 @@ class Contents:
     @property
     def rate(self):
         """Rate and scale of the frames that are served: those of the container that source 0 was in; else those of its header, whose time base may be
-        finer than a frame, over the median step of its time stamps."""
+        finer than a frame, over the step of its time stamps."""
         media = self.inputs.all[0].media
         if media is not None and media.rate is not None:
             return media.rate
-        head, step = self.inputs.all[0].head, self.inputs.all[0].step()
-        rate, scale = times.base_of(head)
-        if step == 1:
-            return rate, scale
-        common = math.gcd(rate, scale * step)
-        return rate // common, scale * step // common
+        return self.inputs.all[0].rate()
 
     def shown_kinds(self, source):
         """For each shown packet of a source its kind, `key` or `inter`."""
@@ -410,6 +491,12 @@ class Contents:
                 place = end
                 continue
             item, first = self.where(number)
+            if item.is_changed():
+                data = self.of_file(number)
+                yield ivf.RECORD.pack(len(data), item.index.stamps[first])
+                yield data
+                place += 1
+                continue
             end, index = place + 1, first + 1
             limit = min(len(stream), place + MOST_TOGETHER, place + len(item.index) - first)
             while end < limit and stream[end] == number + end - place:
@@ -422,6 +509,10 @@ class Contents:
         stream = self.streams[source] if stream is None else stream
         stamps, _ = self.stamps(source, stream)
         return ivf.pieces(self.inputs.all[source].head, len(stream), zip(stamps, self.data(stream)))
+
+    def damage(self):
+        """Sentences about the files of the sources that end in the middle or are damaged."""
+        return [text for item in self.inputs.all for text in item.damage()]
 
     def check_output(self, path):
         """`ValueError` if a file is one that the session reads or writes."""

@@ -129,11 +129,12 @@ def open_locked(path, is_fresh):
 def open_or_make(path, is_fresh):
     flags = os.O_RDWR | os.O_CREAT | os.O_CLOEXEC
     try:
-        return os.open(path, flags | os.O_EXCL, 0o666), True
+        # What somebody edits is for them alone.
+        return os.open(path, flags | os.O_EXCL, 0o600), True
     except FileExistsError:
         if is_fresh:
             raise
-    return os.open(path, flags, 0o666), False
+    return os.open(path, flags, 0o600), False
 
 
 def is_at(path, descriptor):

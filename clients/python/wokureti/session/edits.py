@@ -15,6 +15,7 @@ import warnings
 from itertools import accumulate
 from typing import Callable, Iterable, Iterator, Optional, Union
 
+from . import named
 from .contents import Contents
 from .edit_files import EditFile, NotWritten
 from .errors import OtherStream, Refused, sentence
@@ -38,6 +39,8 @@ class Entry:
         self.title = title
         self.lost = lost
         self.inverse = None
+        # The sources that the comments before it name.
+        self.sources = ()
 
     @property
     def text(self):
@@ -51,7 +54,7 @@ class Entry:
 def parsed(text, step=0):
     """The edits of the text of a list as entries, the number of the line of each, and the lines after the last one. Steps are numbered from
     `step` + 1 on."""
-    entries, numbers, before, left, title = [], [], "", 0, ""
+    entries, numbers, before, left, title, sources = [], [], "", 0, "", []
     for number, line in enumerate(lines_in(text), 1):
         if not is_edit(line):
             before += f"{line}\n"
@@ -59,12 +62,15 @@ def parsed(text, step=0):
             if found:
                 left, title = int(found.group(1)), found.group(2) or ""
                 step += 1
+            else:
+                sources += [one.number for one in [named.of_line(line)] if one is not None]
             continue
         if not left:
             step += 1
         entries.append(Entry(plain(line), step, before, title))
+        entries[-1].sources = tuple(sources)
         numbers.append(number)
-        left, before, title = max(0, left - 1), "", ""
+        left, before, title, sources = max(0, left - 1), "", "", []
     return entries, numbers, before
 
 
@@ -186,7 +192,18 @@ class EditList:
             item = self._session._inputs.all[0]
             if (packets, size) != item.extent() or digest != item.digest():
                 raise OtherStream(path, (packets, size), item.extent())
+        if not self._anyway:
+            self._check_sources(text, path)
         return parsed(text, self._step)
+
+    def _check_sources(self, text, path):
+        """The sources that a list names must be those of the session, as far as it has them."""
+        for one in {one.number: one for one in map(named.of_line, lines_in(text)) if one is not None}.values():
+            if not 1 <= one.number < len(self._session._inputs.all):
+                continue
+            item = self._session._inputs.all[one.number]
+            if (one.packets, one.size) != item.extent() or one.digest != item.digest():
+                raise OtherStream(path, (one.packets, one.size), item.extent(), one.number, one.path)
 
     def _replay(self, entries, path, numbers):
         replies, plan = self._send([entry.line for entry in entries])
@@ -232,6 +249,7 @@ class EditList:
         inverses = contents.apply_all([entry.line for entry in entries]) if plan is None else contents.adopt(plan)
         for entry, inverse in zip(entries, inverses):
             entry.inverse = contents.whole_by(inverse, entry.lost)
+        contents.kept.add(entry.inverse.packet for entry in entries if entry.inverse.is_lost and entry.inverse.packet is not None and entry.inverse.packet < contents.of_files)
 
     @property
     def current(self) -> int:
@@ -302,7 +320,9 @@ class EditList:
         for line, lost in edits:
             self._new_step()
             before = self._after or ("" if self._entries or entries else self._first_line())
-            entries.append(Entry(line, self._step, before, lost=lost))
+            sources = () if entries else self._unnamed()
+            entries.append(Entry(line, self._step, before + "".join(sources.values() if sources else ()), lost=lost))
+            entries[-1].sources = tuple(sources)
             self._after = ""
         self._know(self._contents, entries, plan)
         self._entries += entries
@@ -310,11 +330,26 @@ class EditList:
         self._write()
 
     def _first_line(self):
-        """The comment that says which stream a list is of."""
+        """The comment that says which stream a list is of. A stream that was overwritten since has none."""
         if self._file is None:
             return ""
         item = self._session._inputs.all[0]
-        return "# wokureti: edits of {} packets, {} bytes, sha256 {}\n".format(*item.extent(), item.digest())
+        try:
+            return "# wokureti: edits of {} packets, {} bytes, sha256 {}\n".format(*item.extent(), item.digest())
+        except OSError:
+            return ""
+
+    def _unnamed(self):
+        """The comments for the sources that the list does not name yet, by their numbers."""
+        items = self._session._inputs.all
+        if self._file is None or len(items) == 1:
+            return {}
+        known, folder, found = {source for entry in self._entries for source in entry.sources}, os.path.dirname(os.path.realpath(self._path)), {}
+        for number, item in enumerate(items[1:], 1):
+            if number not in known and item.descriptor is not None:
+                with contextlib.suppress(OSError):
+                    found[number] = named.line_of(number, item, folder)
+        return found
 
     def _write(self):
         """Brings the file up to date. `NotWritten` if that fails: the next edit tries again."""
@@ -424,6 +459,7 @@ class EditList:
         contents = self.contents()
         if not all(contents.has_whole(operation, new) for operation in operations):
             raise Refused("refused NoMemory", "there was no memory to ask for what the edit took away")
+        contents.has_inserted_again = contents.has_inserted_again or any(operation.word == "insert" for operation in operations)
         texts = (contents.whole(operation).line for operation in operations)
         # What is taken away here was made by edits, so it is asked for.
         replies = self._ask([question_before(operation.line) for operation in operations], texts, timeout)
@@ -463,7 +499,13 @@ def check(entries, path, numbers, replies):
     """`ValueError` if an edit of a list was refused, which names its line."""
     for entry, number, (reply, _) in zip(entries, numbers, replies):
         if isinstance(reply, Refused):
-            raise ValueError(f"{path}, line {number}: {entry.line[:80]}: {reply}. The list is not of this stream") from None
+            why = "Another stream is missing: name it with --source" if names_source(entry.line, reply) else "The list is not of this stream"
+            raise ValueError(f"{path}, line {number}: {entry.line[:80]}: {reply}. {why}") from None
+
+
+def names_source(line, refused):
+    """Whether an edit was refused that names a source which may not be there."""
+    return refused.word == "Source" or (first_word(line) == "script" and refused.word in ("Reference", "Number") and "source" in words_of(line.replace(";", " ")))
 
 
 def refusal_of(replies):

@@ -75,12 +75,13 @@ class Ended(Exception):
 
 
 class OtherStream(ValueError):
-    """A list of edits is of another stream than the session: how many packets and bytes each has."""
+    """A list of edits is of another stream than the session, or names another source: how many packets and bytes each has."""
 
-    def __init__(self, path, wanted, found):
+    def __init__(self, path, wanted, found, source=0, name=""):
         theirs, ours = (f"{packets:,} packets of {size:,} bytes" for packets, size in (wanted, found))
         more = "" if wanted != found else ", but others"
-        text = f"{path} is the list of edits of another stream: of one with {theirs}, and this one has {ours}{more}. Name another list with --edits, or make these edits with --anyway"
+        of = f"another source {source}: of {name}, " if source else "another stream: of one "
+        text = f"{path} is the list of edits of {of}with {theirs}, and this one has {ours}{more}. Name another list with --edits, or make these edits with --anyway"
         super().__init__(text)
 
 

@@ -24,7 +24,8 @@ class Input:
         self.head = ivf.EMPTY
         self.index = None
         self.lock = threading.Lock()
-        self.found_digest, self.digesting, self.found_step, self.found_durations = None, threading.Lock(), None, None
+        self.found_digest, self.digesting, self.found_step, self.found_durations, self.found_left = None, threading.Lock(), None, None, None
+        self.found_rate = None
         self.media = containers.media_of(path)
         self.is_shared = False
         if path == "-":
@@ -57,9 +58,13 @@ class Input:
     def sign(found):
         return found.st_dev, found.st_ino, found.st_size, found.st_mtime_ns
 
+    def is_changed(self):
+        """Whether the file is no more the one that the program read."""
+        return self.descriptor is not None and self.sign(os.fstat(self.descriptor)) != self.signature
+
     def check(self):
         """`OSError` if the file is no more the one that the program read."""
-        if self.descriptor is not None and self.sign(os.fstat(self.descriptor)) != self.signature:
+        if self.is_changed():
             raise OSError(f"{self.path} was changed since the session was opened")
 
     def check_opened(self):
@@ -90,6 +95,13 @@ class Input:
             self.found_step = times.median_step(index.stamps, index.tags)
         return self.found_step
 
+    def rate(self):
+        """The frames a second, as a pair."""
+        if self.found_rate is None:
+            index = self.records()
+            self.found_rate = times.rate_of(index.stamps, index.tags, times.base_of(self.head))
+        return self.found_rate
+
     def durations(self):
         """The duration of each packet, in the time base of the file."""
         if self.found_durations is None:
@@ -101,6 +113,18 @@ class Input:
         """The number of packets, and of their bytes."""
         index = self.records()
         return len(index), sum(index.sizes)
+
+    def damage(self):
+        """Sentences about a file that ends in the middle, or whose container is damaged."""
+        if self.descriptor is None:
+            return []
+        return [*containers.damage_of(self.path), *ivf.damage_text(self.path, self.records(), self.left())]
+
+    def left(self):
+        """The number of bytes after the last whole record."""
+        if self.found_left is None:
+            self.found_left = ivf.left_after(self.opened(), self.records())
+        return self.found_left
 
     def digest(self):
         """The SHA-256 of the packets, each after its size: what they are called and what their time stamps are does not matter. Read once."""

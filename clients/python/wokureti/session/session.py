@@ -8,7 +8,7 @@ import threading
 import time
 from typing import Any, Callable, ContextManager, Iterable, Iterator, NamedTuple, Optional, Union
 
-from . import checks
+from . import checks, named
 from ..tools import exports, files, muxing, programs
 from ..tools.progress import say
 from .edits import EditList
@@ -90,6 +90,8 @@ class Session:
         self._edits = None
         # "library" or "program".
         self.engine: str = engine_of(engine, program)
+        if edits is not None and resume is None:
+            sources = named.with_named(sources, edits)
         self._settings = (program or programs.find("vp8serve"), lister or programs.find("vp8list"), tables)
         self._inputs = Inputs([checks.stream(stream), *checks.sources(sources)])
         try:
@@ -520,7 +522,8 @@ class Session:
         with self._locked(None) as deadline:
             contents = self._edits.contents()
             number = contents.source(source)
-            if self._makes_files() and muxing.ending_of(path) is None and self._inputs.all[number].media is None:
+            knows_times = not restamp or self._knows_durations()
+            if self._makes_files() and knows_times and muxing.ending_of(path) is None and self._inputs.all[number].media is None:
                 contents.check_output(path)
                 files.write_whole(path, [self._file(lambda: self._pipes.saved(pad, number, restamp, deadline))])
             else:
@@ -532,7 +535,7 @@ class Session:
         with self._locked(timeout) as deadline:
             contents = self._edits.contents()
             contents.check_output(path)
-            if self._makes_files():
+            if self._makes_files() and self._knows_durations():
                 files.write_whole(path, [self._exported(pad, deadline)])
             else:
                 exports.export_plain(contents, list(self._edits), path, pad)
@@ -540,6 +543,10 @@ class Session:
     def _makes_files(self):
         """Whether the engine makes the files of packets and of frames."""
         return not self._ended and isinstance(self._pipes, Library) and self._pipes.has_files
+
+    def _knows_durations(self):
+        """Whether the engine has the durations of all packets: one that `undo` inserted again is a new packet there."""
+        return not self._edits.contents().has_inserted_again
 
     def _file(self, call):
         """The file that a call of the library makes."""

@@ -21,6 +21,8 @@ OF_CLUSTER = (TIME, 0xA7, 0xAB, 0x5854, 0xAF, 0x9B, 0xFA, 0xFB, 0xFD, 0x75A1, 0x
 KNOWN = frozenset((*INSIDE, *OF_FILE, *OF_CLUSTER, SIMPLE, BLOCK))
 # The bits of a block that say that it has several packets.
 LACING = 6
+# Bytes of the number and the length of an element, at most.
+LONGEST = 16
 # Elements that must follow each other where reading goes on, and tracks that are looked for.
 CHAIN, MOST_TRACK = 3, 16
 CODECS = {"V_VP8": "vp8", "A_OPUS": "opus", "A_VORBIS": "vorbis", "A_AAC": "aac", "A_MPEG/L3": "mp3"}
@@ -114,6 +116,40 @@ def next_place(data, place):
         if at is None or follow(data, at, CHAIN):
             return at
         found[mark] = data.find(mark, at + 1)
+
+
+class Damage(NamedTuple):
+    """The first damage of a file: its place, and whether the file ends there in the middle of an element."""
+
+    place: int
+    is_cut: bool
+
+
+def damage(data):
+    """The first damage of a file, or None if its elements lead from one to the next up to its end. What is in blocks is not looked at."""
+    place, size, cut = 0, len(data), None
+    while place < size:
+        number = number_at(data, place, True)
+        length = number and number_at(data, number[1], False)
+        if not length or number[0] not in KNOWN:
+            return Damage(place, cut is not None and not length and size - place < LONGEST)
+        (word, after), (count, start) = number, length
+        if count == (1 << 7 * (start - after)) - 1:
+            if word not in (SEGMENT, CLUSTER):
+                return Damage(place, False)
+            place = start
+            continue
+        end = start + count
+        if word in INSIDE:
+            cut = place if cut is None and end > size else cut
+            place = start
+        elif end > size:
+            return Damage(place, True)
+        elif word in (SIMPLE, BLOCK) and not is_block(data, start, end):
+            return Damage(place, False)
+        else:
+            place = end
+    return None if cut is None else Damage(size, True)
 
 
 def find(data):

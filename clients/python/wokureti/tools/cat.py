@@ -3,6 +3,7 @@
 The parts are joined in order as they come, so the output may be a pipe.
 """
 
+import collections
 import contextlib
 import os
 import re
@@ -15,6 +16,7 @@ from ..server import virtual
 from ..session import checks
 from ..session.errors import Ended, Refused, sentence
 from ..session.frames import MARK, parse_header
+from ..session.outcomes import Outcomes
 from .progress import Progress, say
 
 
@@ -213,6 +215,59 @@ def write(session, out, workers, name="frames"):
     return refusals
 
 
+def size_runs(session):
+    """The frames of one size that follow each other: sizes, with the first frame and the one after the last. Those that are refused go with those before."""
+    found = []
+    for end, (count, outcome) in zip(*with_ends(Outcomes(session))):
+        if not isinstance(outcome, str) and (not found or found[-1][0] != outcome):
+            found.append([outcome, end - count if found else 0, end])
+        elif found:
+            found[-1][2] = end
+    return found
+
+
+def with_ends(outcomes):
+    return outcomes.ends, outcomes.runs
+
+
+def sizes_text(runs):
+    """What is said of a stream whose size changes."""
+    left = sum(end - first for size, first, end in runs if size != runs[0][0])
+    names = ", ".join(f"frames {first:,} to {end - 1:,} are {size[0]}x{size[1]}" for size, first, end in runs[:3])
+    more = f", and {len(runs) - 3:,} changes follow" if len(runs) > 3 else ""
+    return f"the size of the frames changes: {names}{more}. A YUV4MPEG2 file has one size, so {left:,} frames are left out; --per-size writes a file for each size"
+
+
+def names_of_sizes(out, runs):
+    """The files for these frames: OUT-320x180.y4m, and OUT-320x180-2.y4m if the size comes again."""
+    stem, ending = os.path.splitext(out)
+    counts, found = collections.Counter(), []
+    for (width, height), _, _ in runs:
+        counts[width, height] += 1
+        turn = counts[width, height]
+        found.append(f"{stem}-{width}x{height}{f'-{turn}' if turn > 1 else ''}{ending}")
+    return found
+
+
+def write_sizes(open_session, runs, outs, workers_of):
+    """Writes a file for the frames of each size, and says which. Returns the refusals, with the numbers that the frames have in the stream. A session serves
+    frames of one size, so each file has its own."""
+    refusals = []
+    for out, (_, first, end) in zip(outs, runs):
+        with open_session() as session:
+            script = session.edits.contents().script
+            nodes = [] if script == "-" else script.split("; ")
+            session.script(*nodes, f"trim {len(nodes)} {first} {end - first}")
+            refusals += [shifted(line, first) for line in write(session, out, workers_of(session))]
+        print(f"{out}: frames {first} to {end - 1}", flush=True)
+    return refusals
+
+
+def shifted(line, first):
+    """A refusal of a part that begins with a frame, as one of the whole."""
+    return re.sub(r"frame (\d+)", lambda found: f"frame {int(found.group(1)) + first}", line, count=1)
+
+
 def write_constant(session, out):
     """Writes the frames of a session at its rate: one whose time is not nearest to any step is left out, others are repeated. The exit status."""
     contents = session.edits.contents()
@@ -238,9 +293,8 @@ def write_constant(session, out):
 
 
 def header(session, first):
-    """The first line of the text: that of the program, whose rate is the time base of the file; of a container it is the rate that this has."""
-    is_container = session.edits.contents().inputs.all[0].media is not None
-    return virtual.header_of(parse_header(first.header), session.rate) if is_container else first.header
+    """The first line of the text: that of the program, whose rate is the time base of the file, with the rate of the frames, as `wokureti serve` has it."""
+    return virtual.header_of(parse_header(first.header), session.rate)
 
 
 def here(session, processes, program, tables):

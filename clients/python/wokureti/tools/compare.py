@@ -9,7 +9,7 @@ import shutil
 import sys
 import urllib.request
 
-from . import convert, facts, files, png, programs, rooms, y4m
+from . import containers, convert, facts, files, ivf, looks, png, programs, rooms, y4m
 from ..session import checks, records
 from ..session.errors import Ended, Refused
 from ..session.frames import frame_of, sides
@@ -71,7 +71,7 @@ def opened(name, folder, tables=None):
         source = sys.stdin.buffer
     else:
         # A pipe is read as it comes.
-        path = convert.as_ivf(name, folder) if os.path.isfile(name) else name
+        path = convert.as_ivf(name, folder, is_checked=False) if os.path.isfile(name) else name
         source = open(path, "rb")
     with contextlib.closing(source) as file:
         head, ivf_path = peek(file), None
@@ -93,7 +93,8 @@ def opened(name, folder, tables=None):
             ivf_path = convert.as_ivf(copied, folder)
             frames = of_stream(ivf_path, tables)
         else:
-            raise ValueError(f"{name} is no IVF file of VP8, and no YUV4MPEG2 text")
+            look = f": it looks like {looks.of(name)[0]}" if os.path.isfile(name) else ""
+            raise ValueError(f"{name} is no IVF file of VP8, and no YUV4MPEG2 text{look}")
         with contextlib.closing(frames):
             yield frames, ivf_path
 
@@ -205,6 +206,8 @@ class Comparison:
         self.pair = None
         # The first macroblock that differs in the first frame that does, and what it is in the streams that are IVF files.
         self.macroblock, self.records = None, []
+        # Sentences about the files that end in the middle or are damaged.
+        self.damage = []
 
     def part(self, number, text, pair=None):
         """Two frames differ."""
@@ -301,6 +304,13 @@ def write_pair(folder, number, one, other):
         files.write_whole(os.path.join(folder, f"frame-{number}-{name}.png"), [text])
 
 
+def damage_in(path):
+    """Sentences about the damage of an IVF file, or of the container that its packets are from."""
+    with open(path, "rb") as file:
+        _, index = ivf.read_index(file.fileno())
+        return [*containers.damage_of(path), *ivf.damage_text(path, index, ivf.left_after(file.fileno(), index))]
+
+
 def compare(one, other, pictures=None, tables=None):
     """Compares two streams, which are named, and returns the comparison."""
     if one == other == "-":
@@ -310,6 +320,7 @@ def compare(one, other, pictures=None, tables=None):
         with opened(one, folder, tables) as (left, left_path), opened(other, folder, tables) as (right, right_path):
             for number, pair in enumerate(itertools.zip_longest(left, right)):
                 found.add(number, *pair)
+            found.damage = [text for path in (left_path, right_path) if path is not None for text in damage_in(path)]
         if found.macroblock is not None:
             for name, path in zip("AB", (left_path, right_path)):
                 if path is None:

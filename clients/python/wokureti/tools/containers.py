@@ -71,13 +71,20 @@ class Media(NamedTuple):
     said: str
 
 
-# What was read in this process, by the path of the IVF file that has the packets of the video.
-known = {}
+# What was read in this process, by the path of the IVF file that has the packets of the video; and sentences about the damage of the containers.
+known, damaged = {}, {}
+# The paths that were given for them.
+origins = {}
 
 
 def media_of(path):
     """What the container had from which this IVF file was made, or None."""
     return known.get(os.fspath(path))
+
+
+def damage_of(path):
+    """Sentences about the damage of the container from which this IVF file was made."""
+    return damaged.get(os.fspath(path), [])
 
 
 def has_av():
@@ -115,8 +122,7 @@ def rate_of(path, named):
     step = statistics.median_low(steps)
     if named is not None and abs(named[1] / named[0] - step * head.scale / head.rate) <= ROUNDED:
         return named
-    common = math.gcd(head.rate, head.scale * step)
-    return head.rate // common, head.scale * step // common
+    return times.rate_of(index.stamps, index.tags, times.base_of(head))
 
 
 # By ffmpeg
@@ -171,7 +177,10 @@ def write_ivf(path, facts, track):
 
 def check_video(path, codec):
     if codec != "vp8":
-        raise Failed(f"{os.fsdecode(path)} has no video" if codec is None else f"{os.fsdecode(path)} has video of {codec}, and not of VP8")
+        name = os.fsdecode(path)
+        if codec is None:
+            raise Failed(f"{name} has no video")
+        raise Failed(f"{name} has video of {codec}, and not of VP8: ffmpeg -i {name} -c:v libvpx OUT.webm codes it again as VP8, which changes each frame")
 
 
 def fraction(text):

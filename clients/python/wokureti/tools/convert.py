@@ -1,10 +1,11 @@
 """Streams in other containers: their packets are taken out into an IVF file, without coding them again and with their time stamps."""
 
+import mmap
 import os
 import shutil
 import stat
 
-from . import blocks, containers
+from . import blocks, containers, ivf, looks
 from ..session import checks
 from .progress import say
 
@@ -28,6 +29,14 @@ def kind_of(head):
     return None
 
 
+def is_container(path):
+    """Whether a path is a file in another container than IVF."""
+    if not os.path.isfile(path):
+        return False
+    with open(path, "rb") as file:
+        return kind_of(file.read(12)) is not None
+
+
 def is_null(found):
     return stat.S_ISCHR(found.st_mode) and found.st_rdev == os.stat(os.devnull).st_rdev
 
@@ -44,15 +53,25 @@ def new_name(folder, ending):
     return os.path.join(folder, f"{len(os.listdir(folder))}.{ending}")
 
 
-def as_ivf(path, folder, is_quiet=False):
+def as_ivf(path, folder, is_quiet=False, is_checked=True):
     """The path of the stream as IVF: the file itself, or a file in the folder. `-` is standard input, and /dev/null an empty stream, for which a
-    session has the path `-`."""
+    session has the path `-`. With `is_checked` a file that does not begin as one raises `ivf.NotIvf`, which says what it looks like."""
     given, name, is_file = as_file(path, folder)
     if not is_file:
         return given
     with open(given, "rb") as file:
-        kind = kind_of(file.read(12))
-    return given if kind is None else taken_out(given, folder, name, kind, is_quiet)
+        head = file.read(ivf.HEAD.size)
+    kind = kind_of(head)
+    if kind is None:
+        try:
+            ivf.parse_head(head)
+        except ivf.NotIvf as error:
+            if is_checked:
+                raise ivf.NotIvf(looks.sentence(given, name, error)) from None
+        return given
+    out = taken_out(given, folder, name, kind, is_quiet)
+    containers.origins[out] = path if given == path else "/dev/stdin"
+    return out
 
 
 def as_file(path, folder):
@@ -85,8 +104,11 @@ def searched(path, folder):
         data = file.read()
     found = blocks.find(data)
     is_matroska = kind_of(head) is not None or blocks.video_track(found) is not None
-    if not is_matroska or not found.gaps:
+    if not is_matroska or not (found.gaps or blocks.damage(data)):
         return (taken_out(given, folder, name, "WebM or Matroska", False) if is_matroska else given), None
+    if not found.gaps:
+        # It ends between two blocks, and before its end.
+        found.gaps.append((len(data), len(data), len(found.blocks)))
     out = new_name(folder, "ivf")
     sought = blocks.as_file(found, given, out)
     lost = "" if found.tracks else "; what it says of its tracks is lost"
@@ -111,9 +133,25 @@ def taken_out(path, folder, name, kind, is_quiet):
     media = containers.media_of(out)
     if not is_quiet:
         say(f"{name} is a {kind} file; {tool} took its packets out without coding them again{sound_text(media)}")
-    if media is not None and media.said:
-        say(f"{tool} complains of {name}: {'; '.join(media.said.splitlines()[:3])}. `wokureti repair` searches a damaged file for all its packets")
+    containers.damaged[out] = damage_of(path, name, kind)
+    if media is not None and media.said and not containers.damaged[out]:
+        containers.damaged[out] = [f"{tool} complains of {name}: {'; '.join(media.said.splitlines()[:3])}"]
+    for text in containers.damaged[out]:
+        say(f"{text}. `wokureti repair` searches a damaged file for all its packets")
     return out
+
+
+def damage_of(path, name, kind):
+    """Sentences about the damage of a WebM or Matroska file: the programs that read one go on after it, or end, and do not always say so."""
+    if kind != "WebM or Matroska":
+        return []
+    with open(path, "rb") as file, mmap.mmap(file.fileno(), 0, access=mmap.ACCESS_READ) as data:
+        found, size = blocks.damage(data), len(data)
+    if found is None:
+        return []
+    if found.is_cut:
+        return [f"{name} ends in the middle, after {size:,} bytes: the packets that followed are missing"]
+    return [f"{name} is damaged at byte {found.place:,}: packets may be missing"]
 
 
 def sound_text(media):

@@ -67,7 +67,8 @@ def of_packets(packets, head, media):
     durations = times.durations(stamps, tags, times.median_step(stamps, tags))
     shown = [bool(one & ivf.SHOWN) for one in tags]
     spans = [sounds.Span(media, times.nano(stamp, head), times.nano(stamp + duration, head) - times.nano(stamp, head)) for stamp, duration, is_shown in zip(stamps, durations, shown) if is_shown]
-    restamped, _ = times.stamps_of(zip(shown, durations))
+    base = times.base_of(head)
+    restamped, _ = times.stamps_of(((is_shown, duration, base) for is_shown, duration in zip(shown, durations)), base)
     return spans, [(stamp, data) for stamp, (_, data) in zip(restamped, packets)]
 
 

@@ -7,7 +7,7 @@ import subprocess
 import tempfile
 from typing import NamedTuple
 
-from . import excerpts, files, ivf, muxing, programs, rooms, times
+from . import excerpts, files, ivf, muxing, opus, programs, rooms, times
 from ..session import checks
 from ..session.errors import Ended, Unexported
 from ..session.origins import joined, runs_of
@@ -17,7 +17,12 @@ MOST_PARTS, MOST_STREAMS = 8, 8
 MOST_TIME = 3600
 # What the program says if it does not export the frames.
 UNEXPORTED = re.compile(r"frame \d+ is |too many packets|no packet repeats")
+# Programs that write a container put the picture so much later than the sound, for what a decoder of Opus drops: that is no delay.
+MOST_SHIFT = 10**7
 CLOCK = re.compile(r"(?:(?:(\d+):)?(\d+):)?(\d+(?:\.\d*)?)")
+# A number with a unit, as ffmpeg takes it.
+UNITS = {"s": times.NANO, "ms": 10**6, "us": 10**3}
+WITH_UNIT = re.compile(r"(\d+(?:\.\d*)?)(s|ms|us)")
 
 
 class Failed(ValueError):
@@ -85,19 +90,43 @@ class Frames:
     def place(self, text, is_end):
         """The frame of source 0 that a number or a time names: that which is shown then, or for an end the first one that begins then or later."""
         frames = self.shown[0]
-        if re.fullmatch("[0-9]+", text):
-            return min(int(text), len(frames))
-        found = CLOCK.fullmatch(text)
-        if found is None:
-            raise Failed(f"{text!r} is no frame and no time, such as 83, 0:03.3 or 1:02:03.456")
-        hours, minutes, seconds = (float(part or 0) for part in found.groups())
-        wanted, clock, head = round((3600 * hours + 60 * minutes + seconds) * times.NANO), 0, self.contents.inputs.all[0].head
+        if re.fullmatch("f[0-9]+", text):
+            return min(int(text[1:]), len(frames))
+        wanted, clock, head = nanoseconds(text) - self.delay(), 0, self.contents.inputs.all[0].head
         for place, (_, duration, _) in enumerate(frames):
             after = clock + duration
             if times.nano(clock, head) >= wanted if is_end else times.nano(after, head) > wanted:
                 return place
             clock = after
         return len(frames)
+
+    def delay(self):
+        """The nanoseconds after the beginning of the file of source 0, which a player counts from, at which its first frame is shown: sound may begin before it."""
+        item = self.contents.inputs.all[0]
+        if item.media is None or not self.shown[0]:
+            return 0
+        first = times.nano(self.contents.stamp(self.shown[0][0][0]), item.head)
+        begins = [sound.times[0] + opus.pre_skip(sound.private) for sound in item.media.sounds if len(sound.times)]
+        delay = first - min([first, *begins])
+        return delay if delay > MOST_SHIFT else 0
+
+
+def nanoseconds(text):
+    """A time as ffmpeg takes it: seconds, with a unit, or hours, minutes and seconds."""
+    found = WITH_UNIT.fullmatch(text)
+    if found:
+        return round(float(found.group(1)) * UNITS[found.group(2)])
+    found = CLOCK.fullmatch(text)
+    if found is None:
+        raise Failed(f"{text!r} is no time and no frame: a time is 3.3, 0:03.3, 1:02:03.456 or 200ms, and frame 83 is f83")
+    hours, minutes, seconds = (float(part or 0) for part in found.groups())
+    return round((3600 * hours + 60 * minutes + seconds) * times.NANO)
+
+
+def seconds_text(words):
+    """A sentence if one of these places was a number of a frame in earlier versions, else None."""
+    number = next((word for word in words if word is not None and re.fullmatch("[0-9]*[1-9][0-9]*", word)), None)
+    return number and f"{number} is a time in seconds, as in ffmpeg; frame {number} is f{number}"
 
 
 def cut_script(frames, parts):
@@ -117,8 +146,6 @@ def cut_script(frames, parts):
 
 def join_script(count):
     """The script of so many sources, one after the other."""
-    if count > MOST_STREAMS:
-        raise Failed(f"at most {MOST_STREAMS} streams are joined at a time: join these first, and then what comes of it with the others")
     if count == 1:
         return "-"
     return spliced([f"source {source}" for source in range(1, count)], list(range(count)))

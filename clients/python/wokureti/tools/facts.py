@@ -7,7 +7,8 @@ import tempfile
 from . import ivf, programs, rooms
 from ..session.errors import Ended
 
-MOST_TIME = 300
+# Seconds that a run may take, and bytes of the file for each of which it may take one more.
+MOST_TIME, A_SECOND = 300, 1 << 18
 KEY, SHOWN, REFUSED = ivf.KEY, ivf.SHOWN, 4
 # Causes that are those of the packets before.
 OF_OTHERS = ("NoKeyFrame", "lost")
@@ -17,14 +18,16 @@ def run(lister, path, *options, pass_fds=(), statuses=(0,)):
     """The lines that vp8list prints of a file, one after the other."""
     with tempfile.TemporaryFile() as out:
         words = [lister, path, *options]
+        # A long stream takes long.
+        most = MOST_TIME + (os.path.getsize(path) // A_SECOND if os.path.isfile(path) else 0)
         try:
             done = subprocess.run(
-                words, stdout=out, stderr=subprocess.PIPE, timeout=MOST_TIME, stdin=subprocess.DEVNULL, check=False, pass_fds=pass_fds
+                words, stdout=out, stderr=subprocess.PIPE, timeout=most, stdin=subprocess.DEVNULL, check=False, pass_fds=pass_fds
             )
         except FileNotFoundError:
             raise programs.missing(lister) from None
         except subprocess.TimeoutExpired:
-            raise Ended(None, f"{lister} took longer than {MOST_TIME} seconds") from None
+            raise Ended(None, f"{lister} took longer than {most} seconds") from None
         if done.returncode not in statuses:
             raise Ended(done.returncode, done.stderr.decode(errors="replace").strip())
         out.seek(0)

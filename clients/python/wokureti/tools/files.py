@@ -1,9 +1,14 @@
 """Files that are written whole or not at all."""
 
 import contextlib
+import errno
 import os
 import stat
 import tempfile
+
+
+# What a write that finds no room fails with.
+FULL = (errno.ENOSPC, errno.EDQUOT, errno.EFBIG)
 
 
 def write_whole(path, pieces):
@@ -26,9 +31,27 @@ def whole(path):
     except FileNotFoundError:
         mode = None
     if mode is not None and not stat.S_ISREG(mode):
-        with open(real, "wb") as file:
+        with named(path), open(real, "wb") as file:
             yield file
         return
+    with named(path), replaced(real, mode) as file:
+        yield file
+
+
+@contextlib.contextmanager
+def named(path):
+    """A write that finds no room fails with an error that names the file."""
+    try:
+        yield
+    except OSError as error:
+        if error.errno in FULL and error.filename is None:
+            raise type(error)(error.errno, os.strerror(error.errno), os.fspath(path)) from None
+        raise
+
+
+@contextlib.contextmanager
+def replaced(real, mode):
+    """A file that takes the place of another one."""
     folder, name = os.path.split(real)
     descriptor, temporary = tempfile.mkstemp(prefix=f".{name[:100]}.", suffix=".part", dir=folder)
     try:

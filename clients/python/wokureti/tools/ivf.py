@@ -115,6 +115,17 @@ def read_index(descriptor):
     return head, index
 
 
+def left_after(descriptor, index):
+    """The number of bytes after the last whole record of a file."""
+    end = index.starts[-1] + index.sizes[-1] if len(index) else parse_head(os.pread(descriptor, HEAD.size, 0))[1]
+    return max(0, os.fstat(descriptor).st_size - end)
+
+
+def damage_text(name, index, left):
+    """Sentences about a file that has so many bytes after its last whole record."""
+    return [f"{name} ends in the middle of packet {len(index)}: {left:,} bytes of its record are there"] if left else []
+
+
 def read_packets(path):
     """The head of a file, and its packets as pairs of a time stamp and bytes."""
     with open(path, "rb") as file:

@@ -7,6 +7,7 @@ import re
 import shlex
 import shutil
 import subprocess
+import tempfile
 import time
 
 from . import parts
@@ -34,7 +35,7 @@ def ssh_words():
 
 def why_not(login, program):
     """Why a machine cannot decode, as a sentence, or None. It is asked by one ssh."""
-    host = login.rsplit("/", 1)[-1] if re.fullmatch(r"[0-9]+%?/.*", login) else login
+    host = host_of(login)
     if host == ":" or " " in host or host.startswith("@"):
         # This machine, or what only parallel understands.
         return None
@@ -90,11 +91,11 @@ class Machines:
         text = " ".join(word if "{}" in word else shlex.quote(word) for word in words)
         return f"[ -e {{}}.list ] || cd {shlex.quote(self.room.folder)} && {text} > {{}}.replies"
 
-    def words(self):
-        """The command line of parallel."""
+    def words(self, log, logins):
+        """The command line of parallel, for a log and machines."""
         there = f"/tmp/{os.path.basename(self.room.folder)}-there"
-        words = ["parallel", "--will-cite", "--retries", str(len(self.logins) + 2), "--joblog", self.log, "--workdir", there]
-        for login in self.logins:
+        words = ["parallel", "--will-cite", "--retries", str(len(logins) + 2), "--joblog", log, "--workdir", there]
+        for login in logins:
             words += ["--sshlogin", login]
         for kind in ["list"] if self.room.sources else ["ivf", "list"]:
             words += ["--transferfile", f"{{}}.{kind}"]
@@ -106,47 +107,79 @@ class Machines:
         """The numbers of the parts, each when its frames are here, in order."""
         for number, part in enumerate(self.plan):
             self.room.write(number, part)
-        numbers = "".join(f"{number}\n" for number in range(len(self.plan)))
+        with self.running(range(len(self.plan)), self.log, self.logins) as (process, errors):
+            for number in range(len(self.plan)):
+                lost = self.wait(number, process, errors)
+                if lost is not None:
+                    self.decode_again(number, lost)
+                yield number
+
+    @contextlib.contextmanager
+    def running(self, numbers, log, logins):
+        """parallel with these parts on these machines, and what it complains of."""
         env = dict(os.environ, PARALLEL_SSH=os.environ.get("PARALLEL_SSH") or " ".join(("ssh", *ALIVE)), LC_ALL="C", TMPDIR=self.room.folder)
-        with open(os.path.join(self.room.folder, "errors"), "w+b") as errors:
-            process = subprocess.Popen(
-                self.words(), cwd=self.room.folder, stdin=subprocess.PIPE, stdout=subprocess.DEVNULL, stderr=errors, env=env
-            )
+        with tempfile.TemporaryFile() as errors:
+            words = self.words(log, logins)
+            process = subprocess.Popen(words, cwd=self.room.folder, stdin=subprocess.PIPE, stdout=subprocess.DEVNULL, stderr=errors, env=env)
             try:
                 with contextlib.suppress(BrokenPipeError):
-                    process.stdin.write(numbers.encode())
+                    process.stdin.write("".join(f"{number}\n" for number in numbers).encode())
                     process.stdin.close()
-                for number in range(len(self.plan)):
-                    self.wait(number, process, errors)
-                    yield number
+                yield process, errors
             finally:
                 end(process)
 
-    def wait(self, number, process, errors):
-        """Waits until a part is here."""
+    def wait(self, number, process, errors, log=None, place=None):
+        """Waits until a part is here, and returns None; or the machine whose part did not come back, although parallel's log says that all went well."""
         while True:
             ended = process.poll() is not None
-            status = self.statuses().get(number)
+            status, host = self.statuses(log or self.log).get(number if place is None else place, (None, None))
             if status == 0:
-                return
+                return None if self.is_here(number) else host
             if ended:
                 errors.seek(0)
                 said = errors.read().decode(errors="replace").strip()
                 raise Failed(f"part {number} was not decoded on any machine: {said or f'status {status}'}")
             time.sleep(0.02)
 
-    def statuses(self):
-        """The last exit status of each part that parallel has in its log: those of the program, or of ssh."""
+    def is_here(self, number):
+        """Whether the files of a part came back: what parallel says of it is the status of the program there."""
+        return all(os.path.exists(self.room.path(number, kind)) for kind in ("y4m", "replies"))
+
+    def decode_again(self, number, host):
+        """Decodes a part on a machine other than those that lost it, as long as there is one."""
+        lost = {host}
+        for turn in range(len(self.logins)):
+            logins = [login for login in self.logins if host_of(login) not in lost]
+            if not logins:
+                break
+            say(f"part {number} did not come back from {host}: it is decoded again")
+            log = f"{self.log}.{number}.{turn}"
+            with self.running([number], log, logins) as (process, errors):
+                host = self.wait(number, process, errors, log, 0)
+            if host is None:
+                return
+            lost.add(host)
+        raise Failed(f"part {number} did not come back from {', '.join(sorted(lost))}")
+
+    @staticmethod
+    def statuses(log):
+        """For each line of parallel's input the last exit status that its log has, that of the program or of ssh, and the machine."""
         found = {}
         try:
-            with open(self.log, encoding="utf-8", errors="replace") as file:
+            with open(log, encoding="utf-8", errors="replace") as file:
                 lines = file.read().split("\n")[1:-1]
         except FileNotFoundError:
             return found
         for line in lines:
             columns = line.split("\t")
-            found[int(columns[0]) - 1] = int(columns[6]) or int(columns[7])
+            found[int(columns[0]) - 1] = (int(columns[6]) or int(columns[7]), columns[1])
         return found
+
+
+def host_of(login):
+    """What parallel's log calls a machine: without the number of processes."""
+    return login.rsplit("/", 1)[-1] if re.fullmatch(r"[0-9]+%?/.*", login) else login
 
 
 def end(process):

@@ -37,14 +37,14 @@ def constant(starts, rate):
 
 
 def warn(contents, is_constant, say):
-    """Says by how much the frames of a YUV4MPEG2 file are away from their times, if that is a frame or more and there is sound; or that they are repeated."""
-    if not is_constant and not any(item.media is not None and item.media.sounds for item in contents.inputs.all):
-        return
+    """Says by how much the frames of a YUV4MPEG2 file are away from their times, if that is a frame or more; or that they are repeated."""
     starts = begins(contents)
     away = drift(starts, contents.rate)
     if away < step_of(contents.rate):
         return
+    has_sound = any(item.media is not None and item.media.sounds for item in contents.inputs.all)
     if is_constant:
         say(f"the rate of the frames varies: of {len(starts) - 1:,} frames {len(constant(starts, contents.rate)):,} are made, each at the nearest time")
     else:
-        say(f"the rate of the frames varies, and a YUV4MPEG2 file has one rate: picture and sound part by up to {away // 10**6} ms. --constant repeats or leaves out frames instead")
+        what = "picture and sound part" if has_sound else "frames are away from their times"
+        say(f"the rate of the frames varies, and a YUV4MPEG2 file has one rate: {what} by up to {away // 10**6:,} ms. --constant repeats or leaves out frames instead")

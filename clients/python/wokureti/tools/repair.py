@@ -63,6 +63,8 @@ class Repair:
         self.in_file = (None, None)
         # Packets, and what vp8list says of them.
         self.outlined, self.checked = (None, []), (None, [])
+        # Whether a part of a long stream had damage.
+        self.was_damaged = False
         # Called with what is done next.
         self.stage = lambda text: None
 
@@ -148,9 +150,11 @@ class Repair:
             what = f"checking {len(self.packets):,} packets"
             self.stage(what)
             parts = self.parts()
-            if len(parts) > 1 and not self.is_damaged(parts, what):
+            # Once damage was seen, the whole is checked at once: most of it stays, and the parts would be checked for nothing.
+            if len(parts) > 1 and not self.was_damaged and not self.is_damaged(parts, what):
                 self.checked = (self.packets, [])
                 return []
+            self.was_damaged = True
             lines = self.lister_run(*self.check_words(), statuses=(0, 1))
             self.checked = (self.packets, list(map(json.loads, lines)))
         return self.checked[1]
@@ -213,7 +217,9 @@ class Repair:
             self.head = ivf.Head(*(self.first_size() or (0, 0)), 30, 1)
         for gap in gaps:
             where = f"after packet {gap.after - 1}" if gap.after else "before the first packet"
-            if gap.end == length:
+            if gap.start == length:
+                self.say(f"byte {length}: the file ends before its end: what followed is lost")
+            elif gap.end == length:
                 self.say(f"byte {gap.start}: the last {gap.end - gap.start} bytes lead to no {what}: dropped")
             else:
                 self.say(f"byte {gap.start}: {gap.end - gap.start} bytes {where} lead to no {what}: read on at byte {gap.end}")

@@ -1,4 +1,4 @@
-"""Temporary folders of a run. If the program is killed, the next one removes its folder."""
+"""Temporary folders of a run. If the program is killed, the next one removes its folder, if it is certain that the program is gone."""
 
 import contextlib
 import fcntl
@@ -8,17 +8,21 @@ import tempfile
 
 PREFIX = "wokureti-"
 LOCK = ".lock"
+# Bytes of what is in it, at most.
+MOST_OWNER = 1000
 
 
 class Room(tempfile.TemporaryDirectory):
-    """A temporary folder that is locked as long as its program runs."""
+    """A temporary folder that is locked as long as its program runs, and that says which program that is: where nothing can be locked, that must do."""
 
     def __init__(self, folder=None):
         super().__init__(prefix=PREFIX, dir=folder)
         # The file gets its name when it is locked: else another program could take the lock, and the folder, before.
         new = os.path.join(self.name, f"{LOCK}.new")
         self.lock = os.open(new, os.O_RDWR | os.O_CREAT | os.O_CLOEXEC, 0o600)
-        fcntl.flock(self.lock, fcntl.LOCK_EX | fcntl.LOCK_NB)
+        os.write(self.lock, owner(os.getpid()).encode())
+        with contextlib.suppress(OSError):
+            fcntl.flock(self.lock, fcntl.LOCK_EX | fcntl.LOCK_NB)
         os.rename(new, os.path.join(self.name, LOCK))
 
     def cleanup(self):
@@ -28,8 +32,36 @@ class Room(tempfile.TemporaryDirectory):
             self.lock = None
 
 
+def owner(pid):
+    """A text that names a process, and no other one: on this machine, since it was started, among the processes that this one sees."""
+    return "\n".join([*here(), str(pid), started(pid), ""])
+
+
+def here():
+    """The start of this machine, and the processes that this one sees."""
+    with open("/proc/sys/kernel/random/boot_id", encoding="ascii") as file:
+        return file.read().strip(), os.readlink("/proc/self/ns/pid")
+
+
+def started(pid):
+    """When a process was started, as the system has it; an empty text if it is gone."""
+    try:
+        with open(f"/proc/{pid}/stat", encoding="ascii", errors="replace") as file:
+            return file.read().rpartition(")")[2].split()[19]
+    except (OSError, IndexError):
+        return ""
+
+
+def is_gone(text):
+    """Whether the process that a text names is certainly gone. One of another machine, or among other processes, is not."""
+    parts = text.split("\n")
+    if len(parts) != 5 or not parts[2].isdecimal() or not parts[3] or tuple(parts[:2]) != here():
+        return False
+    return started(parts[2]) != parts[3]
+
+
 def sweep():
-    """Removes the folders of programs that are gone: those of this user whose lock nobody has."""
+    """Removes the folders of programs that are gone: those of this user whose lock nobody has, and whose process is no more."""
     with contextlib.suppress(OSError), os.scandir(tempfile.gettempdir()) as entries:
         for entry in entries:
             if entry.name.startswith(PREFIX) and entry.is_dir(follow_symlinks=False):
@@ -42,7 +74,15 @@ def sweep_one(path):
         return
     descriptor = os.open(os.path.join(path, LOCK), os.O_RDWR | os.O_NOFOLLOW | os.O_CLOEXEC)
     try:
-        fcntl.flock(descriptor, fcntl.LOCK_EX | fcntl.LOCK_NB)
+        if not is_gone(os.read(descriptor, MOST_OWNER).decode("ascii", "replace")):
+            return
+        # Where locks work, a child of that process may have it. Where they do not, that process is gone all the same.
+        try:
+            fcntl.flock(descriptor, fcntl.LOCK_EX | fcntl.LOCK_NB)
+        except BlockingIOError:
+            return
+        except OSError:
+            pass
         shutil.rmtree(path, ignore_errors=True)
     finally:
         os.close(descriptor)

@@ -3,11 +3,13 @@ ghost use Rattle.std.specs.Prelude.{◌≡◌, ◌≤◌, [], Err, None, IfErr, 
 ghost use Rattle.lossless_cuts.specs.Laws.{ExportsShowTheirFrames};
 ghost use Rattle.lossless_cuts.specs.Limits.{IsTooLarge};
 ghost use Rattle.lossless_cuts.specs.Plans.{exported};
-ghost use Rattle.frame_session.specs.Exported.{HasTarget, HaveTargets, IsChanged, IsExportFile, IsFrameFault, IsNotExported, IsPackingFault, export_head, streams_in, units_at, unsized};
+ghost use Rattle.frame_session.specs.Exported.{HasTarget, HaveTargets, IsChanged, IsExportFile, IsFrameFault, IsNotExported, IsPackingFault, export_head, streams_in, duration_at, unsized};
 ghost use Rattle.frame_session.specs.IsOrNoMemory.{IsOrNoMemory};
 ghost use Rattle.frame_session.specs.Sessions.{frame_count, frame_of};
-ghost use Rattle.packet_times.specs.Durations.{units_in};
+ghost use Rattle.packet_times.specs.Durations.{one_frame};
+ghost use Rattle.packet_times.specs.Heads.{IsHeadFor};
 ghost use Rattle.packet_times.specs.Stamps.{stamped};
+ghost use Rattle.packet_times.specs.Sums.{bases_of, stamps_of};
 ghost use Rattle.std.specs.Option.{option_map_or};
 
 use super::Session;
@@ -16,10 +18,10 @@ use crate::refusal::Refusal;
 use lossless_cuts::laws::exports_show_their_frames;
 use lossless_cuts::{CutFault, Target, export_packets, prove_bytes};
 use packet_edits::Store;
-use packet_times::stamped;
+use packet_times::{Duration, head_for, stamped, stamps_of};
 use pixel_planes::NoMemory;
 use script_nodes::changed_nodes;
-use stream_files::{Bytes, Head, MAX_PACKETS, Packets};
+use stream_files::{Bytes, Head, MAX_PACKETS};
 use thiserror::Error;
 
 /// Why the frames of a session are not exported.
@@ -43,14 +45,18 @@ struct Origin {
     changed: Option<u64>,
 }
 
-/// How long the packet at an index is shown, in the units of a head; 0 if there is no such packet.
-fn units_of_packet(list: &Store, place: usize, head: Head) -> u64
-    ensures { result ≡ option_map_or (λ entry. units_in head entry.duration) (slice_get list.now.list.entries place) 0 }
+/// How long the packet at an index is shown; one frame of 30 a second if there is no such packet.
+fn duration_of_packet(list: &Store, place: usize) -> Duration
+    ensures { result ≡ option_map_or (λ entry. entry.duration) (slice_get list.now.list.entries place) one_frame }
 {
     if place < list.len() {
-        list.duration(place).units_in(head)
+        list.duration(place)
     } else {
-        0
+        Duration {
+            units: 1,
+            rate: 30,
+            scale: 1,
+        }
     }
 }
 
@@ -171,29 +177,33 @@ impl Session {
         }
     }
 
-    /// How long the packet of a frame is shown, in the units of the head of source 0.
-    fn units_at(&self, target: Target) -> u64
-        ensures { result ≡ units_at self.now.state target }
+    /// How long the packet of a frame is shown.
+    fn duration_at(&self, target: Target) -> Duration
+        ensures { result ≡ duration_at self.now.state target }
     {
         if target.source < self.stores.len() {
-            units_of_packet(&self.stores[target.source], target.place, self.head)
+            duration_of_packet(&self.stores[target.source], target.place)
         } else {
-            0
+            Duration {
+                units: 1,
+                rate: 30,
+                scale: 1,
+            }
         }
     }
 
     /// How long the packets of frames are shown.
-    fn units_of(&self, targets: &[Target]) -> Result<Vec<u64>, NoMemory>
-        ensures { IfOk result (λ units. units.items ≡ map (units_at self.now.state) targets.now) }
+    fn durations_of(&self, targets: &[Target]) -> Result<Vec<Duration>, NoMemory>
+        ensures { IfOk result (λ durations. durations.items ≡ map (duration_at self.now.state) targets.now) }
     {
-        let mut units = Vec::with_capacity(self.alloc, targets.len())?;
+        let mut durations = Vec::with_capacity(self.alloc, targets.len())?;
         for target in targets {
-            units.push(self.units_at(*target))?;
+            durations.push(self.duration_at(*target))?;
         }
-        Ok(units)
+        Ok(durations)
     }
 
-    /// The head of an export of these frames.
+    /// The head of an export of these frames, with the time base of source 0.
     fn export_head(&self, targets: &[Target]) -> Head
         ensures { result ≡ export_head self.now.state.head targets.now }
     {
@@ -209,15 +219,34 @@ impl Session {
         }
     }
 
-    /// The packets with the time stamps of these frames.
-    fn stamp_packets(&self, targets: &[Target], packets: Vec<Bytes>) -> Result<Packets, ExportFault>
-        ensures file { IfOk result (λ file. file ≡ stamped 0 (map (units_at self.now.state) targets.now) packets.items) }
+    /// The file of packets that show frames with these durations: its head, and the time stamps of the packets.
+    fn file_of(
+        &self,
+        head: Head,
+        durations: &[Duration],
+        packets: Vec<Bytes>,
+    ) -> Result<Export, NoMemory>
+        requires few { length packets.items ≤ 1048576 }
+        ensures head { IfOk result (λ file. IsHeadFor head (bases_of durations.now) file.head) }
+        ensures packets { IfOk result (λ file. file.packets ≡ stamped (stamps_of file.head durations.now) packets.items) }
+    {
+        let head = head_for(self.alloc, head, durations)?;
+        let stamps = stamps_of(self.alloc, head, durations)?;
+        let packets = stamped(self.alloc, packets, &stamps)?;
+        Ok(Export { head, packets })
+    }
+
+    /// The file of the packets that show these frames.
+    fn stamp_packets(&self, targets: &[Target], packets: Vec<Bytes>) -> Result<Export, ExportFault>
+        requires few { length packets.items ≤ 1048576 }
+        ensures head { IfOk result (λ file. IsHeadFor (export_head self.now.state.head targets.now) (bases_of (map (duration_at self.now.state) targets.now)) file.head) }
+        ensures packets { IfOk result (λ file. file.packets ≡ stamped (stamps_of file.head (map (duration_at self.now.state) targets.now)) packets.items) }
         ensures fault { IfErr result (λ fault. fault ≡ ExportFault.Packets CutFault.NoMemory) }
     {
-        let Ok(units) = self.units_of(targets) else {
+        let Ok(durations) = self.durations_of(targets) else {
             return Err(ExportFault::Packets(CutFault::NoMemory));
         };
-        match stamped(self.alloc, packets, &units) {
+        match self.file_of(self.export_head(targets), &durations, packets) {
             Ok(file) => Ok(file),
             Err(_) => Err(ExportFault::Packets(CutFault::NoMemory)),
         }
@@ -240,7 +269,9 @@ impl Session {
     /// Packets that show the frames of the current script over the current packets, without coding: copies of
     /// packets of the sources, in which nothing but the show bit changes, and hold packets. Decoding them refuses
     /// none, and their shown frames are exactly the frames of the session, whatever size was served before. The first
-    /// frame has time stamp 0, and each other one that of the frame before it plus the duration of that frame's packet. A
+    /// frame has time stamp 0, and each other one the time after the frames before it, each as long as its packet is shown: the
+    /// units of their durations are summed for each time base, and each sum is rounded half up. The head has the time base of
+    /// source 0, or, if a duration is not a whole number of its units, the greatest unit of which all are, if it fits 32 bits. A
     /// hidden packet has the time stamp of the next frame.
     ///
     /// The first frame that cannot be exported is reported: as `Frame` if a request for it would be refused, not for its size, or as
@@ -261,8 +292,7 @@ impl Session {
         }
         let targets = self.export_targets(count)?;
         let bytes = self.export_packed(&targets)?;
-        let packets = self.stamp_packets(&targets, bytes)?;
-        let head = self.export_head(&targets);
-        Ok(Export { head, packets })
+        let file = self.stamp_packets(&targets, bytes)?;
+        Ok(file)
     }
 }

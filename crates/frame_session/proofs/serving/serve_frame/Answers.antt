@@ -29,7 +29,7 @@ returns-in-Ok-clause-serves g c =
     let f' = g.F.Write.contents c.write_answer.new.frames in
     let r = g.P.Write.contents c.args.replies.now in
     let r' = g.P.Write.contents c.write_answer.new.replies in
-    frame_and_reply old f f' r r' c.args.n c.in-Ok.picture c.frame.new.self.state c.head_due-head_due.result c.write_answer.result c.head_due-head_due.ensures c.in-Ok.ensures.returned c.in-Ok.ensures.after c.write_answer.ensures.frame c.write_answer.ensures.reply
+    frame_and_reply old f f' r r' c.args.n c.in-Ok.picture c.frame.new.self.state c.rate_due-rate_due.result c.write_answer.result c.rate_due-rate_due.ensures c.in-Ok.ensures.returned c.in-Ok.ensures.after c.write_answer.ensures.frame c.write_answer.ensures.reply
 
 pub returns-in-Ok-clause-frame_first : goal.returns-in-Ok-clause-frame_first
 returns-in-Ok-clause-frame_first g c =
@@ -38,7 +38,7 @@ returns-in-Ok-clause-frame_first g c =
     let f' = g.F.Write.contents c.write_answer.new.frames in
     let r = g.P.Write.contents c.args.replies.now in
     let r' = g.P.Write.contents c.write_answer.new.replies in
-    frame_or_no_reply old f f' r r' c.args.n c.in-Ok.picture c.frame.new.self.state c.head_due-head_due.result c.head_due-head_due.ensures c.in-Ok.ensures.returned c.in-Ok.ensures.after c.write_answer.ensures.frame_first
+    frame_or_no_reply old f f' r r' c.args.n c.in-Ok.picture c.frame.new.self.state c.rate_due-rate_due.result c.rate_due-rate_due.ensures c.in-Ok.ensures.returned c.in-Ok.ensures.after c.write_answer.ensures.frame_first
 
 pub returns-in-Err-clause-costs : goal.returns-in-Err-clause-costs
 returns-in-Err-clause-costs g c =
@@ -53,4 +53,4 @@ returns-in-Ok-clause-costs g c =
     let f' = g.F.Write.contents c.write_answer.new.frames in
     let r = g.P.Write.contents c.args.replies.now in
     let r' = g.P.Write.contents c.write_answer.new.replies in
-    frame_at_cost c.write_answer.result c.args.session.now f f' r r' c.args.n c.in-Ok.picture c.frame.new.self c.head_due-head_due.result c.head_due-head_due.ensures c.in-Ok.ensures.returned c.in-Ok.ensures.after c.in-Ok.ensures.costs c.write_answer.ensures.frame c.write_answer.ensures.reply c.write_answer.ensures.none
+    frame_at_cost c.write_answer.result c.args.session.now f f' r r' c.args.n c.in-Ok.picture c.frame.new.self c.rate_due-rate_due.result c.rate_due-rate_due.ensures c.in-Ok.ensures.returned c.in-Ok.ensures.after c.in-Ok.ensures.costs c.write_answer.ensures.frame c.write_answer.ensures.reply c.write_answer.ensures.none

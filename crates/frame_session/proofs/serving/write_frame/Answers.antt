@@ -11,7 +11,7 @@ returns g c =
     let f = g.F.Write.contents c.args.frames.now in
     let mid = g.F.Write.contents c.write_opening.new.frames in
     let f' = g.F.Write.contents c.y4m_frame.new.w in
-    let line : List ℕ = opening c.args.head_due c.args.picture.now.width c.args.picture.now.height in
+    let line : List ℕ = opening c.args.rate_due c.args.picture.now.width c.args.picture.now.height in
     let text : List ℕ = frame_text c.args.picture.now in
     let both : Appends mid f' text → Appends f f' (line ++ text) = Appends-trans f mid f' line text c.in_ok-write_opening.ensures in
     on_ok_weaker c.y4m_frame.result both c.y4m_frame.ensures

@@ -2,7 +2,7 @@ use Rattle.std.proofs.Common.{◌≡◌, ◌+◌, List, ℕ, ◌∷◌, ◌++◌
 use Rattle.std.proofs.KnownBytes.{Appends-trans}
 use Rattle.std.proofs.lemmas.List.{drop_more}
 use Rattle.std.specs.Fmt.{decimal}
-use Rattle.frame_header.specs.declared.places.Place.{Place}
+use Rattle.frame_header.specs.declared.places.PartitionRange.{PartitionRange}
 use Rattle.macroblock_lists.specs.Parts.{after_comma}
 use Rattle.macroblock_lists.proofs.Loops.{written_next}
 use Rattle.macroblock_lists.proofs.texts.write_more_lengths.Goals as goal
@@ -10,9 +10,9 @@ use Rattle.macroblock_lists.proofs.texts.write_more_lengths.Goals as goal
 pub loop-partition-preserved : goal.loop-partition-preserved
 loop-partition-preserved g c =
     let done = c.loop-partition.invariant.done in
-    let none : Place = record { start = 0; length = 0 } in
-    let x : Place = get_or c.args.partitions.now c.loop-partition.partition-index none in
-    let text : Place → List ℕ = after_comma (λ (partition : Place). decimal partition.length) in
+    let none : PartitionRange = record { start = 0; length = 0 } in
+    let x : PartitionRange = get_or c.args.partitions.now c.loop-partition.partition-index none in
+    let text : PartitionRange → List ℕ = after_comma (λ (partition : PartitionRange). decimal partition.length) in
     let at : drop c.loop-partition.partition-index c.args.partitions.now ≡ x ∷ drop (c.loop-partition.partition-index + 1) c.args.partitions.now =
     drop_more c.args.partitions.now c.loop-partition.partition-index none c.loop-partition-test.true in
     record {

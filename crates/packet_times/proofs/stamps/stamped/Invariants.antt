@@ -4,4 +4,4 @@ use Rattle.packet_times.specs.Stamps.{stamped}
 use Rattle.packet_times.proofs.stamps.stamped.Given as goal
 
 abbrev pub invariant-loop-bytes : goal.invariant-loop-bytes
-invariant-loop-bytes l = l.out.items ++ stamped l.stamp l.left (into_iter_items l.bytes-iterator) ≡ stamped 0 l.fn.units l.fn.packets.items
+invariant-loop-bytes l = l.out.items ++ stamped l.left (into_iter_items l.bytes-iterator) ≡ stamped l.fn.stamps l.fn.packets.items

@@ -1,5 +1,5 @@
 use Rattle.std.proofs.Common.{◌∙◌, ap}
-use Rattle.stream_files.specs.declared.ivf.Ivf.{Ivf}
+use Rattle.stream_files.specs.declared.streams.Stream.{Stream}
 use Rattle.stream_files.proofs.OneAnswer.{file_refused, one_file}
 use Rattle.stream_facts.specs.Facts.{first_key_size}
 use Rattle.serve_arguments.proofs.states.key_size_in.Goals as goal
@@ -7,7 +7,7 @@ use Rattle.serve_arguments.proofs.states.key_size_in.Goals as goal
 pub returns-in-Ok-clause-size : goal.returns-in-Ok-clause-size
 returns-in-Ok-clause-size g c = λ file is.
     let same = one_file _ c.in-Ok.file file c.in-Ok.ensures is in
-    c.first_key_size.ensures ∙ ap first_key_size c.as_slice.ensures ∙ ap (λ (f : Ivf). first_key_size f.packets) same
+    c.first_key_size.ensures ∙ ap first_key_size c.as_slice.ensures ∙ ap (λ (f : Stream). first_key_size f.packets) same
 
 -- bytes that are refused otherwise than out of memory are not a file
 pub returns-in_default-clause-size : goal.returns-in_default-clause-size

@@ -3,7 +3,7 @@ use Rattle.std.specs.Io.KnownBytes.{Appends}
 use Rattle.stream_files.specs.declared.packets.Packet.{Packet}
 use Rattle.stream_checks.specs.declared.checker.Checker.{Checker}
 use Rattle.stream_checks.specs.declared.finding.Tally.{Tally}
-use Rattle.stream_checks.specs.declared.packets.Position.{Position}
+use Rattle.stream_checks.specs.declared.packets.PacketsBefore.{PacketsBefore}
 use Rattle.stream_checks.specs.Checks.{IsPacketEnd, findings_after}
 use Rattle.stream_checks.specs.Lines.{frames_of}
 use Rattle.stream_checks.specs.Packets.{first_position, packet_findings}
@@ -21,9 +21,9 @@ returns-in-Err-clause-early g c =
     let file = c.args.file.now in
     let packets : List Packet = c.as_slice-packets.result.now in
     let same : packets ≡ file.packets = c.as_slice-packets.ensures in
-    let at_first : Pace → Position → Checker = λ pace position. record { form = form; pace = pace; position = position; reader = Ok None } in
+    let at_first : Pace → PacketsBefore → Checker = λ pace position. record { form = form; pace = pace; position = position; reader = Ok None } in
     let first : c.new-checker.result ≡ at_first (pace_of packets) first_position =
-    c.new-checker.ensures ∙ ap (λ (position : Position). at_first c.in-Ok.pace position) c.first.ensures ∙ ap (λ (pace : Pace). at_first pace first_position) c.in-Ok.ensures.pace in
+    c.new-checker.ensures ∙ ap (λ (position : PacketsBefore). at_first c.in-Ok.pace position) c.first.ensures ∙ ap (λ (pace : Pace). at_first pace first_position) c.in-Ok.ensures.pace in
     let w1 = g.W.Write.contents c.write_head.new.w in
     let w2 = g.W.Write.contents c.write_packets.new.w in
     let by_checker : IsPacketEnd form (packet_findings tables packets) w1 w2 c.in-Err.fault =
@@ -39,9 +39,9 @@ returns-in-Ok-write_end-clause-checked g c =
     let file = c.args.file.now in
     let packets : List Packet = c.as_slice-packets.result.now in
     let same : packets ≡ file.packets = c.as_slice-packets.ensures in
-    let at_first : Pace → Position → Checker = λ pace position. record { form = form; pace = pace; position = position; reader = Ok None } in
+    let at_first : Pace → PacketsBefore → Checker = λ pace position. record { form = form; pace = pace; position = position; reader = Ok None } in
     let first : c.new-checker.result ≡ at_first (pace_of packets) first_position =
-    c.new-checker.ensures ∙ ap (λ (position : Position). at_first c.in-Ok.pace position) c.first.ensures ∙ ap (λ (pace : Pace). at_first pace first_position) c.in-Ok.ensures.pace in
+    c.new-checker.ensures ∙ ap (λ (position : PacketsBefore). at_first c.in-Ok.pace position) c.first.ensures ∙ ap (λ (pace : Pace). at_first pace first_position) c.in-Ok.ensures.pace in
     let made = c.in-Ok-write_packets.ensures in
     let w1 = g.W.Write.contents c.write_head.new.w in
     let w2 = g.W.Write.contents c.write_packets.new.w in

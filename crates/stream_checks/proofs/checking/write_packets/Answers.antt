@@ -9,7 +9,7 @@ use Rattle.stream_checks.specs.declared.checker.Checker.{Checker}
 use Rattle.stream_checks.specs.declared.finding.Finding.{Finding}
 use Rattle.stream_checks.specs.declared.finding.Tally.{Tally}
 use Rattle.stream_checks.specs.declared.packets.Ahead.{Ahead}
-use Rattle.stream_checks.specs.declared.packets.Position.{Position}
+use Rattle.stream_checks.specs.declared.packets.PacketsBefore.{PacketsBefore}
 use Rattle.stream_checks.specs.declared.stamps.Pace.{Pace}
 use Rattle.macroblock_lists.specs.declared.layouts.Form.{Form}
 use Rattle.stream_checks.specs.Checks.{findings_after, findings_next}
@@ -53,8 +53,8 @@ loop-packet-preserved g c =
     let at : c.loop-packet.rest.now ≡ packet ∷ following = c.in-Some.ensures.cases.0 ∙ ap (λ (p : Packet). p ∷ following) read in
     let shorter : length following + 1 ≡ length c.loop-packet.rest.now = c.in-Some.ensures.cases.1 in
     let made = c.in-Ok.ensures in
-    let next : after.position.packets ≡ before.position.packets + 1 = ap (λ (p : Position). p.packets) made.position in
-    let shown : after.position.frames ≡ before.position.frames + from_bool (is_shown packet.bytes) = ap (λ (p : Position). p.frames) made.position in
+    let next : after.position.packets ≡ before.position.packets + 1 = ap (λ (p : PacketsBefore). p.packets) made.position in
+    let shown : after.position.frames ≡ before.position.frames + from_bool (is_shown packet.bytes) = ap (λ (p : PacketsBefore). p.frames) made.position in
     let rest : frames_of c.loop-packet.rest.now ≡ from_bool (is_shown packet.bytes) + frames_of following = ap frames_of at ∙ frames-more packet following in
     let W : Form → Type 0 = λ form. Appends (g.W.Write.contents c.loop-packet.w) (g.W.Write.contents c.next.new.w) (texts_of form found) in
     let added : W c.args.checker.form = subst W met.form made.written in

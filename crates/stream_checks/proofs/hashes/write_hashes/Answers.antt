@@ -3,7 +3,7 @@ use Rattle.std.proofs.KnownBytes.{Appends-trans}
 use Rattle.std.proofs.lemmas.List.{drop_more, drop_all}
 use Rattle.std.specs.Io.KnownBytes.{Appends}
 use Rattle.stream_files.specs.declared.packets.Packet.{Packet}
-use Rattle.state_cache.specs.Decoding.{left_by, outcome}
+use Rattle.stream_steps.specs.Decoding.{left_by, outcome}
 use Rattle.stream_checks.specs.declared.hashes.HashFault.{HashFault}
 use Rattle.stream_checks.specs.declared.hashes.HashFault.TheVariants.{NoMemory, Write}
 use Rattle.stream_checks.specs.declared.time_bases.TimeBase.{TimeBase}

@@ -10,4 +10,4 @@ pub returns : goal.returns
 returns g c =
     let head = c.in_ok-head.ensures in
     let read = c.in-Ok.ensures in
-    reads_ivf _ _ _ _ _ _ _ c.whole-bytes.ensures (head.header, head.head, head.length) c.in-Some.ensures.some c.in-Some.ensures.few read.records read.over read.end
+    rw c.frame_rate.ensures (reads_ivf _ _ _ _ _ _ _ c.whole-bytes.ensures (head.header, head.head, head.length) c.in-Some.ensures.some c.in-Some.ensures.few read.records read.over read.end)

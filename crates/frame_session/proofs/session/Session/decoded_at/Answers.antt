@@ -2,7 +2,7 @@ use Rattle.std.proofs.Common.{List, slice_get, subst, sym}
 use Rattle.packet_edits.specs.Edits.{Listing}
 use Rattle.packet_edits.specs.Marks.{StoreValue}
 use Rattle.packet_edits.specs.Shown.{stream_of}
-use Rattle.state_cache.specs.Decoding.{outcomes}
+use Rattle.stream_steps.specs.Decoding.{outcomes}
 use Rattle.frame_session.specs.Cached.{SessionValue, lists_of, store_at}
 use Rattle.frame_session.specs.Edits.{list_at}
 use Rattle.frame_session.specs.IsOrNoMemory.{IsOrNoMemory}

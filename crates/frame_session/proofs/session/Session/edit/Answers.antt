@@ -8,7 +8,7 @@ use Rattle.frame_session.proofs.session.Session.edit.Goals as goal
 pub returns-clause-after : goal.returns-clause-after
 returns-clause-after c =
     let s = c.self.inside in
-    let old : SessionState = record { tables = s.tables; head = s.head; lists = lists_of s.stores.items; current = s.current; script = s.script; spare = s.spare; size = s.size; decoded = s.cache.decoded } in
+    let old : SessionState = record { tables = s.tables; head = s.head; frame_rate = s.frame_rate; lists = lists_of s.stores.items; current = s.current; script = s.script; spare = s.spare; size = s.size; decoded = s.cache.decoded } in
     let rest = drop (length c.edit_cached-edited.new.stores) s.stores.items in
     let made : List StoreValue = take s.stores.len (c.edit_cached-edited.new.stores ++ rest) in
     ap (λ (d : ℕ). record old { lists = lists_of made; decoded = d }) c.edit_cached-edited.ensures.steps

@@ -1,10 +1,13 @@
 use Rattle.std.proofs.Common.{◌≡◌, ℕ, List, None, length, map, refl, rules, arith, ap, subst, sym, ◌∙◌}
 use Rattle.lossless_cuts.specs.declared.targets.Target.{Target}
 use Rattle.lossless_cuts.specs.Plans.{exported}
+use Rattle.packet_times.specs.Heads.{IsHeadFor}
 use Rattle.packet_times.specs.Stamps.{stamped}
-use Rattle.frame_session.specs.Exported.{HaveTargets, export_head, streams_in, units_at}
+use Rattle.packet_times.specs.Sums.{bases_of, stamps_of}
+use Rattle.frame_session.specs.Exported.{HaveTargets, duration_at, export_head, streams_in}
 use Rattle.frame_session.specs.Sessions.{SessionState, frame_count}
-use Rattle.frame_session.proofs.ExportedFrames.{export_is, packing_fault, stamped_length}
+use Rattle.frame_session.specs.declared.export.Export.{Export}
+use Rattle.frame_session.proofs.ExportedFrames.{export_is, packing_fault}
 use Rattle.frame_session.proofs.session.Session.export.Goals as goal
 
 pub returns-clause-file : goal.returns-clause-file
@@ -13,6 +16,7 @@ returns-clause-file c =
     let new : SessionState = c.export_targets.new.self.state in
     let targets : List Target = c.in_ok-targets.targets.items in
     let bytes : List (List ℕ) = c.in_ok-bytes.bytes.items in
+    let file : Export = c.in_ok-file.file in
     let made : bytes ≡ exported new.tables (streams_in new) None targets = c.in_ok-bytes.ensures.value ∙ ap (λ (ts : List Target). exported new.tables (streams_in new) None ts) c.deref.ensures.value in
     record {
       packets = bytes;
@@ -21,11 +25,11 @@ returns-clause-file c =
       frames = c.in_ok-targets.ensures.targets;
       all = c.in_ok-targets.ensures.count ∙ c.frames-count.ensures;
       stamps =
-          c.in_ok-packets.ensures.file ∙ ap (λ (ts : List Target). stamped 0 (map (units_at new) ts) bytes) c.deref-2.ensures.value
-          ∙ ap (λ (now : SessionState). stamped 0 (map (units_at now) targets) bytes) c.in_ok-targets.ensures.after;
+          c.in_ok-file.ensures.packets ∙ ap (λ (ts : List Target). stamped (stamps_of file.head (map (duration_at new) ts)) bytes) c.deref-2.ensures.value
+          ∙ ap (λ (now : SessionState). stamped (stamps_of file.head (map (duration_at now) targets)) bytes) c.in_ok-targets.ensures.after;
       head =
-          c.export_head-head.ensures ∙ ap (λ (ts : List Target). export_head new.head ts) c.deref-3.ensures.value
-          ∙ ap (λ (now : SessionState). export_head now.head targets) c.in_ok-targets.ensures.after;
+          subst (λ (now : SessionState). IsHeadFor (export_head now.head targets) (bases_of (map (duration_at now) targets)) file.head) c.in_ok-targets.ensures.after
+          (subst (λ (ts : List Target). IsHeadFor (export_head new.head ts) (bases_of (map (duration_at new) ts)) file.head) c.deref-2.ensures.value c.in_ok-file.ensures.head);
     }
 
 pub returns-in_err-bytes-clause-fault : goal.returns-in_err-bytes-clause-fault
@@ -36,9 +40,3 @@ returns-in_err-bytes-clause-fault c =
     let all : length targets ≡ frame_count old = ap length c.deref.ensures.value ∙ c.in_ok-targets.ensures.count ∙ c.frames-count.ensures in
     let why = packing_fault old c.export_targets.new.self.state targets c.in_err-bytes.field-0.0 c.in_ok-targets.ensures.after have all c.in_err-bytes.ensures.fault in
     search rules
-
-pub invariant_of-result : goal.invariant_of-result
-invariant_of-result c =
-    let units : List ℕ = map (units_at c.export_targets.new.self.state) c.deref-2.result.now in
-    let long : length c.in_ok-packets.packets ≡ length c.in_ok-bytes.bytes.items = ap length c.in_ok-packets.ensures.file ∙ stamped_length 0 units c.in_ok-bytes.bytes.items in
-    record { few = omega (arith, long, c.in_ok-bytes.ensures.few) }

@@ -8,5 +8,5 @@ pub returns : goal.returns
 returns g c =
     let are : c.self.inside.entries ≡ c.args.self.now.list.entries = ap (λ (s : StoreValue). s.list.entries) c.self.view_is in
     on_ok_weaker c.write_restamped_records.result
-    (λ records. restamped_written c.args.pads c.args.head c.self.inside.entries c.args.self.now.list.entries c.len.result (g.W.Write.contents c.args.w.now) (g.W.Write.contents c.ivf_start.new.w) (g.W.Write.contents c.write_restamped_records.new.w) c.len.ensures.value are c.in_ok-ivf_start.ensures records)
+    (λ records. restamped_written c.args.pads c.args.head c.self.inside.entries c.args.self.now.list.entries c.len.result (g.W.Write.contents c.args.w.now) (g.W.Write.contents c.ivf_start.new.w) (g.W.Write.contents c.write_restamped_records.new.w) c.len.ensures.value are c.in-Ok.ensures records)
     c.write_restamped_records.ensures

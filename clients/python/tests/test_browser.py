@@ -1,0 +1,315 @@
+"""The page of wokureti open in chromium: what a person does there, and what is shown then."""
+
+import shutil
+import subprocess
+import sys
+import threading
+import unittest
+from unittest import mock
+
+from support import CLIP, SLOW, SMALL, TOP, packets_of, start, write_packets
+from test_page import SCENES, PageCase
+from test_serve import TOKEN
+from wokureti.tools import exports
+
+sys.path.append(str(TOP / "compare"))
+BROWSER = None
+
+
+def setUpModule():
+    global BROWSER
+    if shutil.which("chromium") is not None and shutil.which("chromedriver") is not None:
+        from browser import Browser
+
+        BROWSER = Browser()
+
+
+def tearDownModule():
+    if BROWSER is not None:
+        BROWSER.end()
+
+
+class BrowserCase(PageCase):
+    """A page that is served in this process, in a browser."""
+
+    LIMIT = 60
+
+    def setUp(self):
+        if BROWSER is None:
+            self.skipTest("chromium and chromium-driver are not there")
+        super().setUp()
+
+    def open(self, *given, **options):
+        self.serve(*given, **options)
+        # The page asks to stay if something is not saved.
+        self.addCleanup(BROWSER.open, "about:blank")
+        self.load()
+
+    def load(self):
+        BROWSER.open(f"{self.server.origin}/{TOKEN}/page/")
+        self.wait("document.body.dataset.ready === 'yes'")
+
+    def wait(self, script):
+        return BROWSER.wait(script, seconds=10 * SLOW)
+
+    def js(self, script, *given):
+        return BROWSER.run(script, *given)
+
+    def text(self, css):
+        return self.js("return document.querySelector(args[0]).textContent", css)
+
+    def said(self):
+        """What the status line and the notices say."""
+        return self.js("return [document.getElementById('status').textContent, ...[...document.querySelectorAll('#notices span')].map((one) => one.textContent)].join('\\n')")
+
+
+class Repairs(BrowserCase):
+    def damaged(self):
+        """README's clip with damage in two groups of findings: three bytes of packet 10 are flipped, and packet 40 is cut to two bytes."""
+        packets = packets_of(CLIP)
+        data = bytearray(packets[10])
+        for place in (60, 90, 120):
+            data[place] ^= 0xFF
+        packets[10], packets[40] = bytes(data), packets[40][:2]
+        return write_packets(self.folder() / "damaged.ivf", packets)
+
+    def test_repair_all_while_a_group_is_folded_and_none_is_open(self):
+        self.open(self.damaged())
+        self.wait("wokureti.findings.check && wokureti.findings.check.over && document.querySelector('#findings-list li.more')")
+        self.js("if (document.querySelector('#findings-list li.is-open')) throw Error('a finding is open')")
+        BROWSER.click("#repair-all")
+        self.wait("!document.getElementById('preview-bar').hidden || document.getElementById('status').textContent !== 'ready'")
+        self.assertNotIn("Cannot read", self.said())
+        self.wait("!document.getElementById('preview-bar').hidden")
+        self.assertRegex(self.text("#preview-text"), r"\d+ steps, \d+ edits")
+        lines = self.members("/repair_all")["lines"]
+        BROWSER.click("#preview-take")
+        self.wait("wokureti.model.revision === 2")
+        self.assertEqual(self.members("/edits")["edits"], lines)
+
+
+class Differences(BrowserCase):
+    def test_the_next_difference_is_from_what_is_shown(self):
+        packets = packets_of(SCENES)
+        other = write_packets(self.folder() / "other.ivf", [*packets[:16], *packets[20:]])
+        self.open(SCENES, sources=[str(other)])
+        self.js("wokureti.viewer.choose_view('difference'); const one = document.getElementById('against'); one.value = '1'; one.dispatchEvent(new Event('change'))")
+        BROWSER.click("#next-difference")
+        self.wait("document.getElementById('status').textContent.includes('differs from')")
+        self.assertRegex(self.text("#status"), "frame 1[67] differs from source 1")
+
+
+class Marks(BrowserCase):
+    """The selection is of packets: where the frames between two marks are not the packets between them, nothing is cut."""
+
+    MOVED = "trim 0 20 10; trim 0 0 20; splice 1 2; trim 0 30 6; splice 3 4"
+
+    def moved(self):
+        self.open(SCENES)
+        self.step(f"script {self.MOVED}")
+        self.wait("wokureti.model.revision === 2 && wokureti.model.session.revision === 2")
+        self.js("document.getElementById('timeline').focus()")
+
+    def mark(self, first, last):
+        for frame, key in ((first, "i"), (last, "o")):
+            self.js("await wokureti.model.go(args[0])", frame)
+            BROWSER.key(key)
+            self.js("await new Promise((done) => setTimeout(done, 300))")
+
+    def shown(self):
+        """The packets that the frames show."""
+        return self.members("/origins?from=0&count=100")["packets"]
+
+    def test_marks_on_both_sides_of_a_join_are_refused(self):
+        self.moved()
+        self.mark(5, 15)
+        self.assertIn("In, frame 5, and Out, frame 15, are on both sides of a join or a move", self.said())
+        self.assertIsNone(self.js("return wokureti.model.selection"))
+        BROWSER.key("x")
+        self.wait("document.getElementById('status').textContent.startsWith('nothing is selected')")
+        self.assertEqual(self.members("/session")["script"], self.MOVED)
+
+    def test_packets_that_are_shown_in_several_places_are_refused(self):
+        self.moved()
+        self.js("wokureti.model.select(15, 25)")
+        for key in ("x", "e", "v"):
+            self.js("document.querySelectorAll('#notices .notice').forEach((one) => one.remove())")
+            BROWSER.key(key)
+            self.wait("document.querySelector('#notices .notice')")
+            self.assertIn("shown in several places, frames 0 to 4, frames 25 to 29", self.said())
+        self.assertEqual(self.members("/session")["script"], self.MOVED)
+
+    def test_marks_in_one_shot_cut_these_frames(self):
+        self.moved()
+        before = self.shown()
+        self.mark(12, 20)
+        BROWSER.key("x")
+        self.wait("wokureti.model.revision === 3 && wokureti.model.frames === 27")
+        self.assertEqual(self.shown(), before[:12] + before[21:])
+
+    def test_keys_that_follow_each_other_at_once(self):
+        """Each key acts on what those before it did, also if nothing is waited for between them."""
+        self.moved()
+        before = self.shown()
+        self.js("""const press = (key) => document.getElementById('timeline').dispatchEvent(new KeyboardEvent('keydown', { key, bubbles: true, cancelable: true }));
+            wokureti.model.go(12); press('i'); for (let turn = 0; turn < 4; turn++) press('ArrowRight');
+            await new Promise((done) => setTimeout(done, 300)); press('o'); press('x');""")
+        self.wait("wokureti.model.revision === 3 && wokureti.model.frames === 31")
+        self.assertEqual(self.shown(), before[:12] + before[17:])
+
+    def test_a_join_of_two_sources(self):
+        self.open(SCENES, sources=[str(SCENES)])
+        self.step("script source 1; splice 0 1")
+        self.wait("wokureti.model.revision === 2 && wokureti.model.session.revision === 2")
+        self.js("document.getElementById('timeline').focus()")
+        script, join = self.members("/session")["script"], len(packets_of(SCENES))
+        self.mark(join - 5, join + 5)
+        self.assertIn("on both sides of a join or a move", self.said())
+        self.assertIsNone(self.js("return wokureti.model.selection"))
+        self.mark(join + 4, join + 9)
+        self.assertEqual(self.js("return [wokureti.model.source, wokureti.model.selection]"), [1, {"first": 4, "end": 10}])
+        self.assertEqual(self.members("/session")["script"], script)
+
+
+class Looks(BrowserCase):
+    SIZES = ((390, 844), (844, 390), (720, 450))
+
+    def tearDown(self):
+        BROWSER.set_size(1440, 900)
+
+    def test_the_status_line_is_seen_in_small_windows(self):
+        self.open(self.folded())
+        for width, height in self.SIZES:
+            BROWSER.set_size(width, height)
+            self.load()
+            self.wait("wokureti.findings.check && wokureti.findings.check.over")
+            for css in ("footer", "#timeline"):
+                top, bottom = self.js("const box = document.querySelector(args[0]).getBoundingClientRect(); return [box.top, box.bottom]", css)
+                self.assertTrue(0 <= top < bottom <= height + 1, (width, height, css, top, bottom))
+
+    def folded(self):
+        """A clip with findings, so that the panel is long."""
+        packets = packets_of(SCENES)
+        for place in (2, 9, 20):
+            packets[place] = packets[place][:2]
+        return write_packets(self.folder() / "damaged.ivf", packets)
+
+    def test_toolbars_show_that_they_have_more(self):
+        self.open(SMALL)
+        for width, height in self.SIZES:
+            BROWSER.set_size(width, height)
+            self.load()
+            for number in range(2):
+                ask = "const bar = document.querySelectorAll('.tools')[args[0]]; return [bar.scrollWidth > bar.clientWidth, bar.classList.contains('more-left'), bar.classList.contains('more-right')]"
+                self.wait("document.querySelectorAll('.tools.more-right').length === 2")
+                self.assertEqual(self.js(ask, number), [True, False, True])
+                self.js("const bar = document.querySelectorAll('.tools')[args[0]]; bar.scrollLeft = bar.scrollWidth", number)
+                self.wait("document.querySelectorAll('.tools.more-left').length === 1")
+                self.assertEqual(self.js(ask, number), [True, True, False])
+                self.js("document.querySelectorAll('.tools')[args[0]].scrollLeft = 0", number)
+        BROWSER.set_size(1440, 900)
+        self.load()
+        self.assertEqual(self.js("return document.querySelectorAll('.tools.more-right').length"), 0)
+
+    def test_a_notice_is_there_once(self):
+        self.open(SMALL)
+        for _ in range(3):
+            self.live.notice("the same sentence")
+            self.step("hold 3")
+        self.wait("wokureti.model.session.notices.length === 3")
+        self.assertEqual(self.js("return [...document.querySelectorAll('#notices span')].filter((one) => one.textContent === 'the same sentence').length"), 1)
+
+    def test_the_keys_go_on_after_a_repair_is_taken(self):
+        self.open(self.folded())
+        self.wait("wokureti.findings.check && wokureti.findings.check.over")
+        for button in ("#preview-leave", "#preview-take"):
+            BROWSER.click("#repair-all")
+            self.wait("!document.getElementById('preview-bar').hidden")
+            BROWSER.click(button)
+            self.wait("document.getElementById('preview-bar').hidden")
+            self.js("await new Promise((done) => setTimeout(done, 300))")
+            self.assertEqual(self.js("return document.activeElement.id"), "timeline", button)
+
+    def test_enter_in_a_dialog(self):
+        self.open(SMALL)
+        self.js("document.getElementById('timeline').focus()")
+        # In a list.
+        BROWSER.key("r")
+        self.wait("document.getElementById('ask').open && document.activeElement.matches('select')")
+        BROWSER.key("Enter")
+        self.wait("!document.getElementById('ask').open")
+        self.wait("wokureti.model.session.script !== '-'")
+        # In a number.
+        self.js("document.getElementById('tab-packet').click(); document.getElementById('insert-blank').click()")
+        self.wait("document.getElementById('ask').open && document.activeElement.matches('input')")
+        BROWSER.key("Enter")
+        self.wait("!document.getElementById('ask').open")
+        self.wait("wokureti.model.session.packets === 13")
+        self.js("document.getElementById('insert-blank').click()")
+        self.wait("document.getElementById('ask').open")
+        BROWSER.click("#ask button[value=no]")
+        self.wait("!document.getElementById('ask').open")
+        self.assertEqual(self.members("/session")["packets"], 13)
+
+
+class Exports(BrowserCase):
+    def test_an_export_shows_that_it_works_and_can_be_stopped(self):
+        go_on = threading.Event()
+        self.addCleanup(go_on.set)
+        real = exports.export
+
+        def slow(*given):
+            go_on.wait(60)
+            return real(*given)
+
+        self.open(SMALL)
+        self.step("script trim 0 2 5")
+        self.wait("!document.getElementById('export').hidden")
+        with mock.patch.object(exports, "export", slow):
+            BROWSER.click("#export")
+            self.wait("document.getElementById('status').textContent.startsWith('waiting for the export: ')")
+            self.assertEqual(self.text("#export"), "Stop the export")
+            BROWSER.click("#export")
+            self.wait("document.getElementById('status').textContent === 'the export was stopped'")
+            self.assertEqual(self.text("#export"), "Export")
+            go_on.set()
+            BROWSER.click("#export")
+            self.wait("document.getElementById('status').textContent.startsWith('exported small-export.ivf: ')")
+
+
+class Killed(BrowserCase):
+    LIMIT = 90
+
+    def start(self, *words, **env):
+        process = start("open", *words, "--no-browser", stdout=subprocess.PIPE, stderr=subprocess.PIPE, env=env)
+
+        def end():
+            process.kill()
+            process.communicate()
+
+        self.addCleanup(end)
+        return process, process.stdout.readline().decode().strip()
+
+    def test_a_tab_finds_the_server_that_is_started_again(self):
+        room = self.folder()
+        clip = write_packets(room / "a clip.ivf", packets_of(SMALL))
+        process, address = self.start(clip, XDG_STATE_HOME=str(room / "state"))
+        self.addCleanup(BROWSER.open, "about:blank")
+        BROWSER.open(address)
+        self.wait("document.body.dataset.ready === 'yes'")
+        BROWSER.key("Delete")
+        self.wait("wokureti.model.session.packets === 11")
+        process.kill()
+        process.wait(20)
+        self.wait("document.querySelector('#notices [data-id=lost]')")
+        said = self.said()
+        self.assertIn(f"The edits are in {room / 'a clip.edits'}: wokureti open '{clip}' goes on from there", said)
+        instance = self.js("return wokureti.model.session.instance")
+        _, again = self.start(clip, XDG_STATE_HOME=str(room / "state"))
+        self.assertEqual(again, address)
+        self.wait(f"window.wokureti && wokureti.model.session && wokureti.model.session.instance !== '{instance}' && document.body.dataset.ready === 'yes'")
+        self.assertEqual(self.js("return [wokureti.model.session.packets, document.querySelectorAll('#notices [data-id=lost]').length]"), [11, 0])
+
+
+if __name__ == "__main__":
+    unittest.main()

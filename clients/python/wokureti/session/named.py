@@ -1,0 +1,89 @@
+"""The sources that a list of edits names: a comment for each, with its packets and its path, so that the next session opens them too."""
+
+import json
+import os
+import re
+from typing import NamedTuple, Optional
+
+from ..tools import containers
+from .lines import lines_in
+
+SOURCE = re.compile(r'# source (\d+): (\d+) packets, (\d+) bytes, sha256 ([0-9a-f]{64}), (".*")')
+# What a pipe is called, which cannot be read again.
+PIPE = "-"
+
+
+class Missing(ValueError):
+    """A source that a list names, and that is not there."""
+
+
+class Named(NamedTuple):
+    """A source as a list names it: its packets, their bytes and their digest, and its path as it is in the list."""
+
+    number: int
+    packets: int
+    size: int
+    digest: str
+    path: str
+
+    def text(self):
+        return f"{self.packets:,} packets of {self.size:,} bytes"
+
+
+def of_line(line) -> Optional[Named]:
+    """The source that a line of a list names, or None."""
+    found = SOURCE.fullmatch(line.removesuffix("\r"))
+    if found is None:
+        return None
+    try:
+        path = json.loads(found.group(5))
+    except ValueError:
+        return None
+    return Named(*map(int, found.group(1, 2, 3)), found.group(4), path)
+
+
+def line_of(number, item, folder):
+    """The line that names source `number` in a list that is in a folder. Paths in this folder and below are relative, so that the folder can be moved."""
+    path = os.path.abspath(origin_of(item.path)) if origin_of(item.path) != PIPE else PIPE
+    inside = os.path.realpath(folder or ".") + os.sep
+    if path != PIPE and os.path.realpath(path).startswith(inside):
+        path = os.path.realpath(path)[len(inside) :]
+    return "# source {}: {} packets, {} bytes, sha256 {}, {}\n".format(number, *item.extent(), item.digest(), json.dumps(path))
+
+
+def origin_of(path):
+    """The path that was given for a stream, whose packets may have been taken out of a container since."""
+    found = os.fsdecode(containers.origins.get(os.fspath(path), path))
+    return PIPE if found.startswith(("/dev/", "/proc/")) else found
+
+
+def of_list(path):
+    """The sources that a list names, by their numbers. None of a list that is not there."""
+    if not os.path.isfile(path):
+        return {}
+    try:
+        with open(path, encoding="utf-8", errors="replace") as file:
+            found = map(of_line, lines_in(file.read()))
+    except OSError:
+        return {}
+    return {one.number: one for one in found if one is not None}
+
+
+def with_named(sources, path):
+    """The paths of sources that were given, and after them those that the list of edits at `path` names. `Missing` if one is not there."""
+    named, found = of_list(path), list(sources)
+    for number in range(len(found) + 1, max(named, default=0) + 1):
+        if number not in named:
+            raise Missing(f"{os.fsdecode(path)} names source {max(named)} and not source {number}: name it with --source")
+        found.append(path_of(named[number], path))
+    return found
+
+
+def path_of(named, path):
+    """Where a source is: at its path, or next to the list."""
+    folder = os.path.dirname(os.path.realpath(path))
+    for candidate in (os.path.join(folder, named.path), os.path.join(folder, os.path.basename(named.path))):
+        if named.path != PIPE and os.path.isfile(candidate):
+            return candidate
+    what = "a pipe" if named.path == PIPE else f"{named.path}, which is not there"
+    raise Missing(f"{os.fsdecode(path)} names source {named.number}: {what}: it has {named.text()}; name it with --source")

@@ -1,6 +1,0 @@
-use Rattle.std.proofs.Common.{inr}
-use Rattle.packet_lists.proofs.Progressed.{key_found}
-use Rattle.packet_lists.proofs.details.key_before.Goals as goal
-
-pub returns-in-Some-clause-key : goal.returns-in-Some-clause-key
-returns-in-Some-clause-key c = inr (key_found c.args.store.now.list c.args.at c.in-Some.place (rw c.in-Some.is at c.last_key.ensures))

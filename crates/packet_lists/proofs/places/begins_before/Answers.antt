@@ -1,9 +1,0 @@
-use Rattle.std.proofs.Common.{ℕ, ap, sym, ◌∙◌}
-use Rattle.stream_facts.specs.Facts.{end_of_record}
-use Rattle.packet_lists.proofs.Steps.{begins_next}
-use Rattle.packet_lists.proofs.places.begins_before.Goals as goal
-
-pub loop-place-preserved : goal.loop-place-preserved
-loop-place-preserved c =
-    c.end_of_record-begins.ensures ∙ ap (λ (n : ℕ). end_of_record n c.packet.result.now) c.loop-place.invariant
-    ∙ sym (begins_next c.args.store.now.list c.loop-place.place c.packet.result.now c.packet.ensures)

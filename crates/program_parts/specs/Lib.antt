@@ -1,4 +1,0 @@
-pub mod Endings
-pub mod Formats
-pub mod InLine
-pub mod Readings

@@ -1,2 +1,0 @@
-pub mod ByteBits
-pub mod Tags

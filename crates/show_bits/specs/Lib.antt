@@ -1,3 +1,0 @@
-pub mod ShowBits
-pub mod Faults
-pub mod Laws

@@ -1,2 +1,0 @@
-pub mod Hidden
-pub mod Holds

@@ -1,0 +1,6 @@
+pub mod Refused
+pub mod ByteLines
+pub mod BytePredictions
+pub mod BytePlanes
+pub mod KeySizes
+pub mod GoodSteps

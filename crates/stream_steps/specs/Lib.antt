@@ -1,0 +1,4 @@
+pub mod Decoding
+pub mod DecodingLaws
+pub mod Hidden
+pub mod PlaneBytes

@@ -1,0 +1,14 @@
+pub mod Steps
+pub mod Walked
+pub mod OneAnswer
+pub mod ChildLemmas
+pub mod EntryLemmas
+pub mod SurveyLemmas
+pub mod GapLemmas
+pub mod BlockLemmas
+pub mod FileLemmas
+pub mod RateLemmas
+pub mod OneFile
+pub mod NotIvf
+pub mod WrittenHeads
+pub mod Written

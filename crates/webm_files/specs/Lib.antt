@@ -1,0 +1,14 @@
+pub mod Elements
+pub mod Walks
+pub mod Blocks
+pub mod Children
+pub mod Tracks
+pub mod Surveys
+pub mod Kept
+pub mod Gaps
+pub mod Packets
+pub mod Media
+pub mod Rates
+pub mod Files
+pub mod Starts
+pub mod Texts

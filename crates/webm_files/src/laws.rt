@@ -1,0 +1,43 @@
+//! Laws of what is read. A law is a function that does nothing: its contract is the law.
+ghost use Rattle.std.specs.Prelude.{◌≡◌, ℕ, ◌^◌, ◌<◌, List, [], ◌∷◌, false};
+ghost use Rattle.webm_files.specs.Blocks.{AreBlocks};
+ghost use Rattle.stream_files.specs.Ivf.{IsIvf};
+ghost use Rattle.stream_files.specs.declared.streams.Stream.{Stream};
+ghost use Rattle.webm_files.specs.Children.{HasChild, after_child, children, first_child};
+ghost use Rattle.webm_files.specs.Files.{HasHeader, IsWebm, WebmRefuses, is_marked};
+ghost use Rattle.webm_files.specs.declared.blocks.Block.{Block};
+ghost use Rattle.webm_files.specs.declared.files.Webm.{Webm};
+ghost use Rattle.webm_files.specs.declared.files.WebmFault.{WebmFault};
+ghost use Rattle.webm_files.specs.Texts.{Frame, FramesFit, all_placed, cluster_text};
+
+/// The text of a cluster is read as its blocks, with their times, flags and positions.
+pub fn cluster_is_read()
+    ensures { (base : ℕ) (frames : List Frame) → base < 2 ^ 64 → FramesFit base frames → AreBlocks (cluster_text base frames) (all_placed 25 base frames) }
+{}
+
+/// A file has one list of blocks.
+pub fn blocks_are_one()
+    ensures { (file : List ℕ) (blocks others : List Block) → AreBlocks file blocks → AreBlocks file others → blocks ≡ others }
+{}
+
+/// Bytes are the text of at most one file.
+pub fn webm_has_one_file()
+    ensures { (bytes : List ℕ) (file other : Webm) → IsWebm bytes file → IsWebm bytes other → file ≡ other }
+{}
+
+/// Bytes have at most one error. So the text of a file can only be refused as out of memory.
+pub fn webm_has_one_fault()
+    ensures { (bytes : List ℕ) (fault other : WebmFault) → WebmRefuses bytes fault → WebmRefuses bytes other → fault ≡ other }
+{}
+
+/// The text of an IVF file does not begin with the name of an EBML header, and has no such header: it is refused as `Header`.
+pub fn ivf_is_not_webm()
+    ensures mark { (bytes : List ℕ) (file : Stream) → IsIvf bytes file → is_marked bytes ≡ false }
+    ensures header { (bytes : List ℕ) (file : Stream) → IsIvf bytes file → ¬ HasHeader bytes }
+{}
+
+/// The children of a content are its first child and those of the rest, or none if it begins with no whole child.
+pub fn children_are()
+    ensures some { (text : List ℕ) → HasChild text → children text ≡ first_child text ∷ children (after_child text) }
+    ensures none { (text : List ℕ) → ¬ HasChild text → children text ≡ [] }
+{}
