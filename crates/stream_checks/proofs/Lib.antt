@@ -9,3 +9,4 @@ mod HashHeads
 mod HashLengths
 mod HashTexts
 pub mod Shown
+pub mod ReportedRefusals

@@ -14,3 +14,4 @@ pub mod HashLines
 pub mod Frames
 pub mod TimeBases
 pub mod Hashes
+pub mod Refusals
