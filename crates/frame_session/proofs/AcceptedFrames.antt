@@ -2,8 +2,11 @@
 use Rattle.std.proofs.Common.{◌≡◌, ℕ, suc, ◌+◌, ◌<◌, ◌==◌, Bool, true, false, List, [], length, slice_get, slice_index_or, Option, Some, None, Result, Ok, Err, refl, sym, ap, subst, ◌∙◌, arith, if◌then◌else◌}
 use Rattle.std.specs.Prelude.{IfSome, unwrap_or}
 use Rattle.std.proofs.lemmas.Bool.{eqb-true}
+use Rattle.std.proofs.lemmas.List.{length-map}
 use Rattle.std.proofs.lemmas.Option.{slice_get_within}
 use Rattle.frame_header.specs.Tags.{key_size_of}
+use Rattle.packet_edits.specs.Edits.{Listing}
+use Rattle.packet_edits.specs.Marks.{StoreValue}
 use Rattle.packet_edits.specs.Shown.{stream_of}
 use Rattle.pixel_planes.specs.Pictures.{PictureSamples}
 use Rattle.reference_frames.specs.declared.states.State.{State}
@@ -15,10 +18,12 @@ use Rattle.stream_steps.proofs.Breaks.{each_outcome}
 use Rattle.lossless_cuts.specs.declared.targets.Target.{Target}
 use Rattle.frame_session.specs.declared.refusal.Refusal.{Refusal}
 use Rattle.frame_session.specs.declared.refusal.Refusal.TheVariants as refusals
+use Rattle.frame_session.specs.Cached.{lists_of, store_at}
 use Rattle.frame_session.specs.Edits.{list_at}
 use Rattle.frame_session.specs.Exported.{HasPicture, index_in}
 use Rattle.frame_session.specs.Sessions.{SessionState, picture_from}
 use Rattle.frame_session.proofs.ExportedFrames.{picture_got}
+use Rattle.frame_session.proofs.Stores.{found, list_of_store}
 
 abbrev pub stream_in : SessionState → ℕ → List (List ℕ)
 stream_in now source = stream_of (list_at now.lists source)
@@ -66,3 +71,13 @@ picture_has law runs now source place less accepted =
 pub refused_is : RefusalsAreByBytes → (now : SessionState) (source place : ℕ) (broken : Broken) → place < length (stream_in now source) → IsBreak (stream_in now source) place broken
     → picture_from source (slice_get (outcomes now.tables (stream_in now source)) place) ≡ Err (refusals.Packet source broken.place broken.cause)
 refused_is law now source place broken less is = ap (picture_from source) ((law now.tables (stream_in now source) place broken less).1 is)
+
+-- the packets of a store of a session
+pub store-is : (stores : List StoreValue) (source : ℕ) (store : StoreValue) → source < length stores → store ≡ slice_index_or stores source store → stream_of store.list ≡ stream_of (list_at (lists_of stores) source)
+store-is stores source store within is = ap (λ (s : StoreValue). stream_of s.list) (is ∙ found stores source store within) ∙ ap stream_of (sym (list_of_store stores source))
+
+pub within-is : (stores : List StoreValue) (source place : ℕ) → place < length (store_at stores source).list.entries → place < length (stream_of (list_at (lists_of stores) source))
+within-is stores source place less =
+    let count : length (stream_of (store_at stores source).list) ≡ length (store_at stores source).list.entries = length-map (store_at stores source).list.entries (λ entry. entry.bytes) in
+    let here : place < length (stream_of (store_at stores source).list) = omega (arith, less, count) in
+    subst (λ (list : Listing). place < length (stream_of list)) (sym (list_of_store stores source)) here

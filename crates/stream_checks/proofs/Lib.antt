@@ -9,4 +9,3 @@ mod HashHeads
 mod HashLengths
 mod HashTexts
 pub mod Shown
-pub mod ReportedRefusals

@@ -14,4 +14,3 @@ pub mod HashLines
 pub mod Frames
 pub mod TimeBases
 pub mod Hashes
-pub mod Refusals

@@ -5,7 +5,6 @@ ghost use Rattle.std.specs.Prelude.{◌≡◌, ◌∷◌, ◌++◌, [], codes};
 ghost use Rattle.pixel_planes.specs.Pictures.{PictureSamples};
 ghost use Rattle.stream_files.specs.Y4m.{frame_text};
 ghost use Rattle.stream_checks.specs.HashLines.{samples_of};
-ghost use Rattle.stream_checks.specs.Refusals.{FactsAreDecoded};
 ghost use Rattle.stream_checks.specs.Laws.{BreaksAreDecoded, LostAreBroken, WorkedBreaks, WorkedEnds, WorkedOddStamps, WorkedPaces, WorkedStamps};
 
 /// Each packet that is counted as lost after a break has this break as its outcome.
@@ -18,14 +17,6 @@ pub fn lost_are_broken()
 pub fn breaks_are_decoded()
     ensures { BreaksAreDecoded }
 {}
-
-/// The facts of packets report decoding's own refusals: which packets are accepted, which are refused and for which cause,
-/// and which are lost with an earlier one.
-pub fn facts_are_decoded()
-    ensures { FactsAreDecoded }
-{
-    frame_header::laws::outlines_are_headers();
-}
 
 /// Steps of 33 and 34 do not skip, and one of 66 does. A hidden packet may have a time stamp of its
 /// own, or that of the packet after it.

@@ -1,4 +1,4 @@
-use Rattle.std.proofs.Common.{◌≡◌, ◌∙◌, false, true, not, ℕ, List, Ok, Err, Some, slice_get, ap, subst, sym, refl}
+use Rattle.std.proofs.Common.{◌≡◌, ◌∙◌, false, true, not, ℕ, List, Ok, Err, Some, slice_get, ap, subst, sym, refl, rules}
 use Rattle.std.specs.Prelude.{is_some}
 use Rattle.lossless_cuts.specs.declared.targets.Target.{Target}
 use Rattle.script_nodes.specs.Frames.{traced}
@@ -74,4 +74,5 @@ returns-in_err-sides-clause-refused c =
     let from : T c.args.self.now = subst T c.self.view_is (ap (λ (k : List ℕ). traced k c.self.inside.script c.args.n) (sym c.deref.ensures.0) ∙ c.in-Some.ensures.some) in
     let traces : traced (shown_counts now) now.script c.args.n ≡ Some (origin_of c.in-Some.source c.in-Some.frame c.in-Some.trace) = ap (λ (k : List ℕ). traced k now.script c.args.n) (sym c.shown_counts-counts.ensures.value) ∙ from in
     let is = frame_is now c.args.n c.in-Some.source c.in-Some.frame c.in-Some-shown_place.place c.in-Some.trace (Err c.in_err-sides.field-0.0) traces (sym c.in-Some-shown_place.ensures.place) c.in_err-sides.ensures.refused in
-    frame_refused now c.args.n c.in-Some.trace (Err c.in_err-sides.field-0.0) c.in_err-sides.field-0.0 is.1 refl
+    let why = frame_refused now c.args.n c.in-Some.trace (Err c.in_err-sides.field-0.0) c.in_err-sides.field-0.0 is.1 refl in
+    search rules
