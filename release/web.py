@@ -10,7 +10,6 @@ import pathlib
 import re
 import shutil
 import subprocess
-import sys
 import tempfile
 
 from . import library
@@ -75,10 +74,8 @@ def pack(data, folder):
 
 def build(room, folder, is_proved, say):
     """Builds the page into a folder."""
+    bitcode = library.compiled(pathlib.Path(room), CPU, is_proved, say)[1]
+    say("compiling the library's LLVM module for WebAssembly, outside the verdict")
     with tempfile.TemporaryDirectory() as made:
-        bitcode = pathlib.Path(made, "library.bc")
-        say("keeping the library's LLVM module")
-        library.in_copy(pathlib.Path(room), is_proved, say, [sys.executable, TOP / "release/bitcode.py", kit_folder() / "bin/rt", ".", CPU, bitcode])
-        say("compiling it for WebAssembly, outside the verdict")
         pack(module(bitcode, pathlib.Path(made)), folder)
     say(f"the page is in {folder}: open {folder / 'index.html'} in a browser")
