@@ -199,13 +199,13 @@ def make_library(cpu):
     return 0
 
 
-def make_web():
-    """Builds the page without a server."""
+def make_web(cpu):
+    """Builds the page without a server. It is the same for each processor, and is made of the module of the library for this one."""
     from release import web
 
     check_kit()
     with room_to_build() as room:
-        web.build(room, BIN / "web", Built.is_there, say)
+        web.build(room, BIN / "web", cpu, Built.is_there, say)
     return 0
 
 
@@ -307,7 +307,7 @@ def main():
         if given.library:
             return make_library(processor(given.cpu))
         if given.web:
-            return make_web()
+            return make_web(processor(given.cpu))
         Speaker.name = given.ready or Speaker.name
         (ready if given.ready else build)(processor(given.cpu))
     except Failed as failed:

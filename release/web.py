@@ -1,7 +1,8 @@
 """Builds the page of clients/web, which needs no server: the LLVM module of the proved library, compiled for WebAssembly by the kit's clang.
 
-The kit proves the library for wasm64 and does not compile its heap. So the module that rattle makes for x86-64, which has no instruction of that processor
-in it, gets the target and the data layout of wasm64, and is linked with the heap of clients/web/heap.c. No proof is about what comes of that.
+The kit proves the library for wasm64 and does not compile its heap. So the module that rattle makes for a processor, which has no instruction of it, gets the target
+and the data layout of wasm64, and is linked with the heap of clients/web/heap.c. No proof is about what comes of that. It is the same module for both processors,
+but for attributes and the alignment of vectors, which both go.
 """
 
 import base64
@@ -17,13 +18,14 @@ from .sources import TOP, Failed, kit_folder, version
 
 PAGE = TOP / "clients/web"
 FILES = ("index.html", "style.css", "engine.js", "cuts.js", "editor.js", "pixels.js", "worker.js", "page.js")
-CPU, TARGET = "x86-64", "wasm64-unknown-unknown"
+TARGET = "wasm64-unknown-unknown"
 CALLS = ("wk_version", "wk_open", "wk_open_bytes", "wk_close", "wk_frame", "wk_request", "wk_why", "wk_save", "wk_text", "wk_room", "wk_free")
 FEATURES = ["-msimd128", "-mbulk-memory"]
 # A stack that is full ends the call, and writes over nothing.
 LINKING = ["-mwasm64", "--no-entry", "--gc-sections", "--strip-all", "--stack-first", "-z", "stack-size=1048576", *[f"--export={name}" for name in CALLS]]
 # What is said of the module's functions for the processor that it was made for.
 OF_CPU = re.compile(r' "(?:probe-stack|stack-probe-size|target-cpu|target-features|frame-pointer)"="[^"]*"')
+WIDE = re.compile(r"\balign (?:32|64)\b")
 SCRIPT = '''"use strict";
 
 /** The library of version {version} in WebAssembly, compressed by gzip, in base 64. */
@@ -46,7 +48,7 @@ def for_target(text):
         text = line.sub(line.search(own).group(0).replace("\\", r"\\"), text, count=1)
     if "@llvm.x86." in text:
         raise Failed("the module has instructions of x86, so it is not compiled for another target")
-    return OF_CPU.sub("", text)
+    return WIDE.sub("align 16", OF_CPU.sub("", text))
 
 
 def module(bitcode, room):
@@ -72,9 +74,9 @@ def pack(data, folder):
     fresh.rename(folder)
 
 
-def build(room, folder, is_proved, say):
-    """Builds the page into a folder."""
-    bitcode = library.compiled(pathlib.Path(room), CPU, is_proved, say)[1]
+def build(room, folder, cpu, is_proved, say):
+    """Builds the page into a folder, of the module for this processor."""
+    bitcode = library.compiled(pathlib.Path(room), cpu, is_proved, say)[1]
     say("compiling the library's LLVM module for WebAssembly, outside the verdict")
     with tempfile.TemporaryDirectory() as made:
         pack(module(bitcode, pathlib.Path(made)), folder)

@@ -1,5 +1,5 @@
 #!/usr/bin/env python3
-"""Tests .ci/parts.py: processor time of a command by part, and the limit of docs/proofs.md.
+"""Tests the gate: processor time of a command by part (.ci/parts.py), the limit of docs/proofs.md, and what one part of the gate takes of an earlier one.
 
 It prints what differs and ends with 1, or prints nothing and ends with 0.
 """
@@ -13,8 +13,13 @@ import pathlib
 import subprocess
 import sys
 import tempfile
+from unittest import mock
 
+sys.dont_write_bytecode = True
 TOP = pathlib.Path(__file__).resolve().parent.parent
+sys.path.insert(0, str(TOP))
+from release import library, proving  # noqa: E402
+
 SCRIPT = TOP / ".ci/parts.py"
 LIMIT = 120
 # Half a second of each process may be counted as the rest.
@@ -93,11 +98,55 @@ def check_document():
     expect("the limit of docs/proofs.md", [found[0] for found in parts().LIMIT.findall(parts().PROOFS.read_text(encoding="utf-8"))], ["300"])
 
 
+def check_library(room):
+    """An archive and its module are built once for each processor, and again if the sources or the kit are others."""
+    built, said = [], {"digest": "one", "kit_here": "kit"}
+
+    def run(words, *_):
+        built.append(words[4])
+        pathlib.Path(words[5]).write_text(f"archive {len(built)}")
+        pathlib.Path(words[6]).write_text(f"module {len(built)}")
+
+    def texts(cpu):
+        return [path.read_text() for path in library.compiled(room, cpu, True, print)]
+
+    given = {"prove_below": lambda *_: room, "kit_folder": lambda: room, "digest": lambda _: said["digest"], "kit_here": lambda: said["kit_here"]}
+    with mock.patch.multiple(library, **given), mock.patch.object(proving, "run", run):
+        expect("the first one", texts("v2"), ["archive 1", "module 1"])
+        expect("another processor", texts("v3"), ["archive 2", "module 2"])
+        expect("once more", [texts("v2"), texts("v3")], [["archive 1", "module 1"], ["archive 2", "module 2"]])
+        said["digest"] = "two"
+        expect("other sources", texts("v2"), ["archive 3", "module 3"])
+        said["kit_here"] = "another kit"
+        expect("another kit", texts("v2"), ["archive 4", "module 4"])
+        expect("what was built", (built, len(list(room.glob("wokureti_c-v2-*")))), (["v2", "v3", "v2", "v2"], 2))
+
+
+def check_programs(room):
+    """An object file of rt ci is taken only if the program next to it is linked of it."""
+    kit, out = room / "kit", room / "crates/vp8list/out"
+    (kit / "bin").mkdir(parents=True)
+    out.mkdir(parents=True)
+    linker = kit / "bin/rattle-link"
+    linker.write_text('#!/bin/sh\nprintf "linked of " > "$6"\ncat "$7" >> "$6"\n')
+    linker.chmod(0o755)
+    with mock.patch.multiple(proving, TOP=room, kit_folder=lambda: kit):
+        expect("no object file", proving.made_by_ci("vp8list", room), None)
+        (out / "vp8list.o").write_text("object file")
+        expect("no program", proving.made_by_ci("vp8list", room), None)
+        (out / "vp8list").write_text("linked of object file")
+        expect("both", proving.made_by_ci("vp8list", room), out / "vp8list.o")
+        (out / "vp8list").write_text("linked of another one")
+        expect("another program", proving.made_by_ci("vp8list", room), None)
+
+
 def main():
     os.chdir(TOP)
     with tempfile.TemporaryDirectory() as room:
         check_times(pathlib.Path(room))
         check_limit(pathlib.Path(room))
+        check_library(pathlib.Path(room))
+        check_programs(pathlib.Path(room))
     check_document()
     print(*wrong, sep="\n", end="\n" if wrong else "")
     return 1 if wrong else 0
