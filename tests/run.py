@@ -221,6 +221,7 @@ def all_tests():
     found |= {path: later(text, path) for path, text in LATER.items()}
     found |= {name: script(name) for name in ("conformance/records.py", "conformance/check")}
     found |= {name: script(name, "--quiet") for name in ("compare/definitions.py", "compare/first_command.py", "compare/options.py")}
+    found |= {"docs/draw.py": script("docs/draw.py", "--check")}
     found |= {"compare/growths.py": growths, "findings": checks, "links": links, "versions": versions}
     found |= {f"stored run of {name}": stored_run(name, program) for name, program in (("vp8serve", SERVE), ("vp8list", LIST))}
     found |= {f"clip {' '.join(line.split()[:-2])}": clip(line) for line in (CRATES / "gate_clips/stdout").read_text().splitlines()}
