@@ -10,6 +10,7 @@ import concurrent.futures
 import hashlib
 import os
 import pathlib
+import re
 import signal
 import subprocess
 import sys
@@ -161,11 +162,15 @@ def row(path):
 
 
 def versions():
-    """All three commands have the version of this checkout."""
+    """All three commands have the version of this checkout, and so have the examples for CMake in the documents."""
     version = (TOP / "VERSION").read_text().strip()
     words = {"vp8serve": [SERVE], "vp8list": [LIST], "wokureti": [sys.executable, "-m", "wokureti"]}
     found = {name: ran([*command, "--version"], folder=TOP / "clients/python", limit=60) for name, command in words.items()}
-    return [f"{name}: {got!r}" for name, got in found.items() if got != (0, f"{name} {version}\n".encode())], []
+    wrong = [f"{name}: {got!r}" for name, got in found.items() if got != (0, f"{name} {version}\n".encode())]
+    asked = re.findall(r"find_package\(wokureti ([0-9.]+)", (TOP / "clients/README.md").read_text())
+    if not asked or {*asked} != {version.rpartition(".")[0]}:
+        wrong.append(f"clients/README.md: find_package(wokureti {asked}) is not for {version}")
+    return wrong, []
 
 
 def links():
