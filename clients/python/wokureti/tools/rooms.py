@@ -5,6 +5,7 @@ import fcntl
 import os
 import shutil
 import tempfile
+import time
 
 PREFIX = "wokureti-"
 LOCK = ".lock"
@@ -26,10 +27,22 @@ class Room(tempfile.TemporaryDirectory):
         os.rename(new, os.path.join(self.name, LOCK))
 
     def cleanup(self):
-        super().cleanup()
+        self._finalizer.detach()
+        remove(self.name)
         if self.lock is not None:
             os.close(self.lock)
             self.lock = None
+
+
+def remove(path):
+    """Removes a folder. A program that is being ended may still write into it, so it is tried again for some seconds; what is then left goes with the next sweep."""
+    for pause in (0.05, 0.2, 0.5, 1, 2):
+        with contextlib.suppress(OSError):
+            return shutil.rmtree(path)
+        if not os.path.exists(path):
+            return None
+        time.sleep(pause)
+    return shutil.rmtree(path, ignore_errors=True)
 
 
 def owner(pid):
