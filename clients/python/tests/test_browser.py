@@ -354,7 +354,7 @@ class Exports(BrowserCase):
         self.wait("!document.getElementById('export').hidden")
         with mock.patch.object(exports, "export", slow):
             BROWSER.click("#export")
-            self.wait("document.getElementById('status').textContent.startsWith('waiting for the export: ')")
+            self.wait("/^exporting: vp8serve makes the packets, \\d+\\.\\d s$/.test(document.getElementById('status').textContent)")
             self.assertEqual(self.text("#export"), "Stop the export")
             BROWSER.click("#export")
             self.wait("document.getElementById('status').textContent === 'the export was stopped'")

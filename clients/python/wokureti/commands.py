@@ -410,7 +410,7 @@ def run_script(given, streams, script_of, inputs=()):
             if script_of is not None:
                 session.request(f"script {script_of(exports.Frames(session.edits.contents()))}")
             stages.stage(f"exporting {session.count().frames:,} frames")
-            out = exports.Output(given.out, not given.no_pad, given.sound, say)
+            out = exports.Output(given.out, not given.no_pad, given.sound, say, stages)
             told = exports.export(session.edits.contents(), list(session.edits), out, room)
             status = status_of(session, given.anyway)
     if not getattr(given, "is_step", False):

@@ -87,10 +87,25 @@ export async function save(source, page) {
   return (await post("edits", { line: "save", source, page }, "the packets to be saved")).json();
 }
 
-/** The frames that are shown as a file: its bytes, its name, and what it has. */
-export async function exported(signal) {
-  const answer = await ask("exported", { signal }, "the export");
-  return { file: await answer.blob(), name: nameIn(answer.headers.get("Content-Disposition")), said: answer.headers.get("X-Exported") };
+/** The frames that are shown as a file: its bytes, its name, and what it has. `got` hears how many bytes of all are here. */
+export async function exported(name, signal, got) {
+  const answer = await ask(`exported?name=${name}`, { signal }, "");
+  const total = Number(answer.headers.get("Content-Length"));
+  const pieces = [];
+  let done = 0;
+  for (const reader = answer.body.getReader(); ; ) {
+    const { value } = await reader.read();
+    if (!value) break;
+    pieces.push(value);
+    done += value.length;
+    got(done, total);
+  }
+  return { file: new Blob(pieces), name: nameIn(answer.headers.get("Content-Disposition")), said: answer.headers.get("X-Exported") };
+}
+
+/** How far an export is, or undefined. */
+export async function exportProgress(name) {
+  return (await members("progress")).exports[name];
 }
 
 /** Opens a stream of the folder as the last source, and returns its number, `source`. */

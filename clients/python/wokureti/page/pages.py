@@ -12,7 +12,7 @@ import time
 
 from . import adding, others
 from ..session import records
-from ..tools import exports, ivf, muxing, repair
+from ..tools import exports, ivf, muxing, progress, repair
 from .checking import Earlier, News
 from .clipboard import Clipboard, Gone, numbers_of, runs_of
 from ..tools.differences import Lasting
@@ -27,7 +27,7 @@ from ..server.routes import Routes, members_of, until_ended
 from .views import MOST_ENTRIES
 from ..server.virtual import header_of
 from ..tools.sounds import Cannot
-from ..server.web import Refuse, Response, as_json
+from ..server.web import Dropped, Refuse, Response, as_json
 
 KINDS = {
     ".html": "text/html; charset=utf-8",
@@ -69,6 +69,8 @@ class PageRoutes(Routes):
         # The list of edits that is taken where none is named.
         self.usual = None
         self.sounding, self.others = Sounding(live.room.name), others.Others()
+        # The exports that go on, by the names that the pages gave them.
+        self.exporting = {}
         self.posts[("sources",)] = self.add_source
         self.posts[("pages",)] = self.open_page
         self.posts[("preview",)] = self.preview
@@ -206,7 +208,8 @@ class PageRoutes(Routes):
         if doing is not None:
             what, done, total, since = doing
             found = {"what": what, "done": done, "total": total, "seconds": round(time.monotonic() - since, 1)}
-        return as_json({"revision": self.live.revision, "doing": found, "restarts": len(self.live.events)})
+        exporting = {name: one.members() for name, one in list(self.exporting.items())}
+        return as_json({"revision": self.live.revision, "doing": found, "exports": exporting, "restarts": len(self.live.events)})
 
     def source_of(self, request, view):
         source = self.number(request, "source", 0)
@@ -643,14 +646,25 @@ class PageRoutes(Routes):
         return Response(200, CONTAINERS[ending], length=os.fstat(file.fileno()).st_size, headers=self.attached(ending), pieces=pieces_of(file))
 
     def exported(self, request):
-        """The frames that the script serves as packets, without coding again. Other requests go on meanwhile."""
-        self.only(request)
+        """The frames that the script serves as packets, without coding again. Other requests go on meanwhile; it ends if nobody waits for it any more."""
+        self.only(request, "name")
+        name, watch = request.query.get("name", ""), ExportWatch(request)
+        self.exporting[name] = watch
+        try:
+            return self.export(watch)
+        except progress.Stopped:
+            raise Dropped from None
+        finally:
+            if self.exporting.get(name) is watch:
+                del self.exporting[name]
+
+    def export(self, watch):
         with self.live.lock:
             revision, contents, lines = self.live.revision, self.live.contents(), list(self.live.session.edits)
         ending = muxing.ending_for(contents.inputs.all[0].media)
         with tempfile.TemporaryDirectory(dir=self.live.room.name) as folder:
-            path = os.path.join(folder, f"exported{ending}")
-            out = exports.Output(path, self.live.pad, self.live.sound, self.live.notice)
+            path = os.path.join(folder, f"{self.safe_name()}-export{ending}")
+            out = exports.Output(path, self.live.pad, self.live.sound, self.live.notice, watch)
             try:
                 told = exports.export(contents, lines, out, folder)
             except (ValueError, Ended) as error:
@@ -707,6 +721,28 @@ class PageRoutes(Routes):
             except ValueError as error:
                 raise Refuse(409, str(error)) from None
             return self.changed(page, reply=path, renumbered=renumbered)
+
+
+class ExportWatch(progress.Watch):
+    """How far an export is, as long as somebody waits for it."""
+
+    def __init__(self, request):
+        self.request, self.since = request, time.monotonic()
+        self.text, self.done, self.total = "vp8serve makes the packets", None, None
+
+    def stage(self, text):
+        self.text, self.done, self.total = text, None, None
+
+    def part(self, done, total):
+        self.done, self.total = done, total
+        self.check()
+
+    def check(self):
+        if self.request.is_gone():
+            raise progress.Stopped
+
+    def members(self):
+        return {"what": self.text, "done": self.done, "total": self.total, "seconds": round(time.monotonic() - self.since, 1)}
 
 
 def pieces_of(file, start=0, end=None):

@@ -28,6 +28,13 @@ export class Status {
     this.write(`${text}: ${done.toLocaleString("en")} of ${total.toLocaleString("en")}`, total ? done / total : 0);
   }
 
+  /** Says which part of something is done; null if that is not known. */
+  share(text, part) {
+    this.until = performance.now() + 600;
+    this.write(part === null ? text : `${text}: ${Math.floor(100 * part)} %`, part);
+    this.isBusy = true;
+  }
+
   write(text, part) {
     if (find("status").textContent !== text) find("status").textContent = text;
     const bar = find("status-bar");
