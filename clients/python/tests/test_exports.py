@@ -352,6 +352,25 @@ class OnThePage(test_page.PageCase, EndlessCase):
         self.assertEqual(list(pathlib.Path(self.live.room.name).glob("tmp*")), [])
 
     @needs_ffmpeg
+    def test_how_far_a_stream_is_that_is_added(self):
+        room = self.folder()
+        one, other = room / "one.ivf", room / "other.webm"
+        one.write_bytes(pathlib.Path(SMALL).read_bytes())
+        other.write_bytes(clip("silent.webm").read_bytes())
+        self.serve(str(one))
+        real, heard = containers.read, []
+
+        def read(path, out, watch):
+            watch.part(300, 1000)
+            heard.append(self.members("/progress")["opening"])
+            return real(path, out, watch)
+
+        with mock.patch.object(containers, "read", read):
+            self.assertEqual(self.post_to("/sources", file=str(other))[0], 200)
+        self.assertEqual([(found["what"], found["done"], found["total"]) for found in heard], [(f"taking the packets out of {other}", 300, 1000)])
+        self.assertIsNone(self.members("/progress")["opening"])
+
+    @needs_ffmpeg
     def test_a_webm_file_stays_one(self):
         source = clip("talk.webm")
         room = self.folder()

@@ -405,7 +405,7 @@ def run_script(given, streams, script_of, inputs=()):
     exports.check_program(program)
     with rooms.Room() as room, progress.Stages() as stages:
         stages.stage("reading the packets")
-        paths = [convert.as_ivf(path, room) for path in streams]
+        paths = [convert.as_ivf(path, room, watch=stages) for path in streams]
         with cat.open_session(paths[0], paths[1:], edits, script, given.tables, program, given.anyway) as session:
             if script_of is not None:
                 session.request(f"script {script_of(exports.Frames(session.edits.contents()))}")
@@ -457,8 +457,8 @@ def run_repair(given):
     try:
         with rooms.Room() as folder, progress.Stages() as stages:
             stages.stage("searching the packets")
-            path, searched = convert.searched(given.stream, folder) if "scan" in steps else (convert.as_ivf(given.stream, folder), None)
-            other = given.second and convert.searched(given.second, folder)[0]
+            path, searched = convert.searched(given.stream, folder, stages) if "scan" in steps else (convert.as_ivf(given.stream, folder, watch=stages), None)
+            other = given.second and convert.searched(given.second, folder, stages)[0]
             data, second = (path and read_all(path) for path in (path, other))
             tools = (programs.find("vp8serve"), programs.find("vp8list"))
             found = repair.repair(data, *tools, second, given.tables, steps, stages.stage, as_file(path), searched)

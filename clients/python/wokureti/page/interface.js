@@ -108,9 +108,12 @@ export async function exportProgress(name) {
   return (await members("progress")).exports[name];
 }
 
+// What is waited for while a stream is opened.
+export const OPENING = "the stream to be opened";
+
 /** Opens a stream of the folder as the last source, and returns its number, `source`. */
 export async function addSource(file) {
-  return (await post("sources", { file }, "the stream to be opened")).json();
+  return (await post("sources", { file }, OPENING)).json();
 }
 
 /** Opens a stream of the folder on a page of its own, and returns its address. */

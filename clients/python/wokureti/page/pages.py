@@ -20,6 +20,7 @@ from ..session.errors import Ended, Refused
 from ..session.frames import MARK
 from ..session.lines import EDITS, first_word, is_edit
 from ..server.live import Changed
+from .parts import Part
 from .proposals import Proposals
 from .sounding import Sounding, has_sound
 from ..server import ranges
@@ -209,7 +210,9 @@ class PageRoutes(Routes):
             what, done, total, since = doing
             found = {"what": what, "done": done, "total": total, "seconds": round(time.monotonic() - since, 1)}
         exporting = {name: one.members() for name, one in list(self.exporting.items())}
-        return as_json({"revision": self.live.revision, "doing": found, "exports": exporting, "restarts": len(self.live.events)})
+        taking = self.live.taking
+        opening = None if taking is None else taking.members()
+        return as_json({"revision": self.live.revision, "doing": found, "exports": exporting, "opening": opening, "restarts": len(self.live.events)})
 
     def source_of(self, request, view):
         source = self.number(request, "source", 0)
@@ -648,7 +651,7 @@ class PageRoutes(Routes):
     def exported(self, request):
         """The frames that the script serves as packets, without coding again. Other requests go on meanwhile; it ends if nobody waits for it any more."""
         self.only(request, "name")
-        name, watch = request.query.get("name", ""), ExportWatch(request)
+        name, watch = request.query.get("name", ""), Part("vp8serve makes the packets", request.is_gone)
         self.exporting[name] = watch
         try:
             return self.export(watch)
@@ -721,28 +724,6 @@ class PageRoutes(Routes):
             except ValueError as error:
                 raise Refuse(409, str(error)) from None
             return self.changed(page, reply=path, renumbered=renumbered)
-
-
-class ExportWatch(progress.Watch):
-    """How far an export is, as long as somebody waits for it."""
-
-    def __init__(self, request):
-        self.request, self.since = request, time.monotonic()
-        self.text, self.done, self.total = "vp8serve makes the packets", None, None
-
-    def stage(self, text):
-        self.text, self.done, self.total = text, None, None
-
-    def part(self, done, total):
-        self.done, self.total = done, total
-        self.check()
-
-    def check(self):
-        if self.request.is_gone():
-            raise progress.Stopped
-
-    def members(self):
-        return {"what": self.text, "done": self.done, "total": self.total, "seconds": round(time.monotonic() - self.since, 1)}
 
 
 def pieces_of(file, start=0, end=None):

@@ -56,8 +56,25 @@ export class Status {
     const seconds = `${(passed / 1000).toFixed(1)} s`;
     if (oldest.what === "edit") {
       this.ask(seconds);
+    } else if (oldest.what === server.OPENING) {
+      this.askOpening(seconds);
     } else {
       this.write(`${oldest.what.startsWith("frame") ? "decoding" : "waiting for"} ${oldest.what}: ${seconds}`, null);
+    }
+  }
+
+  /** How much of a container was read of a stream that is opened. */
+  async askOpening(seconds) {
+    if (this.polling) return;
+    this.polling = true;
+    try {
+      const { opening } = await server.members("progress");
+      if (opening?.total) this.share(opening.what, opening.done / opening.total);
+      else this.write(`waiting for ${server.OPENING}: ${seconds}`, null);
+    } catch {
+      this.write(`waiting for ${server.OPENING}: ${seconds}`, null);
+    } finally {
+      this.polling = false;
     }
   }
 
