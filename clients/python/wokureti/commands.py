@@ -534,7 +534,7 @@ def add_compare(commands):
     )
     parser.add_argument("--jobs", type=int, default=0, metavar="N", help="with --decoder: streams at a time; as many as processors if missing")
     parser.add_argument("--junit", metavar="FILE", help="with --decoder: the results as JUnit has them")
-    parser.add_argument("--anyway", action="store_true", help="without --decoder: a file that ends in the middle or is damaged is no error")
+    parser.add_argument("--anyway", action="store_true", help="a file that ends in the middle or is damaged is no error")
     parser.add_argument("--png", metavar="DIR", help="writes the first two frames that differ, and their difference, as PNG")
     parser.add_argument("--tables", metavar="FILE", help="3012 bytes that replace the long tables of RFC 6386")
     parser.set_defaults(run=run_compare)
@@ -546,11 +546,13 @@ def run_decoder(given):
     found = []
     for result in decoders.results(given.one, given.decoder, given.jobs or len(os.sched_getaffinity(0)), given.tables):
         found.append(result)
-        print(f"{result.name}: {'; '.join(result.lines[:2]) or 'same'}", flush=True)
-    same = sum(result.is_same for result in found)
-    print(f"{same} of {len(found)} streams are the same")
+        print(f"{result.name}: {'; '.join([*(result.lines[:2] or ['same']), *result.damage])}", flush=True)
+    same, damaged = sum(result.is_same for result in found), sum(bool(result.damage) for result in found)
+    print(f"{same} of {len(found)} streams are the same" + (f"; {damaged} {'is damaged or ends' if damaged == 1 else 'are damaged or end'} in the middle" if damaged else ""))
     if given.junit is not None:
-        decoders.write_junit(given.junit, given.decoder, found)
+        decoders.write_junit(given.junit, given.decoder, found, given.anyway)
+    if damaged and not given.anyway:
+        return 2
     return 0 if same == len(found) else 1
 
 
