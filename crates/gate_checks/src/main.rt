@@ -5,7 +5,7 @@ use std::fs::File;
 use std::io::{self, Write};
 use std::process::ExitCode;
 use std::str::Utf8Error;
-use stream_checks::{CheckFault, Form, Unwatched, check};
+use stream_checks::{CheckFault, CheckedFile, Form, Unwatched, check};
 use stream_files::{IvfFault, ReadFault, ivf_read, read_all};
 use thiserror::Error;
 use vp8_tables::Tables;
@@ -39,8 +39,10 @@ fn report<O: Write>(rt: &HostRuntime, name: &str, output: &mut O) -> Result<(), 
         rt.alloc(),
         Form::Lines,
         &Tables::rfc(),
-        bytes.as_slice(),
-        &file,
+        CheckedFile {
+            bytes: bytes.as_slice(),
+            stream: &file,
+        },
         &mut Unwatched,
     )?;
     let damage = tally.damage;

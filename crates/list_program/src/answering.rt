@@ -30,20 +30,27 @@ pub enum Output {
     Details(Asked),
 }
 
+/// A file that is answered for: its bytes, and the long tables by which it is decoded.
+#[derive(Clone, Copy)]
+pub struct InputFile<'a> {
+    pub bytes: &'a RcSlice<u8>,
+    pub tables: &'a Tables,
+}
+
 /// Writes an output of a file and returns the exit status.
 fn write_output<O: Write, E: Write, G: Watch>(
     alloc: Global,
     output: Output,
-    tables: &Tables,
-    bytes: &RcSlice<u8>,
+    file: InputFile<'_>,
     w: &mut O,
     errors: &mut E,
     progress: &mut G,
 ) -> Result<u8, Fault<'static>>
-    ensures answered { IfOk result (λ status. IsAnswered output tables.now (rc_slice_items bytes.now) status (O.contents w.old) (O.contents w.new)) }
-    ensures fault { IfErr result (IsAnswerFault output tables.now (rc_slice_items bytes.now) (O.contents w.old) (O.contents w.new)) }
+    ensures answered { IfOk result (λ status. IsAnswered output file.entry.tables.now (rc_slice_items file.entry.bytes.now) status (O.contents w.old) (O.contents w.new)) }
+    ensures fault { IfErr result (IsAnswerFault output file.entry.tables.now (rc_slice_items file.entry.bytes.now) (O.contents w.old) (O.contents w.new)) }
     ensures status { IfOk result (λ status. status ≤ 1) }
 {
+    let InputFile { bytes, tables } = file;
     match output {
         Output::List => {
             list_to(alloc, bytes, w)?;
@@ -62,7 +69,7 @@ fn write_output<O: Write, E: Write, G: Watch>(
     }
 }
 
-/// Writes an output of the bytes of a file through a buffer, flushes it, and returns the exit status: 1
+/// Writes an output of a file through a buffer, flushes it, and returns the exit status: 1
 /// for damage that a check finds, for a note if it is strict, and for a packet without a frame in the
 /// list of hashes; else 0. Lines that name such packets go to `errors`.
 ///
@@ -72,18 +79,17 @@ fn write_output<O: Write, E: Write, G: Watch>(
 pub fn answer_to<W: Write + Drop, E: Write, G: Watch>(
     alloc: Global,
     output: Output,
-    tables: &Tables,
-    bytes: &RcSlice<u8>,
+    file: InputFile<'_>,
     w: &mut BufWriter<W>,
     errors: &mut E,
     progress: &mut G,
 ) -> Result<u8, Fault<'static>>
-    ensures answered { IfOk result (λ status. IsAnswered output tables.now (rc_slice_items bytes.now) status (writer_contents W.contents w.old) (writer_contents W.contents w.new)) }
+    ensures answered { IfOk result (λ status. IsAnswered output file.entry.tables.now (rc_slice_items file.entry.bytes.now) status (writer_contents W.contents w.old) (writer_contents W.contents w.new)) }
     ensures flushed { OnOk result (writer_buffer w.new ≡ []) }
-    ensures fault { IfErr result (IsAnswerFault output tables.now (rc_slice_items bytes.now) (writer_contents W.contents w.old) (writer_contents W.contents w.new)) }
+    ensures fault { IfErr result (IsAnswerFault output file.entry.tables.now (rc_slice_items file.entry.bytes.now) (writer_contents W.contents w.old) (writer_contents W.contents w.new)) }
     ensures status { IfOk result (λ status. status ≤ 1) }
 {
-    let status = write_output(alloc, output, tables, bytes, w, errors, progress)?;
+    let status = write_output(alloc, output, file, w, errors, progress)?;
     let Ok(()) = w.flush() else {
         return Err(Fault::CannotWrite);
     };

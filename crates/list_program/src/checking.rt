@@ -7,7 +7,7 @@ use crate::fault::Fault;
 use std::alloc::Global;
 use std::io::Write;
 use std::rc::RcSlice;
-use stream_checks::{CheckFault, Form, Tally, Watch, check};
+use stream_checks::{CheckFault, CheckedFile, Form, Tally, Watch, check};
 use stream_files::ivf_share;
 use vp8_tables::Tables;
 
@@ -56,8 +56,10 @@ pub fn check_to<O: Write, G: Watch>(
         alloc,
         checking.form,
         tables,
-        bytes.as_slice(),
-        &file,
+        CheckedFile {
+            bytes: bytes.as_slice(),
+            stream: &file,
+        },
         progress,
     ) {
         Ok(tally) => tally,

@@ -13,7 +13,7 @@ mod program;
 mod progress_line;
 mod ranges;
 
-pub use answering::{Output, answer_to};
+pub use answering::{InputFile, Output, answer_to};
 pub use checking::{Checking, check_to};
 pub use details::{Asked, details_to};
 pub use fault::Fault;

@@ -2,7 +2,7 @@
 ghost use Rattle.std.specs.Prelude.{◌≡◌, ◌≤◌, [], IfOk};
 ghost use Rattle.std.specs.Io.Buffered.{writer_buffer};
 
-use crate::answering::answer_to;
+use crate::answering::{InputFile, answer_to};
 use crate::arguments::{Arguments, parse};
 use crate::fault::Fault;
 use command_lines::{
@@ -47,7 +47,11 @@ fn answer_given<'a, R: NamedFiles + AllocGlobal, I: Read, O: Write + Drop, E: Wr
     let tables = read_tables(rt, given.tables)?;
     let bytes = read_input(rt, given.stream, input)?;
     let bytes = RcSlice::from_vec(bytes).map_err(|_| Fault::NoMemory)?;
-    match answer_to(rt.alloc(), kind, &tables, &bytes, output, errors, progress) {
+    let file = InputFile {
+        bytes: &bytes,
+        tables: &tables,
+    };
+    match answer_to(rt.alloc(), kind, file, output, errors, progress) {
         Err(Fault::Input(fault)) => {
             Ok(tell_input(given.stream, bytes.as_slice(), fault, errors))
         }

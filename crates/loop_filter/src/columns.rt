@@ -3,7 +3,7 @@
 ghost use Rattle.std.specs.Prelude.{◌≡◌, ℕ, ◌+◌, ◌*◌, ◌<◌, ◌≤◌, [], ◌∷◌, ◌++◌, length, slice_index};
 ghost use Rattle.std.specs.Simd.Lanes.{put_chunk};
 ghost use Rattle.loop_filter.specs.Edges.{line_in};
-ghost use Rattle.loop_filter.specs.Lanes.{line_at, HoldLines, column_of, row_of, eight_from, row_in_pairs, rows_put};
+ghost use Rattle.loop_filter.specs.Lanes.{line_at, HoldLines, column_of, row_of, eight_from, row_in_pairs, rows_put, vectors};
 
 use crate::taps::Taps;
 use std::simd::prelude::*;
@@ -18,28 +18,20 @@ fn interleaved(a: u8x8, b: u8x8) -> u8x16
     a.shuffle(b, [0, 8, 1, 9, 2, 10, 3, 11, 4, 12, 5, 13, 6, 14, 7, 15])
 }
 
-/// Transposes sixteen lines of eight samples: vector `w0` holds lines 0 and 8, interleaved, and so
-/// on.
+/// Transposes sixteen lines of eight samples: the first vector holds lines 0 and 8, interleaved, the
+/// second lines 1 and 9, and so on.
 #[inline(always)]
-pub fn columns(
-    w0: u8x16,
-    w1: u8x16,
-    w2: u8x16,
-    w3: u8x16,
-    w4: u8x16,
-    w5: u8x16,
-    w6: u8x16,
-    w7: u8x16,
-) -> Taps
-    ensures p3 { result.p3 ≡ column_of 0 (w0 ∷ w1 ∷ w2 ∷ w3 ∷ w4 ∷ w5 ∷ w6 ∷ w7 ∷ []) }
-    ensures p2 { result.p2 ≡ column_of 1 (w0 ∷ w1 ∷ w2 ∷ w3 ∷ w4 ∷ w5 ∷ w6 ∷ w7 ∷ []) }
-    ensures p1 { result.p1 ≡ column_of 2 (w0 ∷ w1 ∷ w2 ∷ w3 ∷ w4 ∷ w5 ∷ w6 ∷ w7 ∷ []) }
-    ensures p0 { result.p0 ≡ column_of 3 (w0 ∷ w1 ∷ w2 ∷ w3 ∷ w4 ∷ w5 ∷ w6 ∷ w7 ∷ []) }
-    ensures q0 { result.q0 ≡ column_of 4 (w0 ∷ w1 ∷ w2 ∷ w3 ∷ w4 ∷ w5 ∷ w6 ∷ w7 ∷ []) }
-    ensures q1 { result.q1 ≡ column_of 5 (w0 ∷ w1 ∷ w2 ∷ w3 ∷ w4 ∷ w5 ∷ w6 ∷ w7 ∷ []) }
-    ensures q2 { result.q2 ≡ column_of 6 (w0 ∷ w1 ∷ w2 ∷ w3 ∷ w4 ∷ w5 ∷ w6 ∷ w7 ∷ []) }
-    ensures q3 { result.q3 ≡ column_of 7 (w0 ∷ w1 ∷ w2 ∷ w3 ∷ w4 ∷ w5 ∷ w6 ∷ w7 ∷ []) }
+pub fn columns(lines: (u8x16, u8x16, u8x16, u8x16, u8x16, u8x16, u8x16, u8x16)) -> Taps
+    ensures p3 { result.p3 ≡ column_of 0 (lines.0 ∷ lines.1 ∷ lines.2 ∷ lines.3 ∷ lines.4 ∷ lines.5 ∷ lines.6 ∷ lines.7 ∷ []) }
+    ensures p2 { result.p2 ≡ column_of 1 (lines.0 ∷ lines.1 ∷ lines.2 ∷ lines.3 ∷ lines.4 ∷ lines.5 ∷ lines.6 ∷ lines.7 ∷ []) }
+    ensures p1 { result.p1 ≡ column_of 2 (lines.0 ∷ lines.1 ∷ lines.2 ∷ lines.3 ∷ lines.4 ∷ lines.5 ∷ lines.6 ∷ lines.7 ∷ []) }
+    ensures p0 { result.p0 ≡ column_of 3 (lines.0 ∷ lines.1 ∷ lines.2 ∷ lines.3 ∷ lines.4 ∷ lines.5 ∷ lines.6 ∷ lines.7 ∷ []) }
+    ensures q0 { result.q0 ≡ column_of 4 (lines.0 ∷ lines.1 ∷ lines.2 ∷ lines.3 ∷ lines.4 ∷ lines.5 ∷ lines.6 ∷ lines.7 ∷ []) }
+    ensures q1 { result.q1 ≡ column_of 5 (lines.0 ∷ lines.1 ∷ lines.2 ∷ lines.3 ∷ lines.4 ∷ lines.5 ∷ lines.6 ∷ lines.7 ∷ []) }
+    ensures q2 { result.q2 ≡ column_of 6 (lines.0 ∷ lines.1 ∷ lines.2 ∷ lines.3 ∷ lines.4 ∷ lines.5 ∷ lines.6 ∷ lines.7 ∷ []) }
+    ensures q3 { result.q3 ≡ column_of 7 (lines.0 ∷ lines.1 ∷ lines.2 ∷ lines.3 ∷ lines.4 ∷ lines.5 ∷ lines.6 ∷ lines.7 ∷ []) }
 {
+    let (w0, w1, w2, w3, w4, w5, w6, w7) = lines;
     let (left04, right04) = w0.interleave(w4);
     let (left15, right15) = w1.interleave(w5);
     let (left26, right26) = w2.interleave(w6);
@@ -66,29 +58,20 @@ pub fn columns(
 
 /// Transposes sixteen lines back: each vector holds two of them, one after the other.
 #[inline(always)]
-pub fn row_pairs(
-    p3: u8x16,
-    p2: u8x16,
-    p1: u8x16,
-    p0: u8x16,
-    q0: u8x16,
-    q1: u8x16,
-    q2: u8x16,
-    q3: u8x16,
-) -> (u8x16, u8x16, u8x16, u8x16, u8x16, u8x16, u8x16, u8x16)
-    ensures r0 { result.0 ≡ row_of 0 (p3 ∷ p2 ∷ p1 ∷ p0 ∷ q0 ∷ q1 ∷ q2 ∷ q3 ∷ []) ++ row_of 1 (p3 ∷ p2 ∷ p1 ∷ p0 ∷ q0 ∷ q1 ∷ q2 ∷ q3 ∷ []) }
-    ensures r2 { result.1 ≡ row_of 2 (p3 ∷ p2 ∷ p1 ∷ p0 ∷ q0 ∷ q1 ∷ q2 ∷ q3 ∷ []) ++ row_of 3 (p3 ∷ p2 ∷ p1 ∷ p0 ∷ q0 ∷ q1 ∷ q2 ∷ q3 ∷ []) }
-    ensures r4 { result.2 ≡ row_of 4 (p3 ∷ p2 ∷ p1 ∷ p0 ∷ q0 ∷ q1 ∷ q2 ∷ q3 ∷ []) ++ row_of 5 (p3 ∷ p2 ∷ p1 ∷ p0 ∷ q0 ∷ q1 ∷ q2 ∷ q3 ∷ []) }
-    ensures r6 { result.3 ≡ row_of 6 (p3 ∷ p2 ∷ p1 ∷ p0 ∷ q0 ∷ q1 ∷ q2 ∷ q3 ∷ []) ++ row_of 7 (p3 ∷ p2 ∷ p1 ∷ p0 ∷ q0 ∷ q1 ∷ q2 ∷ q3 ∷ []) }
-    ensures r8 { result.4 ≡ row_of 8 (p3 ∷ p2 ∷ p1 ∷ p0 ∷ q0 ∷ q1 ∷ q2 ∷ q3 ∷ []) ++ row_of 9 (p3 ∷ p2 ∷ p1 ∷ p0 ∷ q0 ∷ q1 ∷ q2 ∷ q3 ∷ []) }
-    ensures r10 { result.5 ≡ row_of 10 (p3 ∷ p2 ∷ p1 ∷ p0 ∷ q0 ∷ q1 ∷ q2 ∷ q3 ∷ []) ++ row_of 11 (p3 ∷ p2 ∷ p1 ∷ p0 ∷ q0 ∷ q1 ∷ q2 ∷ q3 ∷ []) }
-    ensures r12 { result.6 ≡ row_of 12 (p3 ∷ p2 ∷ p1 ∷ p0 ∷ q0 ∷ q1 ∷ q2 ∷ q3 ∷ []) ++ row_of 13 (p3 ∷ p2 ∷ p1 ∷ p0 ∷ q0 ∷ q1 ∷ q2 ∷ q3 ∷ []) }
-    ensures r14 { result.7 ≡ row_of 14 (p3 ∷ p2 ∷ p1 ∷ p0 ∷ q0 ∷ q1 ∷ q2 ∷ q3 ∷ []) ++ row_of 15 (p3 ∷ p2 ∷ p1 ∷ p0 ∷ q0 ∷ q1 ∷ q2 ∷ q3 ∷ []) }
+pub fn row_pairs(taps: Taps) -> (u8x16, u8x16, u8x16, u8x16, u8x16, u8x16, u8x16, u8x16)
+    ensures r0 { result.0 ≡ row_of 0 (vectors taps) ++ row_of 1 (vectors taps) }
+    ensures r2 { result.1 ≡ row_of 2 (vectors taps) ++ row_of 3 (vectors taps) }
+    ensures r4 { result.2 ≡ row_of 4 (vectors taps) ++ row_of 5 (vectors taps) }
+    ensures r6 { result.3 ≡ row_of 6 (vectors taps) ++ row_of 7 (vectors taps) }
+    ensures r8 { result.4 ≡ row_of 8 (vectors taps) ++ row_of 9 (vectors taps) }
+    ensures r10 { result.5 ≡ row_of 10 (vectors taps) ++ row_of 11 (vectors taps) }
+    ensures r12 { result.6 ≡ row_of 12 (vectors taps) ++ row_of 13 (vectors taps) }
+    ensures r14 { result.7 ≡ row_of 14 (vectors taps) ++ row_of 15 (vectors taps) }
 {
-    let (upper04, lower04) = p3.interleave(q0);
-    let (upper15, lower15) = p2.interleave(q1);
-    let (upper26, lower26) = p1.interleave(q2);
-    let (upper37, lower37) = p0.interleave(q3);
+    let (upper04, lower04) = taps.p3.interleave(taps.q0);
+    let (upper15, lower15) = taps.p2.interleave(taps.q1);
+    let (upper26, lower26) = taps.p1.interleave(taps.q2);
+    let (upper37, lower37) = taps.p0.interleave(taps.q3);
     let (even0, even4) = upper04.interleave(upper26);
     let (even8, even12) = lower04.interleave(lower26);
     let (odd0, odd4) = upper15.interleave(upper37);
@@ -148,8 +131,7 @@ pub fn load_lines(a: &[u8], b: &[u8], a_start: usize, b_start: usize, stride: us
     ensures a { (i : ℕ) → i < 8 → line_at result i ≡ line_in a.now (a_start + i * stride) 1 }
     ensures b { (i : ℕ) → i < 8 → line_at result (8 + i) ≡ line_in b.now (b_start + i * stride) 1 }
 {
-    let (w0, w1, w2, w3, w4, w5, w6, w7) = load_pairs(a, b, a_start, b_start, stride);
-    columns(w0, w1, w2, w3, w4, w5, w6, w7)
+    columns(load_pairs(a, b, a_start, b_start, stride))
 }
 
 /// Stores two lines of one vector, the second `stride` samples after the first.
@@ -169,16 +151,13 @@ pub fn store_lines(
     samples: &mut [u8],
     start: usize,
     stride: usize,
-    r0: u8x16,
-    r2: u8x16,
-    r4: u8x16,
-    r6: u8x16,
+    rows: (u8x16, u8x16, u8x16, u8x16),
 )
     requires room { start + 7 * stride + 8 ≤ length samples.old }
-    ensures { samples.new ≡ rows_put samples.old start stride (row_in_pairs (r0 ∷ r2 ∷ r4 ∷ r6 ∷ [])) 8 }
+    ensures { samples.new ≡ rows_put samples.old start stride (row_in_pairs (rows.0 ∷ rows.1 ∷ rows.2 ∷ rows.3 ∷ [])) 8 }
 {
-    store_pair(samples, start, stride, r0);
-    store_pair(samples, start + 2 * stride, stride, r2);
-    store_pair(samples, start + 4 * stride, stride, r4);
-    store_pair(samples, start + 6 * stride, stride, r6);
+    store_pair(samples, start, stride, rows.0);
+    store_pair(samples, start + 2 * stride, stride, rows.1);
+    store_pair(samples, start + 4 * stride, stride, rows.2);
+    store_pair(samples, start + 6 * stride, stride, rows.3);
 }

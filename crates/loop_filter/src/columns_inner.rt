@@ -80,9 +80,9 @@ fn store_block(halves: WideTaps, samples: &mut [u8], start: usize, stride: usize
     requires room { start + 15 * stride + 16 ≤ length samples.old }
     ensures { samples.new ≡ rows_put samples.old start stride (λ i. row_of i (wide_vectors halves) ++ row_of (16 + i) (wide_vectors halves)) 16 }
 {
-    let (r0, r2, r4, r6, r8, r10, r12, r14) = transposed(
+    let (r0, r2, r4, r6, r8, r10, r12, r14) = transposed((
         halves.p3, halves.p2, halves.p1, halves.p0, halves.q0, halves.q1, halves.q2, halves.q3,
-    );
+    ));
     store_two(samples, start, stride, r0);
     store_two(samples, start + 2 * stride, stride, r2);
     store_two(samples, start + 4 * stride, stride, r4);

@@ -72,11 +72,9 @@ pub fn store_columns(taps: Taps, samples: &mut [u8], start: usize, stride: usize
     requires room { start + 15 * stride + 8 ≤ length samples.old }
     ensures { samples.new ≡ rows_put samples.old start stride (λ i. row_of i (vectors taps)) 16 }
 {
-    let (r0, r2, r4, r6, r8, r10, r12, r14) = row_pairs(
-        taps.p3, taps.p2, taps.p1, taps.p0, taps.q0, taps.q1, taps.q2, taps.q3,
-    );
-    store_lines(samples, start, stride, r0, r2, r4, r6);
-    store_lines(samples, start + 8 * stride, stride, r8, r10, r12, r14);
+    let (r0, r2, r4, r6, r8, r10, r12, r14) = row_pairs(taps);
+    store_lines(samples, start, stride, (r0, r2, r4, r6));
+    store_lines(samples, start + 8 * stride, stride, (r8, r10, r12, r14));
 }
 
 /// Filters the 16 columns across an edge between rows.

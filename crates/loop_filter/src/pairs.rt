@@ -138,9 +138,7 @@ pub fn store_columns(taps: Taps, u: &mut [u8], v: &mut [u8], start: usize, strid
     ensures u { u.new ≡ rows_put u.old start stride (λ i. row_of i (vectors taps)) 8 }
     ensures v { v.new ≡ rows_put v.old start stride (λ i. row_of (8 + i) (vectors taps)) 8 }
 {
-    let (u0, u2, u4, u6, v0, v2, v4, v6) = row_pairs(
-        taps.p3, taps.p2, taps.p1, taps.p0, taps.q0, taps.q1, taps.q2, taps.q3,
-    );
-    store_lines(u, start, stride, u0, u2, u4, u6);
-    store_lines(v, start, stride, v0, v2, v4, v6);
+    let (u0, u2, u4, u6, v0, v2, v4, v6) = row_pairs(taps);
+    store_lines(u, start, stride, (u0, u2, u4, u6));
+    store_lines(v, start, stride, (v0, v2, v4, v6));
 }

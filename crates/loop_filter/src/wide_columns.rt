@@ -41,24 +41,18 @@ fn interleaved(a: u8x32, b: u8x32) -> (u8x32, u8x32)
 /// So vectors of interleaved lines become columns, and columns become pairs of lines.
 #[inline(always)]
 pub fn transposed(
-    w0: u8x32,
-    w1: u8x32,
-    w2: u8x32,
-    w3: u8x32,
-    w4: u8x32,
-    w5: u8x32,
-    w6: u8x32,
-    w7: u8x32,
+    lines: (u8x32, u8x32, u8x32, u8x32, u8x32, u8x32, u8x32, u8x32),
 ) -> (u8x32, u8x32, u8x32, u8x32, u8x32, u8x32, u8x32, u8x32)
-    ensures v0 { result.0 ≡ wide_column_of 0 (w0 ∷ w1 ∷ w2 ∷ w3 ∷ w4 ∷ w5 ∷ w6 ∷ w7 ∷ []) }
-    ensures v1 { result.1 ≡ wide_column_of 1 (w0 ∷ w1 ∷ w2 ∷ w3 ∷ w4 ∷ w5 ∷ w6 ∷ w7 ∷ []) }
-    ensures v2 { result.2 ≡ wide_column_of 2 (w0 ∷ w1 ∷ w2 ∷ w3 ∷ w4 ∷ w5 ∷ w6 ∷ w7 ∷ []) }
-    ensures v3 { result.3 ≡ wide_column_of 3 (w0 ∷ w1 ∷ w2 ∷ w3 ∷ w4 ∷ w5 ∷ w6 ∷ w7 ∷ []) }
-    ensures v4 { result.4 ≡ wide_column_of 4 (w0 ∷ w1 ∷ w2 ∷ w3 ∷ w4 ∷ w5 ∷ w6 ∷ w7 ∷ []) }
-    ensures v5 { result.5 ≡ wide_column_of 5 (w0 ∷ w1 ∷ w2 ∷ w3 ∷ w4 ∷ w5 ∷ w6 ∷ w7 ∷ []) }
-    ensures v6 { result.6 ≡ wide_column_of 6 (w0 ∷ w1 ∷ w2 ∷ w3 ∷ w4 ∷ w5 ∷ w6 ∷ w7 ∷ []) }
-    ensures v7 { result.7 ≡ wide_column_of 7 (w0 ∷ w1 ∷ w2 ∷ w3 ∷ w4 ∷ w5 ∷ w6 ∷ w7 ∷ []) }
+    ensures v0 { result.0 ≡ wide_column_of 0 (lines.0 ∷ lines.1 ∷ lines.2 ∷ lines.3 ∷ lines.4 ∷ lines.5 ∷ lines.6 ∷ lines.7 ∷ []) }
+    ensures v1 { result.1 ≡ wide_column_of 1 (lines.0 ∷ lines.1 ∷ lines.2 ∷ lines.3 ∷ lines.4 ∷ lines.5 ∷ lines.6 ∷ lines.7 ∷ []) }
+    ensures v2 { result.2 ≡ wide_column_of 2 (lines.0 ∷ lines.1 ∷ lines.2 ∷ lines.3 ∷ lines.4 ∷ lines.5 ∷ lines.6 ∷ lines.7 ∷ []) }
+    ensures v3 { result.3 ≡ wide_column_of 3 (lines.0 ∷ lines.1 ∷ lines.2 ∷ lines.3 ∷ lines.4 ∷ lines.5 ∷ lines.6 ∷ lines.7 ∷ []) }
+    ensures v4 { result.4 ≡ wide_column_of 4 (lines.0 ∷ lines.1 ∷ lines.2 ∷ lines.3 ∷ lines.4 ∷ lines.5 ∷ lines.6 ∷ lines.7 ∷ []) }
+    ensures v5 { result.5 ≡ wide_column_of 5 (lines.0 ∷ lines.1 ∷ lines.2 ∷ lines.3 ∷ lines.4 ∷ lines.5 ∷ lines.6 ∷ lines.7 ∷ []) }
+    ensures v6 { result.6 ≡ wide_column_of 6 (lines.0 ∷ lines.1 ∷ lines.2 ∷ lines.3 ∷ lines.4 ∷ lines.5 ∷ lines.6 ∷ lines.7 ∷ []) }
+    ensures v7 { result.7 ≡ wide_column_of 7 (lines.0 ∷ lines.1 ∷ lines.2 ∷ lines.3 ∷ lines.4 ∷ lines.5 ∷ lines.6 ∷ lines.7 ∷ []) }
 {
+    let (w0, w1, w2, w3, w4, w5, w6, w7) = lines;
     let (low04, high04) = interleaved(w0, w4);
     let (low15, high15) = interleaved(w1, w5);
     let (low26, high26) = interleaved(w2, w6);
@@ -96,7 +90,7 @@ pub fn load_columns(y: &[u8], u: &[u8], v: &[u8], at: Starts) -> WideTaps
     let w5 = joined(y5, c5);
     let w6 = joined(y6, c6);
     let w7 = joined(y7, c7);
-    let (p3, p2, p1, p0, q0, q1, q2, q3) = transposed(w0, w1, w2, w3, w4, w5, w6, w7);
+    let (p3, p2, p1, p0, q0, q1, q2, q3) = transposed((w0, w1, w2, w3, w4, w5, w6, w7));
     WideTaps {
         p3,
         p2,
@@ -119,9 +113,9 @@ pub fn store_columns(taps: WideTaps, y: &mut [u8], u: &mut [u8], v: &mut [u8], a
     ensures u { u.new ≡ rows_put u.old at.chroma at.chroma_stride (λ i. row_of (16 + i) (wide_vectors taps)) 8 }
     ensures v { v.new ≡ rows_put v.old at.chroma at.chroma_stride (λ i. row_of (24 + i) (wide_vectors taps)) 8 }
 {
-    let (r0, r2, r4, r6, r8, r10, r12, r14) = transposed(
+    let (r0, r2, r4, r6, r8, r10, r12, r14) = transposed((
         taps.p3, taps.p2, taps.p1, taps.p0, taps.q0, taps.q1, taps.q2, taps.q3,
-    );
+    ));
     let (y0, u0) = split(r0);
     let (y2, u2) = split(r2);
     let (y4, u4) = split(r4);
@@ -130,9 +124,9 @@ pub fn store_columns(taps: WideTaps, y: &mut [u8], u: &mut [u8], v: &mut [u8], a
     let (y10, v2) = split(r10);
     let (y12, v4) = split(r12);
     let (y14, v6) = split(r14);
-    store_lines(y, at.luma, at.luma_stride, y0, y2, y4, y6);
+    store_lines(y, at.luma, at.luma_stride, (y0, y2, y4, y6));
     let lower = at.luma + 8 * at.luma_stride;
-    store_lines(y, lower, at.luma_stride, y8, y10, y12, y14);
-    store_lines(u, at.chroma, at.chroma_stride, u0, u2, u4, u6);
-    store_lines(v, at.chroma, at.chroma_stride, v0, v2, v4, v6);
+    store_lines(y, lower, at.luma_stride, (y8, y10, y12, y14));
+    store_lines(u, at.chroma, at.chroma_stride, (u0, u2, u4, u6));
+    store_lines(v, at.chroma, at.chroma_stride, (v0, v2, v4, v6));
 }

@@ -23,6 +23,13 @@ use std::io::Write;
 use stream_files::{Packet, Stream};
 use vp8_tables::Tables;
 
+/// An IVF file that is checked: its bytes, and the stream that was read from them.
+#[derive(Clone, Copy)]
+pub struct CheckedFile<'a> {
+    pub bytes: &'a [u8],
+    pub stream: &'a Stream,
+}
+
 /// What a check of packets counts: what is found at them, and the frames that are shown up to the last one.
 #[derive(Clone, Copy)]
 struct Checked {
@@ -79,19 +86,19 @@ pub fn check<W: Write, G: Watch>(
     alloc: Global,
     form: Form,
     tables: &Tables,
-    bytes: &[u8],
-    file: &Stream,
+    file: CheckedFile<'_>,
     progress: &mut G,
 ) -> Result<Tally, CheckFault>
-    requires { IsIvf bytes.now file.now }
-    ensures checked { IfOk result (λ tally. IsChecked form tables.now bytes.now file.now tally (W.contents w.old) (W.contents w.new)) }
-    ensures early { IfErr result (IsEarlyEnd form tables.now bytes.now file.now (W.contents w.old) (W.contents w.new)) }
+    requires { IsIvf file.bytes.now file.stream.now }
+    ensures checked { IfOk result (λ tally. IsChecked form tables.now file.entry.bytes.now file.entry.stream.now tally (W.contents w.old) (W.contents w.new)) }
+    ensures early { IfErr result (IsEarlyEnd form tables.now file.entry.bytes.now file.entry.stream.now (W.contents w.old) (W.contents w.new)) }
 {
-    let packets = file.packets.as_slice();
+    let CheckedFile { bytes, stream } = file;
+    let packets = stream.packets.as_slice();
     let Ok(pace) = pace_of(alloc, packets) else {
         return Err(CheckFault::NoMemory);
     };
-    let Ok(at_head) = write_head(w, form, bytes, file) else {
+    let Ok(at_head) = write_head(w, form, bytes, stream) else {
         return Err(CheckFault::Write);
     };
     let checker = Checker::new(alloc, form, pace, PacketsBefore::first(), Ok(None));
@@ -99,7 +106,7 @@ pub fn check<W: Write, G: Watch>(
         Ok(checked) => checked,
         Err(fault) => return Err(fault),
     };
-    let Ok(at_end) = write_cut(w, form, bytes, file) else {
+    let Ok(at_end) = write_cut(w, form, bytes, stream) else {
         return Err(CheckFault::Write);
     };
     let found = at_head.plus(checked.tally).plus(at_end);

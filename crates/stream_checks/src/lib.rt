@@ -23,7 +23,7 @@ mod texts;
 mod time_bases;
 
 pub use checker::Checker;
-pub use checking::check;
+pub use checking::{CheckedFile, check};
 pub use fault::CheckFault;
 pub use finding::{Finding, Spot, Tally, Trouble};
 pub use hashes::{HashFault, write_hashes};

@@ -18,7 +18,7 @@ pub returns-in-Err-clause-early : goal.returns-in-Err-clause-early
 returns-in-Err-clause-early g c =
     let form = c.args.form in
     let tables = c.args.tables.now in
-    let file = c.args.file.now in
+    let file = c.args.file.stream.now in
     let packets : List Packet = c.as_slice-packets.result.now in
     let same : packets ≡ file.packets = c.as_slice-packets.ensures in
     let at_first : Pace → PacketsBefore → Checker = λ pace position. record { form = form; pace = pace; position = position; reader = Ok None } in
@@ -28,7 +28,7 @@ returns-in-Err-clause-early g c =
     let w2 = g.W.Write.contents c.write_packets.new.w in
     let by_checker : IsPacketEnd form (packet_findings tables packets) w1 w2 c.in-Err.fault =
     subst (λ (checker : Checker). IsPacketEnd checker.form (findings_after tables checker packets) w1 w2 c.in-Err.fault) first c.in-Err.ensures.early in
-    early_whole c.in-Err.fault form tables c.args.bytes.now file _ w1 w2
+    early_whole c.in-Err.fault form tables c.args.file.bytes.now file _ w1 w2
     c.in-Ok-write_head.ensures.written
     (subst (λ (ps : List Packet). IsPacketEnd form (packet_findings tables ps) w1 w2 c.in-Err.fault) same by_checker)
 
@@ -36,7 +36,7 @@ pub returns-in-Ok-write_end-clause-checked : goal.returns-in-Ok-write_end-clause
 returns-in-Ok-write_end-clause-checked g c =
     let form = c.args.form in
     let tables = c.args.tables.now in
-    let file = c.args.file.now in
+    let file = c.args.file.stream.now in
     let packets : List Packet = c.as_slice-packets.result.now in
     let same : packets ≡ file.packets = c.as_slice-packets.ensures in
     let at_first : Pace → PacketsBefore → Checker = λ pace position. record { form = form; pace = pace; position = position; reader = Ok None } in
@@ -56,7 +56,7 @@ returns-in-Ok-write_end-clause-checked g c =
     let frames : c.in-Ok-write_packets.checked.frames ≡ frames_of packets = omega (arith, shown) in
     let ended : Appends w3 w4 (end_of form (length packets) (frames_of packets) total) =
     subst (λ (frames : ℕ). Appends w3 w4 (end_of form (length packets) frames total)) frames c.in-Ok-write_end.ensures in
-    checked_whole form tables c.args.bytes.now file _ w1 w2 w3 w4 c.in-Ok-write_head.at_head c.in-Ok-write_packets.checked.tally c.in-Ok-write_cut.at_end total
+    checked_whole form tables c.args.file.bytes.now file _ w1 w2 w3 w4 c.in-Ok-write_head.at_head c.in-Ok-write_packets.checked.tally c.in-Ok-write_cut.at_end total
     c.in-Ok-write_head.ensures.written
     (subst (λ (ps : List Packet). Appends w1 w2 (texts_of form (packet_findings tables ps))) same written)
     c.in-Ok-write_cut.ensures.written
