@@ -21,6 +21,8 @@ FILES = ("index.html", "style.css", "engine.js", "cuts.js", "editor.js", "pixels
 TARGET = "wasm64-unknown-unknown"
 CALLS = ("wk_version", "wk_open", "wk_open_bytes", "wk_close", "wk_frame", "wk_request", "wk_why", "wk_save", "wk_text", "wk_room", "wk_free")
 FEATURES = ["-msimd128", "-mbulk-memory"]
+# What rattle itself gives clang. Without these, passes of clang compile some correct modules wrongly.
+PASSES = ["-no-trap-after-noreturn", "-trap-unreachable", "-disable-machine-licm", "-disable-postra-machine-licm", "-sink-common-insts=false"]
 # A stack that is full ends the call, and writes over nothing.
 LINKING = ["-mwasm64", "--no-entry", "--gc-sections", "--strip-all", "--stack-first", "-z", "stack-size=1048576", *[f"--export={name}" for name in CALLS]]
 # What is said of the module's functions for the processor that it was made for.
@@ -55,7 +57,8 @@ def module(bitcode, room):
     """The bytes of the module in WebAssembly."""
     text, own, heap, made = (room / name for name in ("library.ll", "library.o", "heap.o", "library.wasm"))
     text.write_text(for_target(clang("-x", "ir", bitcode, "-S", "-emit-llvm", "-Xclang", "-disable-llvm-passes", "-o", "-")), encoding="utf-8")
-    clang(f"--target={TARGET}", "-O3", *FEATURES, "-x", "ir", "-c", text, "-o", own)
+    passes = [word for name in PASSES for word in ("-mllvm", name)]
+    clang(f"--target={TARGET}", "-O3", *FEATURES, *passes, "-x", "ir", "-c", text, "-o", own)
     clang(f"--target={TARGET}", "-O2", *FEATURES, "-nostdlib", "-ffreestanding", "-Wall", "-Wextra", "-Werror", "-c", PAGE / "heap.c", "-o", heap)
     clang(*LINKING, "-o", made, own, heap, name="wasm-ld")
     return made.read_bytes()
