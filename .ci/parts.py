@@ -3,8 +3,9 @@
 
     parts.py run FILE NAME COMMAND ..    runs a command, and adds what its processes took to FILE, in seconds: each of PARTS that rt starts, and the rest as NAME
     parts.py last FILE NAME COMMAND ..   the same; before the last line of the command it prints the minutes of each part and of all, and it ends with 1 if a run from
-                                         nothing took more than docs/proofs.md allows
+                                         nothing took more than docs/proofs.md allows and GATE_QUIET=1 says that nothing else ran on the machine
 
+Next to other work, also that of another virtual machine, the same check takes up to twice the processor time: so without GATE_QUIET the limit is only reported.
 rt does not say how long a check takes. So twice a second the processes below it are read from /proc, with what they had of the processor by then: the last half
 second of each is counted as the rest. All together is exact.
 """
@@ -120,8 +121,9 @@ def tell(file, proofs=PROOFS, here=None):
     print(f"gate: in all: {minutes:.1f} min of processor time", flush=True)
     most, count, model = LIMIT.search(pathlib.Path(proofs).read_text(encoding="utf-8")).groups()
     if any(one["anew"] for one in runs) and (here or machine()) == (int(count), model) and minutes > int(most):
-        print(f"gate: FAILED: a run from nothing takes more than {most} minutes of processor time on this machine", flush=True)
-        return 1
+        is_quiet = os.environ.get("GATE_QUIET") == "1"
+        print(f"gate: {'FAILED: ' if is_quiet else ''}a run from nothing took more than {most} minutes of processor time on this machine", flush=True)
+        return int(is_quiet)
     return 0
 
 
