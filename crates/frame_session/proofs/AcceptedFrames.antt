@@ -1,5 +1,5 @@
 -- Frames whose packets decoding accepts, by their outlines.
-use Rattle.std.proofs.Common.{◌≡◌, ℕ, suc, ◌+◌, ◌<◌, ◌==◌, Bool, true, false, List, [], length, slice_get, slice_index_or, Option, Some, None, Result, Ok, Err, refl, sym, ap, subst, ◌∙◌, arith, if◌then◌else◌}
+use Rattle.std.proofs.Common.{◌≡◌, ℕ, suc, ◌+◌, ◌<◌, ◌==◌, Bool, true, false, List, [], length, slice_get, slice_index_or, Option, Some, None, Ok, Err, refl, sym, ap, subst, ◌∙◌, arith, if◌then◌else◌}
 use Rattle.std.specs.Prelude.{IfSome, unwrap_or}
 use Rattle.std.proofs.lemmas.Bool.{eqb-true}
 use Rattle.std.proofs.lemmas.List.{length-map}
@@ -11,12 +11,11 @@ use Rattle.packet_edits.specs.Shown.{stream_of}
 use Rattle.pixel_planes.specs.Pictures.{PictureSamples}
 use Rattle.reference_frames.specs.declared.states.State.{State}
 use Rattle.stream_steps.specs.declared.broken.Broken.{Broken}
-use Rattle.stream_steps.specs.Decoding.{Outcome, outcomes}
-use Rattle.stream_refusals.specs.GoodPictures.{HasBytes, IsOfRun, PicturesAreOfRuns}
+use Rattle.stream_steps.specs.Decoding.{outcomes}
+use Rattle.stream_refusals.specs.GoodPictures.{IsOfRun, PicturesAreOfRuns}
 use Rattle.stream_refusals.specs.Refusals.{AcceptsAreByBytes, HaveNoCause, IsBreak, RefusalsAreByBytes, run_start}
 use Rattle.stream_steps.proofs.Breaks.{each_outcome}
 use Rattle.lossless_cuts.specs.declared.targets.Target.{Target}
-use Rattle.frame_session.specs.declared.refusal.Refusal.{Refusal}
 use Rattle.frame_session.specs.declared.refusal.Refusal.TheVariants as refusals
 use Rattle.frame_session.specs.Cached.{lists_of, store_at}
 use Rattle.frame_session.specs.Edits.{list_at}

@@ -1,4 +1,4 @@
-use Rattle.std.proofs.Common.{◌≡◌, ◌+◌, ◌<◌, ℕ, List, length, refl, ap, sym, subst, ◌∙◌, arith, rules}
+use Rattle.std.proofs.Common.{◌≡◌, ◌+◌, ◌<◌, ℕ, List, length, ap, sym, subst, arith, rules}
 use Rattle.std.proofs.lemmas.List.{length_push}
 use Rattle.lossless_cuts.specs.declared.targets.Target.{Target}
 use Rattle.frame_session.specs.Exported.{HasTarget, HaveTargets}
