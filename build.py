@@ -31,7 +31,7 @@ import tempfile
 
 sys.dont_write_bytecode = True
 from release import proving, wheel  # noqa: E402
-from release.sources import CPUS, DIST, PROGRAMS, TOP, Failed, digest, kit, needed, read_names, sum_of, version, write_names  # noqa: E402
+from release.sources import CPUS, DIST, PROGRAMS, TOP, Failed, digest, kit, kit_here, needed, read_names, sum_of, version, write_names  # noqa: E402
 
 BIN = TOP / "bin"
 STAMP = BIN / ".built"
@@ -78,11 +78,6 @@ def place(files, cpu, names):
         fresh.chmod(0o755)
         fresh.replace(BIN / name)
     write_names({**names, "processor": cpu}, STAMP)
-
-
-def kit_here():
-    """The line of the kit on the PATH."""
-    return subprocess.run(["rt", "version"], capture_output=True, text=True, check=False).stdout.strip()
 
 
 def check_kit():
@@ -167,42 +162,50 @@ def link_all(objects, folder):
     return made
 
 
+class Built:
+    """Whether rt ci has proved the crates here, and the folder for what is built of them, which the next call may be given too."""
+
+    is_there, folder = False, None
+
+
 @contextlib.contextmanager
-def objects_of(is_proved):
-    """The object files of both programs for both processors, as the proofs build them, and a folder for what is linked of them."""
-    if is_proved:
-        with tempfile.TemporaryDirectory() as folder:
-            yield proving.build_in(needed(), pathlib.Path(folder), CPUS, say), pathlib.Path(folder)
-    else:
+def room_to_build():
+    """The folder to build in."""
+    if not Built.is_there:
         with room_of() as room:
-            yield proving.build(needed(), room, CPUS, say), room
+            yield room
+    elif Built.folder:
+        Built.folder.mkdir(parents=True, exist_ok=True)
+        yield Built.folder
+    else:
+        with tempfile.TemporaryDirectory() as folder:
+            yield pathlib.Path(folder)
 
 
-def make_library(cpu, is_proved):
+@contextlib.contextmanager
+def objects_of():
+    """The object files of both programs for both processors, as the proofs build them, and a folder for what is linked of them."""
+    with room_to_build() as room:
+        yield (proving.build_in if Built.is_there else proving.build)(needed(), room, CPUS, say), room
+
+
+def make_library(cpu):
     """Builds the C library."""
     from release import library
 
     check_kit()
-    if is_proved:
-        with tempfile.TemporaryDirectory() as folder:
-            library.build(pathlib.Path(folder), BIN, cpu, True, say)
-    else:
-        with room_of() as room:
-            library.build(room, BIN, cpu, False, say)
+    with room_to_build() as room:
+        library.build(room, BIN, cpu, Built.is_there, say)
     return 0
 
 
-def make_web(is_proved):
-    """Builds the page without a server."""
+def make_web(cpu):
+    """Builds the page without a server. It is the same for each processor, and is made of the module of the library for this one."""
     from release import web
 
     check_kit()
-    if is_proved:
-        with tempfile.TemporaryDirectory() as folder:
-            web.build(pathlib.Path(folder), BIN / "web", True, say)
-    else:
-        with room_of() as room:
-            web.build(room, BIN / "web", False, say)
+    with room_to_build() as room:
+        web.build(room, BIN / "web", cpu, Built.is_there, say)
     return 0
 
 
@@ -220,7 +223,7 @@ def names_of(sources, objects, programs, libraries):
     return names
 
 
-def verify(is_proved):
+def verify():
     """Compares dist/ with the programs and the library of the current sources. Returns the exit status."""
     from release import library, linked
 
@@ -238,7 +241,7 @@ def verify(is_proved):
     if dist["kit"] != kit_here():
         say(f"dist/ was built with {dist['kit']}, and this machine has {kit_here()}: nothing is compared, since another compiler may make other bytes")
         return 0
-    with objects_of(is_proved) as (objects, room):
+    with objects_of() as (objects, room):
         for name, cpu in objects:
             if sum_of(objects[name, cpu]) != dist[f"object file of {name} for {cpu}"]:
                 raise Failed(f"the object file of {name} for {cpu} is not the one of dist/")
@@ -249,14 +252,14 @@ def verify(is_proved):
         for name, cpu in programs:
             if programs[name, cpu].read_bytes() != wheel.program(dist["version"], name, cpu):
                 raise Failed(f"{name} for {cpu} is not the one of dist/")
-        for (name, cpu), made in library.shared(room, CPUS, is_proved, say).items():
+        for (name, cpu), made in library.shared(room, CPUS, Built.is_there, say).items():
             if made.read_bytes() != wheel.program(dist["version"], name, cpu) or sum_of(made) != dist[f"{name} for {cpu}"]:
                 raise Failed(f"{name} for {cpu} is not the one of dist/")
     say("the four programs and two libraries of dist/ are, byte for byte, what the proved sources build")
     return 0
 
 
-def make_dist(is_proved):
+def make_dist():
     """Writes a new dist/."""
     from release import library, linked, manuals
 
@@ -266,10 +269,10 @@ def make_dist(is_proved):
     if linked.c_library() is None:
         raise Failed("the programs are linked with gcc and the C library's libc.a: install gcc and libc6-dev")
     check_kit()
-    with objects_of(is_proved) as (objects, room):
+    with objects_of() as (objects, room):
         sources = digest(needed())
         programs = link_all(objects, room)
-        libraries = library.shared(room, CPUS, is_proved, say)
+        libraries = library.shared(room, CPUS, Built.is_there, say)
         names = names_of(sources, objects, programs, libraries)
         texts = {name: subprocess.run([programs[name, CPUS[0]], "--help"], capture_output=True, text=True, check=True).stdout for name in PROGRAMS}
         fresh = DIST.with_name(".dist")
@@ -287,6 +290,7 @@ def main():
     parser = argparse.ArgumentParser(description=__doc__, formatter_class=argparse.RawDescriptionHelpFormatter)
     parser.add_argument("--cpu", default=os.environ.get("WOKURETI_CPU", ""), metavar="NAME", help="x86-64-v2 or x86-64-v3; also the variable WOKURETI_CPU")
     parser.add_argument("--built", action="store_true", help="with --verify, --dist, --library and --web: rt ci has proved the crates here")
+    parser.add_argument("--room", type=pathlib.Path, metavar="DIR", help="with --built: keeps what is built in this folder, and takes from it what an earlier call built there")
     what = parser.add_mutually_exclusive_group()
     what.add_argument("--ready", nargs="?", const="build.py", metavar="SCRIPT")
     what.add_argument("--verify", action="store_true")
@@ -294,15 +298,16 @@ def main():
     what.add_argument("--library", action="store_true")
     what.add_argument("--web", action="store_true")
     given = parser.parse_args()
+    Built.is_there, Built.folder = given.built, given.room
     try:
         if given.verify:
-            return verify(given.built)
+            return verify()
         if given.dist:
-            return make_dist(given.built)
+            return make_dist()
         if given.library:
-            return make_library(processor(given.cpu), given.built)
+            return make_library(processor(given.cpu))
         if given.web:
-            return make_web(given.built)
+            return make_web(processor(given.cpu))
         Speaker.name = given.ready or Speaker.name
         (ready if given.ready else build)(processor(given.cpu))
     except Failed as failed:

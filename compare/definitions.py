@@ -55,6 +55,8 @@ FIGURES = (
     ("docs/definitions.md", r"these ([\d,]+) files, ([\d,]+) lines with comments and imports", ("files", "lines")),
     ("docs/proofs.md", r"There are ([\d,]+) crates and ([\d,]+) wrong bodies", ("crates", "wrong bodies")),
     ("docs/proofs.md", r"every frame of ([\d,]+) clips", ("clips",)),
+    ("docs/proofs.md", r"longest chain has ([\d,]+) crates", ("chain",)),
+    ("docs/proofs.md", r"line of state_cache proves ([\d,]+) crates again", ("state_cache and above",)),
     ("conformance/README.md", r"([\d,]+) small streams that reach ([\d,]+) points", ("streams", "reached")),
     ("conformance/README.md", r"Streams of ([\d,]+) \| Frames of ([\d,]+) \| Points of ([\d,]+)", ("streams of libvpx", "frames of libvpx", "possible")),
     ("conformance/README.md", r"Streams of ([\d,]+) \| Points that only .* \| Clips of ([\d,]+)", ("streams", "clips")),
@@ -93,8 +95,29 @@ def counted(lines, code, files):
         "crates": sum(1 for path in (TOP / "crates").iterdir() if (path / "src").is_dir()),
         "wrong bodies": sum(1 for _ in (TOP / "crates").glob("*/must-fail/*.edit")),
         "clips": len(list((TOP / "crates/gate_clips/data").glob("*.ivf"))),
+        "chain": max(map(chain, crates_below())),
+        "state_cache and above": sum("state_cache" in under(name) for name in crates_below()),
         **conformance(),
     }
+
+
+@functools.lru_cache(maxsize=None)
+def crates_below():
+    """The crates of crates.txt, each with those of them that it uses."""
+    lines = [line.split(":") for line in (TOP / "crates.txt").read_text(encoding="utf-8").splitlines() if ":" in line and not line.startswith("#")]
+    names = {head.split()[0] for head, _ in lines}
+    return {head.split()[0]: [word for word in used.split() if word in names] for head, used in lines}
+
+
+def under(name):
+    """A crate and all that are below it."""
+    return {name}.union(*map(under, crates_below()[name]))
+
+
+@functools.lru_cache(maxsize=None)
+def chain(name):
+    """How many crates the longest chain up to a crate has."""
+    return 1 + max(map(chain, crates_below()[name]), default=0)
 
 
 def points():

@@ -1,13 +1,15 @@
 """Builds the C library of the crate wokureti_c: the archive that rt makes, and the shared library that gcc links of it."""
 
+import hashlib
 import os
 import pathlib
 import shutil
 import subprocess
 import sys
+import tempfile
 
 from . import proving
-from .sources import TOP, Failed, kit_folder, needed, version
+from .sources import TOP, Failed, digest, kit_folder, kit_here, needed, version
 
 CRATE = "wokureti_c"
 SHARED, ARCHIVE = "libwokureti.so.0", "libwokureti.a"
@@ -20,7 +22,7 @@ Libs: -L${{prefix}} -lwokureti
 Cflags: -I${{prefix}}
 """
 
-# find_package(wokureti 0.13 CONFIG) in CMake, with wokureti_DIR or CMAKE_PREFIX_PATH naming the folder.
+# find_package(wokureti X.Y CONFIG) in CMake, with wokureti_DIR or CMAKE_PREFIX_PATH naming the folder.
 CMAKE = """if(NOT TARGET wokureti::wokureti)
   add_library(wokureti::wokureti SHARED IMPORTED)
   set_target_properties(wokureti::wokureti PROPERTIES
@@ -42,32 +44,39 @@ endif()
 """
 
 
-def in_copy(room, is_proved, say, words):
-    """Runs a command in a copy of the library's crate, over the proved crates below it, and returns the copy. If `is_proved`, rt ci has proved these in this
-    checkout."""
-    crates = needed((CRATE,))
+def prove_below(room, crates, is_proved, say, log):
+    """Gives a copy of the library's crate the proved crates below it, and returns the copy. If `is_proved`, rt ci has proved them in this checkout."""
     folder = room / "library"
     proving.copy_files(crates, folder)
-    with open(room / "library.log", "w", encoding="utf-8") as log:
-        try:
-            if is_proved:
-                proving.take_libraries(set(crates) - {CRATE}, TOP, folder)
-                proving.run([sys.executable, TOP / "release/stamps.py", kit_folder() / "bin/rt", folder], folder, log)
-            else:
-                say(f"proving {len(crates)} crates: allow 40 minutes on 4 idle processors. rt's output goes to {room / 'library.log'}")
-                for made in (room / "common", room / "vp8serve"):
-                    proving.take_libraries(set(crates) - {CRATE}, made, folder)
-                proving.run(["rt", "all", "check", "--jobs", str(proving.jobs())], folder, log)
-            proving.run(words, folder / "crates" / CRATE, log)
-        except Failed as failed:
-            text = (room / "library.log").read_text(encoding="utf-8", errors="replace")
-            raise Failed(f"{text[-2000:]}no library was built: {failed}") from None
+    if is_proved:
+        proving.take_libraries(set(crates) - {CRATE}, TOP, folder)
+        return folder / "crates" / CRATE
+    say(f"proving {len(crates)} crates: allow 40 minutes on 4 idle processors. rt's output goes to {room / 'library.log'}")
+    for made in (room / "common", room / "vp8serve"):
+        proving.take_libraries(set(crates) - {CRATE}, made, folder)
+    proving.run(["rt", "all", "check", "--jobs", str(proving.jobs())], folder, log)
     return folder / "crates" / CRATE
 
 
-def archive(room, cpu, is_proved, say):
-    """The archive of the library for a processor."""
-    return in_copy(room, is_proved, say, ["rt", "lib", "--cpu", cpu]) / "out" / f"lib{CRATE}.a"
+def compiled(room, cpu, is_proved, say):
+    """The archive of the library for a processor, and the LLVM module that it is compiled from: those in `room`, if they were built there of these sources."""
+    crates = needed((CRATE,))
+    stem = f"{CRATE}-{cpu}-{hashlib.sha256(f'{digest(crates)} {kit_here()}'.encode()).hexdigest()[:16]}"
+    archive, module = room / f"{stem}.a", room / f"{stem}.bc"
+    if archive.is_file() and module.is_file():
+        return archive, module
+    for old in room.glob(f"{CRATE}-{cpu}-*"):
+        old.unlink()
+    with open(room / "library.log", "w", encoding="utf-8") as log, tempfile.TemporaryDirectory(dir=room) as fresh:
+        try:
+            folder = prove_below(room, crates, is_proved, say, log)
+            proving.run([sys.executable, TOP / "release/archive.py", kit_folder() / "bin/rt", folder, cpu, f"{fresh}/a", f"{fresh}/bc"], folder, log)
+        except Failed as failed:
+            text = (room / "library.log").read_text(encoding="utf-8", errors="replace")
+            raise Failed(f"{text[-2000:]}no library was built: {failed}") from None
+        os.replace(f"{fresh}/bc", module)
+        os.replace(f"{fresh}/a", archive)
+    return archive, module
 
 
 def ran(*words):
@@ -89,7 +98,7 @@ def shared(room, cpus, is_proved, say):
     for cpu in cpus:
         say(f"building {SHARED} for {cpu}")
         found[SHARED, cpu] = pathlib.Path(room) / f"{SHARED}-{cpu}"
-        link(archive(pathlib.Path(room), cpu, is_proved, say), found[SHARED, cpu])
+        link(compiled(pathlib.Path(room), cpu, is_proved, say)[0], found[SHARED, cpu])
     return found
 
 
@@ -98,7 +107,7 @@ def build(room, folder, cpu, is_proved, say):
     for program in ("gcc", "ar"):
         if shutil.which(program) is None:
             raise Failed(f"the library is linked with {program}: install gcc and binutils")
-    made, heap = archive(room, cpu, is_proved, say), kit_folder() / "c/liblibc_c.a"
+    made, heap = compiled(room, cpu, is_proved, say)[0], kit_folder() / "c/liblibc_c.a"
     fresh = pathlib.Path(room) / "linked"
     shutil.rmtree(fresh, ignore_errors=True)
     fresh.mkdir()

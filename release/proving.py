@@ -7,8 +7,10 @@ import subprocess
 import sys
 import time
 
-from .sources import PARTS, PROGRAMS, TOP, Failed, below, files_of, kit_folder
+from .sources import CPUS, PARTS, PROGRAMS, TOP, Failed, below, files_of, kit_folder
 
+# The processor for which `rt ci` builds programs: the kit's default.
+CI_CPU = CPUS[0]
 # The crates above this one are few and large, and most of them stand in two chains, one for each program.
 NARROW = "reference_frames"
 
@@ -153,11 +155,32 @@ def build(crates, room, cpus, say):
         work.log.close()
 
 
+def made_by_ci(program, room):
+    """The object file that `rt ci` has built in this checkout of a program, for the processor that is the kit's default, if there is one: rt links the program next to it
+    of it, byte for byte. There is none if rt kept the program from an earlier run."""
+    made, kit = TOP / "crates" / program / "out" / f"{program}.o", kit_folder()
+    if not made.is_file() or not made.with_suffix("").is_file():
+        return None
+    linked = room / f"{program}-linked"
+    words = ["--target", "x86_64-unknown-linux-gnu", "--toolchain", kit / "toolchain", "-o", linked, made, kit / "c/libos_c.a", kit / "c/liblibc_c.a"]
+    done = subprocess.run(list(map(str, [kit / "bin/rattle-link", *words])), capture_output=True, check=False)
+    is_same = done.returncode == 0 and linked.read_bytes() == made.with_suffix("").read_bytes()
+    return made if is_same else None
+
+
 def build_in(crates, room, cpus, say):
-    """Builds both programs over the libraries that `rt ci` has proved in this checkout: only the programs' own crates are proved again."""
+    """Builds both programs over the libraries that `rt ci` has proved in this checkout: only the programs' own crates are proved again, and for the kit's default
+    processor not even these, if `rt ci` has built them."""
     say(f"building {' and '.join(PROGRAMS)} for {' and '.join(cpus)}")
 
     def one(program):
+        made = {(program, CI_CPU): made_by_ci(program, room)} if CI_CPU in cpus else {}
+        made = {key: path for key, path in made.items() if path}
+        return made | build_rest(program, [cpu for cpu in cpus if (program, cpu) not in made])
+
+    def build_rest(program, cpus):
+        if not cpus:
+            return {}
         folder, wanted = room / program, under(crates, program)
         copy_files({name: crates[name] for name in crates if name in wanted}, folder)
         take_libraries(wanted - {program}, TOP, folder)

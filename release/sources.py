@@ -71,6 +71,11 @@ def kit():
     return found.group(0) if found else ""
 
 
+def kit_here():
+    """The line of the kit on the PATH."""
+    return subprocess.run(["rt", "version"], capture_output=True, text=True, check=False).stdout.strip()
+
+
 def kit_folder():
     """The folder of the Rattle kit: `rt doc` prints its first page."""
     shown = subprocess.run(["rt", "doc"], capture_output=True, text=True, check=True).stdout.strip()

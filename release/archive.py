@@ -1,7 +1,7 @@
-"""Keeps the LLVM module that rattle makes of a static library: bitcode.py RT FOLDER CPU OUT
+"""Builds the archive of a static library, and keeps the LLVM module that it is compiled from: archive.py RT FOLDER CPU ARCHIVE MODULE
 
-In the crate FOLDER rattle proves and builds the library, with a toolchain whose clang is a script that copies its input to OUT. It then calls the kit's clang at -O0, since
-nothing uses that object file. The libraries below the crate are proved before. The command is the one of the kit's own code.
+In the crate FOLDER rattle proves and builds the library as `rt lib` does, with a toolchain whose clang is a script: it copies the module that it is to compile to MODULE, and
+calls the kit's clang. What an earlier call in this folder proved, for whatever processor, is not proved again. The libraries below the crate are proved before.
 """
 
 import pathlib
@@ -14,7 +14,7 @@ from stamps import module_of  # noqa: E402
 
 CLANG = """#!/bin/sh
 for word in "$@"; do case "$word" in *.bc) cp "$word" {out};; esac; done
-exec {clang} "$@" -O0
+exec {clang} "$@"
 """
 
 
@@ -31,15 +31,16 @@ def toolchain(folder, kit, out):
             made.symlink_to(part.parent / part.readlink() if part.is_symlink() else part)
 
 
-def main(rt, folder, cpu, out):
+def main(rt, folder, cpu, archive, module):
     rt, folder = pathlib.Path(rt).resolve(), pathlib.Path(folder).resolve()
+    archive, module = pathlib.Path(archive).resolve(), pathlib.Path(module).resolve()
     rtlib = module_of(rt).rtlib
     crate = next(one for one in rtlib.crates_below(str(folder)) if pathlib.Path(one.folder) == folder)
     with tempfile.TemporaryDirectory() as room:
-        toolchain(pathlib.Path(room), rt.parents[1], pathlib.Path(out).resolve())
-        words = [*crate.words(["--cpu", cpu]), "--toolchain", room, "--backend", "llvm", *rtlib.KEPT, "-o", str(pathlib.Path(room, "library.a"))]
+        toolchain(pathlib.Path(room), rt.parents[1], module)
+        words = [*crate.words(["--cpu", cpu]), "--toolchain", room, "--backend", "llvm", *rtlib.KEPT, "-o", str(archive)]
         status = crate.call(rtlib.RATTLE, "build", *words)
-    return status or (0 if pathlib.Path(out).is_file() else "no LLVM module was kept")
+    return status or (0 if archive.is_file() and module.is_file() else "no archive, or no LLVM module, was made")
 
 
 if __name__ == "__main__":
