@@ -217,10 +217,7 @@ fn finish_two<R: SavedFiles + AllocGlobal>(
         pads: words.pads,
         restamps: words.restamps,
     };
-    let frames = Frames {
-        export,
-        pads: words.pads,
-    };
+    let frames = Frames { export };
     let first = Save {
         path: saved,
         begun: begun.0,
