@@ -202,6 +202,21 @@ class Requests(BrowserCase):
         self.asked(lambda: self.js("await wokureti.model.goPacket(25)"))
 
     def edit(self, act, revision):
+    def test_marks_in_the_other_order(self):
+        """Out before In: only that frame is selected, and a sentence says so."""
+        self.moved()
+        self.mark(18, 12)
+        self.assertIn("In, frame 18, is after Out, frame 12: only this frame is selected", self.said())
+        self.assertEqual(self.js("const { first, end } = wokureti.model.selection; return end - first"), 1)
+
+    def test_keys_without_a_selection(self):
+        self.moved()
+        for key in ("x", "e", "v"):
+            self.js("wokureti.model.select(null); document.getElementById('status').textContent = ''")
+            BROWSER.key(key)
+            self.wait("document.getElementById('status').textContent === 'nothing is selected: I and O mark the first and the last frame, or drag on the timeline'")
+        self.assertEqual(self.members("/session")["script"], self.MOVED)
+
         """The requests of an act that changes the stream; it ends when the picture after it and its findings are shown."""
         def whole():
             act()
