@@ -421,7 +421,7 @@ def find_and_repair(page, clip, place):
     browser.wait("document.getElementById('refusal').hidden")
     browser.key("Control", "z")
     # Taken, undone, made again, undone: an edit closes what was open.
-    browser.wait(f"wokureti.model.revision === {revision + 4} && !wokureti.findings.following")
+    browser.wait(f"wokureti.model.revision === {revision + 4} && wokureti.findings.check && wokureti.findings.check.revision === {revision + 4}")
     browser.wait("wokureti.findings.check && wokureti.findings.check.over && wokureti.findings.check.damage === 1 && document.querySelector('#findings-list li')")
     browser.click("#findings-list li .row")
     browser.wait("document.querySelectorAll('.repairs button').length > 3")
