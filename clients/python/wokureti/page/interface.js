@@ -91,7 +91,7 @@ export async function save(source, page) {
 }
 
 /** The frames that are shown as a file: its bytes, its name, and what it has. `got` hears how many bytes of all are here. */
-export async function exported(name, signal, got) {
+export async function exported(name = "", signal = undefined, got = () => {}) {
   const answer = await ask(`exported?name=${name}`, { signal }, "");
   const total = Number(answer.headers.get("Content-Length"));
   const pieces = [];
