@@ -348,6 +348,8 @@ def look(page):
     browser.key("i")
     browser.run("await wokureti.model.go(35)")
     browser.key("o")
+    # What is between the marks is asked for.
+    browser.run("await wokureti.cutting.marking")
     found = browser.run("return wokureti.model.selection")
     expect(found == {"first": 30, "end": 36}, f"I and O select {found}")
     browser.key("Escape")
@@ -421,7 +423,7 @@ def find_and_repair(page, clip, place):
     browser.wait("document.getElementById('refusal').hidden")
     browser.key("Control", "z")
     # Taken, undone, made again, undone: an edit closes what was open.
-    browser.wait(f"wokureti.model.revision === {revision + 4} && !wokureti.findings.following")
+    browser.wait(f"wokureti.model.revision === {revision + 4} && wokureti.findings.check && wokureti.findings.check.revision === {revision + 4}")
     browser.wait("wokureti.findings.check && wokureti.findings.check.over && wokureti.findings.check.damage === 1 && document.querySelector('#findings-list li')")
     browser.click("#findings-list li .row")
     browser.wait("document.querySelectorAll('.repairs button').length > 3")
@@ -1297,7 +1299,7 @@ def small_windows(browser, room, clip, looks):
             return !(box.left >= -1 && box.right <= innerWidth + 1 && box.top >= -1 && box.top + Math.min(box.height, 60) <= innerHeight + 1 && box.width >= 20 && box.height >= 20);
         });""")
         expect(not seen, f"{width}x{height}: not seen at first: {seen}")
-        covered = browser.run("return document.getElementById('now-canvas').getBoundingClientRect().bottom - document.getElementById('lower').getBoundingClientRect().top")
+        covered = browser.run("for (let turn = 0; turn < 3; turn++) await new Promise(requestAnimationFrame); return document.getElementById('now-canvas').getBoundingClientRect().bottom - document.getElementById('lower').getBoundingClientRect().top")
         expect(covered <= 1, f"{width}x{height}: the timeline covers {covered} pixels of the picture")
         missing = browser.run(MISSING, NEEDED)
         expect(not missing, f"{width}x{height}: cannot be reached: {missing}")

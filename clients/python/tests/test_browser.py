@@ -89,6 +89,68 @@ class Repairs(BrowserCase):
         self.assertEqual(self.members("/edits")["edits"], lines)
 
 
+    def test_no_repair_is_certain(self):
+        """What a person can do is said, and the button goes for these packets."""
+        packets = packets_of(CLIP)
+        for place in (10, 30):
+            data = bytearray(packets[place])
+            data[len(data) // 2 :] = bytes(255 - value for value in data[len(data) // 2 :])
+            packets[place] = bytes(data)
+        self.open(write_packets(self.folder() / "inside.ivf", packets))
+        self.wait("wokureti.findings.check && wokureti.findings.check.over")
+        self.assertEqual((self.members("/repair_all")["lines"], self.js("return document.getElementById('repair-all-line').hidden")), ([], False))
+        BROWSER.click("#repair-all")
+        self.wait("document.querySelector('#notices [data-id=repairs]')")
+        self.assertRegex(self.said(), r"No repair is certain, so nothing is changed: \d+ packets? stays? damaged|No repair is certain, so nothing is changed: \d+ packets stay damaged")
+        self.assertIn("Press a finding to see what can be done there, or open a second recording as source 1", self.said())
+        self.assertTrue(self.js("return document.getElementById('repair-all-line').hidden"))
+        # Other packets, other repairs.
+        self.step("hold 40", "delete 41")
+        self.wait("wokureti.findings.check.revision === 2 && wokureti.findings.check.over")
+        self.assertFalse(self.js("return document.getElementById('repair-all-line').hidden"))
+
+
+class Lists(BrowserCase):
+    """Files that the page offers and takes."""
+
+    def offered(self, act):
+        """The name and the text of the file that an act offers."""
+        self.js("""window.offered = null; const real = URL.createObjectURL;
+            URL.createObjectURL = (blob) => { window.offering = blob; return real.call(URL, blob); };
+            HTMLAnchorElement.prototype.click = function () { if (this.download && window.offering) window.offering.text().then((text) => (window.offered = [this.download, text])); };""")
+        act()
+        return self.wait("window.offered")
+
+    def test_cuts_as_csv(self):
+        self.open(SMALL)
+        self.step("script trim 0 2 3; trim 0 7 2; splice 1 2")
+        self.wait("wokureti.model.revision === 2")
+        self.js("document.getElementById('tab-script').click()")
+        name, text = self.offered(lambda: BROWSER.click("#cuts-save"))
+        self.assertEqual((name, text.encode()), ("small-cuts.csv", self.ask("/cuts.csv")[2]))
+        path = self.folder() / "list.csv"
+        path.write_text(text.splitlines()[1])
+        BROWSER.type("#cuts-file", str(path))
+        self.wait("wokureti.model.session.script === 'trim 0 7 2'")
+        path.write_text("soon")
+        BROWSER.type("#cuts-file", str(path))
+        self.wait("document.querySelector('#notices [data-id=cuts]')")
+
+    def test_curves_as_csv(self):
+        self.open(SCENES)
+        packets = self.members("/packets?count=100")["packets"]
+        for kind, name, value in (("quantizer", "quantizer", lambda facts: facts["quantizer"]), ("level", "level", lambda facts: facts["level"]), ("bytes", "bits", lambda facts: 8 * facts["bytes"])):
+            self.js("const one = document.getElementById('curve'); one.value = args[0]; one.dispatchEvent(new Event('change'))", kind)
+            found = self.offered(lambda: BROWSER.click("#curve-save"))
+            self.assertEqual(found, [f"scenes-{kind}.csv", "".join(f"{line}\n" for line in [f"packet,{name}", *(f"{facts['packet']},{value(facts)}" for facts in packets)])])
+        self.js("const one = document.getElementById('curve'); one.value = 'psnr'; one.dispatchEvent(new Event('change'))")
+        self.wait("document.getElementById('status').textContent.startsWith('PSNR of ')")
+        found = self.offered(lambda: BROWSER.click("#curve-save"))
+        self.assertEqual(found[1].splitlines()[:2], ["packet,psnr", "0,60"])
+        self.js("const one = document.getElementById('curve'); one.value = 'none'; one.dispatchEvent(new Event('change'))")
+        self.assertTrue(self.js("return document.getElementById('curve-save').hidden"))
+
+
 class Differences(BrowserCase):
     def test_the_next_difference_is_from_what_is_shown(self):
         packets = packets_of(SCENES)
@@ -138,6 +200,21 @@ class Marks(BrowserCase):
             BROWSER.key(key)
             self.wait("document.querySelector('#notices .notice')")
             self.assertIn("shown in several places, frames 0 to 4, frames 25 to 29", self.said())
+        self.assertEqual(self.members("/session")["script"], self.MOVED)
+
+    def test_marks_in_the_other_order(self):
+        """Out before In: only that frame is selected, and a sentence says so."""
+        self.moved()
+        self.mark(18, 12)
+        self.assertIn("In, frame 18, is after Out, frame 12: only this frame is selected", self.said())
+        self.assertEqual(self.js("const { first, end } = wokureti.model.selection; return end - first"), 1)
+
+    def test_keys_without_a_selection(self):
+        self.moved()
+        for key in ("x", "e", "v"):
+            self.js("wokureti.model.select(null); document.getElementById('status').textContent = ''")
+            BROWSER.key(key)
+            self.wait("document.getElementById('status').textContent === 'nothing is selected: I and O mark the first and the last frame, or drag on the timeline'")
         self.assertEqual(self.members("/session")["script"], self.MOVED)
 
     def test_marks_in_one_shot_cut_these_frames(self):

@@ -4,6 +4,7 @@ import json
 import os
 import pathlib
 import pty
+import random
 import re
 import shlex
 import signal
@@ -19,7 +20,7 @@ from support import DATA, SLOW, SMALL, Case, command, packets_of, serve, start, 
 from test_containers import clip, frames, media, needs_ffmpeg, setUpModule, sound_packets  # noqa: F401
 from wokureti.page import opened
 from test_serve import TOKEN
-from wokureti.tools import containers, convert, exports, ivf, opus, programs, progress
+from wokureti.tools import containers, convert, cut_lists, exports, ivf, opus, programs, progress
 
 MS = 10**6
 SCENES = DATA / "scene-cuts.ivf"
@@ -200,6 +201,62 @@ class Ivf(Case):
             self.assertIn(why, errors)
 
 
+class CutLists(Case):
+    """Lists of cuts as LosslessCut has them."""
+
+    LIMIT = 60
+
+    def test_lines(self):
+        text = '\ufeff,56.9568,First segment\n70.5,842.2,"Second, quoted"\r\n\n1234,,Last\n 0:01:02.5 , 63 \n'
+        path = self.folder() / "list.csv"
+        path.write_text(text)
+        self.assertEqual(cut_lists.read(path), [(None, "56.9568"), ("70.5", "842.2"), ("1234", None), ("0:01:02.5", "63")])
+        for text, why in (("", "no line"), ("70.5", "line 1 has no `,`"), ("1,2\nsoon,3,x", "line 2: 'soon' is no time"), ("-1,3", "line 1: '-1' is no time")):
+            with self.assertRaisesRegex(exports.Failed, re.escape(why)):
+                cut_lists.parts_of(text)
+
+    def test_a_list_names_the_same_frames_when_it_is_read_again(self):
+        choose = random.Random(5)
+        for rate, scale in ((25, 1), (30000, 1001), (1000, 1), (90000, 1), (3, 1)):
+            data, stamp, packets = packets_of(SMALL), 0, []
+            for _ in range(3):
+                for packet in data:
+                    packets.append((stamp, packet))
+                    stamp += choose.choice([1, 1, 1, 2, 7]) if rate < 1000 else choose.randrange(20, 60)
+            path = self.folder() / "in.ivf"
+            path.write_bytes(b"".join(ivf.pieces(ivf.Head(16, 16, rate, scale), len(packets), packets)))
+            with self.session(path) as session:
+                frames = exports.Frames(session.edits.contents())
+                count = len(frames.shown[0])
+                for delay in (0, 123_456_789):
+                    with mock.patch.object(exports.Frames, "delay", return_value=delay):
+                        runs = [(choose.randint(1, count - first), 0, first) for first in (choose.randrange(count) for _ in range(8))]
+                        parts = cut_lists.parts_of(cut_lists.text_of(frames, runs))
+                        found = [(frames.place(start, False), frames.place(end, True)) for start, end in parts]
+                        self.assertEqual(found, [(first, first + length) for length, _, first in runs], (rate, scale, delay))
+                with self.assertRaisesRegex(exports.Failed, "frames of source 1"):
+                    cut_lists.text_of(frames, [(1, 0, 0), (1, 1, 0)])
+
+    def test_a_cut_by_a_list(self):
+        """Also of more parts than a script has."""
+        room = self.folder()
+        path, out, cuts = write_packets(room / "in.ivf", packets_of(SMALL), 25), room / "out.ivf", room / "list.csv"
+        with self.session(path) as session:
+            whole = [bytes(frame.i420()) for frame in session.frames()]
+        for parts in ([(3, 5), (8, 11)], [(place % 10, place % 10 + 1 + place % 2) for place in range(19)]):
+            cuts.write_text("".join(f"{first / 25},{end / 25},part\n" for first, end in parts))
+            status, said, errors = wokureti("cut", path, out, "--cuts", cuts, "-y")
+            self.assertEqual((status, errors), (0, ""))
+            self.assertEqual(len(said.splitlines()), 1)
+            with self.session(out) as session:
+                self.assertEqual([bytes(frame.i420()) for frame in session.frames()], [frame for first, end in parts for frame in whole[first:end]])
+        before = out.read_bytes()
+        for words, why in ((("--cuts", cuts), "is there already: -y"), (("--cuts", cuts, "--from", "1", "-y"), "not both"), (("--cuts", room / "none.csv", "-y"), "none.csv")):
+            status, said, errors = wokureti("cut", path, out, *words)
+            self.assertEqual((status, said, why in errors, out.read_bytes()), (2, b"", True, before), errors)
+        self.assertEqual(sorted(os.listdir(room)), ["in.ivf", "list.csv", "out.ivf"])
+
+
 class Parts(progress.Watch):
     """What was heard of an export; it is stopped at a part."""
 
@@ -305,6 +362,21 @@ class OnThePage(test_page.PageCase, EndlessCase):
         path.write_bytes(body)
         with self.session(SMALL) as one, self.session(path) as other:
             self.assertEqual([frame.i420() for frame in other.frames()], [one.frame(number).i420() for number in range(4, 11)])
+
+    def test_a_list_of_cuts(self):
+        self.serve(SMALL)
+        for script in ("trim 0 2 3; trim 0 7 2; splice 1 2", "trim 0 5 1"):
+            self.step(f"script {script}")
+            status, headers, body = self.ask("/cuts.csv")
+            self.assertEqual((status, headers["Content-Type"], headers["Content-Disposition"]), (200, "text/csv; charset=utf-8", 'attachment; filename="small-cuts.csv"'))
+            revision = self.live.revision
+            status, _, answer = self.post_to("/cuts", text=body.decode())
+            self.assertEqual((status, json.loads(answer)["script"], self.live.revision), (200, script, revision))
+        self.step("script -")
+        self.assertEqual(self.ask("/cuts.csv")[2].decode().count("\n"), 1)
+        for text in ("soon", "1000,2000", "0,0.01\n" * 9, ""):
+            self.assertEqual(self.post_to("/cuts", text=text)[0], 409, text)
+        self.assertEqual((self.post_to("/cuts", text=3)[0], self.ask("/cuts.csv?x=1")[0]), (400, 400))
 
     def test_an_export_that_nobody_waits_for_ends(self):
         program, number = self.endless()

@@ -353,6 +353,34 @@ class Long(Case):
             self.assertLessEqual(sum(listed), len(packets) + again, (turns, listed))
 
 
+    def test_a_guess_is_tried_on_its_group_of_pictures(self):
+        """Bytes are lost in several packets of a long stream: what the records around them may be is tried without checking the whole again."""
+        data, turns = packets_of(CLEAN), 20
+        packets = list(enumerate(turns * data))
+        text, places, place = bytearray(b"".join(ivf.pieces(ivf.Head(16, 16, 30, 1), len(packets), packets))), [], 32
+        for _, one in packets:
+            places.append(place)
+            place += 12 + len(one)
+        for turn in range(9, 3, -1):
+            number = turn * 2 * len(data) + 5
+            middle = places[number] + 12 + len(packets[number][1]) // 2
+            del text[middle : middle + 9]
+        checked, run = [], subprocess.run
+
+        def counted(words, *given, **more):
+            if "--check" in words:
+                with open(words[1], "rb") as file:
+                    checked.append(len(ivf.read_index(file.fileno())[1]))
+            return run(words, *given, **more)
+
+        with mock.patch.object(repair.facts.subprocess, "run", counted):
+            found = repair.repair(bytes(text), programs.find("vp8serve"), programs.find("vp8list"))
+        self.assertEqual((found.left, len(found.packets)), (0, len(packets)))
+        self.assertGreater(len(checked), 4)
+        # Those of the guesses, and the whole before and after it is mended.
+        self.assertLessEqual(sum(checked), 3 * len(packets), checked)
+
+
 class NoKeyFrames(RepairCase):
     LIMIT = 120
 

@@ -310,6 +310,7 @@ def add_cut(commands):
     parser.add_argument("out", metavar="OUT", help="the file to write")
     parser.add_argument("--from", dest="starts", action="append", default=[], metavar="F", help="a time of the player, as 3.3 or 0:03.3, or a frame, as f83; the beginning if missing")
     parser.add_argument("--to", dest="ends", action="append", default=[], metavar="T", help="the same for the first frame that is left out; the end if missing")
+    parser.add_argument("--cuts", metavar="FILE", help="the parts as LosslessCut's CSV: a line for each, its beginning, its end and a label, in seconds")
     add_export_options(parser)
     parser.set_defaults(run=run_cut)
 
@@ -317,6 +318,8 @@ def add_cut(commands):
 def run_cut(given):
     from .tools import exports
 
+    if given.cuts is not None:
+        return run_cut_list(given)
     counts = {len(given.starts), len(given.ends)}
     if not any(counts) or (len(counts) > 1 and max(counts) > 1):
         what = "say which part is kept" if not any(counts) else "each part has a --from and a --to; only a single part may leave one of them out"
@@ -326,6 +329,25 @@ def run_cut(given):
     if text is not None:
         say(text)
     return run_script(given, [given.stream], lambda frames: exports.cut_script(frames, parts))
+
+
+def run_cut_list(given):
+    """Cuts the parts of a list. A script has eight of them: of more, eight at a time are cut, and then joined."""
+    from .tools import cut_lists, exports
+
+    if given.starts or given.ends:
+        raise cat.Failed("the parts are those of --cuts, or of --from and --to, not both")
+    cat.check_output(given.out, [given.stream, given.cuts, given.tables])
+    muxing.check_ending(given.out)
+    check_replaced(given, given.out)
+    parts = cut_lists.read(given.cuts)
+    groups = [parts[place : place + exports.MOST_PARTS] for place in range(0, len(parts), exports.MOST_PARTS)]
+    script_of = lambda group: lambda frames: exports.cut_script(frames, group)  # noqa: E731
+    if len(groups) == 1:
+        return run_script(given, [given.stream], script_of(parts))
+    with rooms.Room() as room:
+        given.streams = [script_step(given, [given.stream], script_of(group), os.path.join(room, f"cut-{place}")) for place, group in enumerate(groups)]
+        return run_join(given)
 
 
 def add_join(commands):
@@ -357,14 +379,17 @@ def run_join(given):
 
 def join_step(given, streams, path):
     """Joins some streams into a file that is joined with others: with their sound, if they have some and OUT has it."""
-    if len(streams) == 1:
-        return streams[0]
     from .tools import exports
 
+    return streams[0] if len(streams) == 1 else script_step(given, streams, lambda frames: exports.join_script(len(streams)), path)
+
+
+def script_step(given, streams, script_of, path):
+    """Writes the frames of a script of some streams into a file that is joined with others, and returns its path."""
     has_sound = muxing.ending_of(given.out) is not None and given.sound != "none" and any(convert.is_container(stream) for stream in streams)
     out = path + (".mkv" if has_sound else ".ivf")
     step = argparse.Namespace(**{**vars(given), "out": out, "replace": True, "is_step": True})
-    given.status = max(getattr(given, "status", 0), run_script(step, streams, lambda frames: exports.join_script(len(streams))))
+    given.status = max(getattr(given, "status", 0), run_script(step, streams, script_of))
     return out
 
 

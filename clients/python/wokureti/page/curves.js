@@ -7,11 +7,19 @@ const find = (id) => document.getElementById(id);
 // Packets that a curve is drawn for, at most, and milliseconds for which nothing changes before they are asked for.
 const MOST_PACKETS = 4000;
 const QUIET = 250;
+// Packets that are asked for at a time for a file.
+const MOST_ASKED = 10000;
 // The greatest value of each number; that of others is the greatest one that is seen. Frames that are the same have the greatest PSNR.
 const MOST = { quantizer: 127, level: 63, psnr: 60 };
 // Frames that are compared for a curve, at most, and after how many it is drawn again.
 const MOST_FRAMES = 300;
 const DRAWN = 10;
+
+/** Rows of a packet and its number as CSV; a packet without a number has none. */
+export function csvOf(kind, rows) {
+  const name = kind === "bytes" ? "bits" : kind;
+  return [`packet,${name}`, ...rows.map(([packet, value]) => `${packet},${typeof value === "number" ? value : ""}`), ""].join("\n");
+}
 
 /** The points of a curve: a packet without a value has none, and ends a line. */
 export function linesOf(values, first, most) {
@@ -49,8 +57,10 @@ export class Curves {
     this.kind = "none";
     this.key = "";
     timeline.curve = null;
+    find("curve-save").addEventListener("click", () => this.save().catch((error) => this.status.say(error.message)));
     find("curve").addEventListener("change", () => {
       this.kind = find("curve").value;
+      find("curve-save").hidden = this.kind === "none";
       this.key = "";
       timeline.curve = null;
       timeline.redraw();
@@ -72,6 +82,25 @@ export class Curves {
     this.timer = setTimeout(() => this.fetch(key, first, end).catch((error) => this.status.say(error.message)), QUIET);
   }
 
+  /** Offers the numbers of the curve as CSV: of all packets, or the PSNR of those that were compared. */
+  async save() {
+    const { kind } = this;
+    const { source, packets, session } = this.model;
+    const rows = kind === "psnr" ? [...(this.timeline.curve?.values ?? [])].filter(([, value]) => value !== null).sort(([one], [other]) => one - other) : [];
+    for (let first = 0; kind !== "psnr" && first < packets; first += MOST_ASKED) {
+      const answer = await server.members(`packets?from=${first}&count=${MOST_ASKED}&source=${source}`, "the numbers of the packets");
+      rows.push(...answer.packets.map((facts) => [facts.packet, this.valueIn(facts, kind)]));
+    }
+    const stem = session.names[source].replace(/\.[^.]*$/, "");
+    server.offer(new Blob([csvOf(kind, rows)], { type: "text/csv" }), `${stem}-${kind}.csv`);
+    this.status.say(`${rows.length.toLocaleString("en")} packets are in ${stem}-${kind}.csv`);
+  }
+
+  /** The number of a packet that a curve shows. */
+  valueIn(facts, kind) {
+    return kind === "bytes" ? 8 * facts.bytes : facts[kind];
+  }
+
   async fetch(key, first, end) {
     if (this.kind === "psnr") {
       await this.compare(key, first, end);
@@ -85,7 +114,7 @@ export class Curves {
     const { kind } = this;
     const answer = await server.members(`packets?from=${first}&count=${end - first}&source=${this.model.source}`);
     if (key !== this.key) return;
-    const values = answer.packets.map((facts) => (kind === "bytes" ? 8 * facts.bytes : facts[kind]));
+    const values = answer.packets.map((facts) => this.valueIn(facts, kind));
     const most = MOST[kind] || values.reduce((one, other) => Math.max(one, other), 1);
     this.timeline.curve = { lines: linesOf(values, first, most), most };
     this.timeline.redraw();

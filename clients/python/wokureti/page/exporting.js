@@ -4,8 +4,7 @@ import * as server from "./interface.js";
 import { notice } from "./status.js";
 
 const find = (id) => document.getElementById(id);
-// Milliseconds for which the browser may still read the file, and between two looks at how far an export is.
-const LATER = 60000;
+// Milliseconds between two looks at how far an export is.
 const OFTEN = 200;
 
 export class Exporting {
@@ -34,11 +33,7 @@ export class Exporting {
     this.tell(number, making).catch(() => {});
     try {
       const { file, name, said } = await server.exported(number, making.signal, (done, total) => this.status.share("the export is read", done / total));
-      const link = document.createElement("a");
-      link.href = URL.createObjectURL(file);
-      link.download = name;
-      link.click();
-      setTimeout(() => URL.revokeObjectURL(link.href), LATER);
+      server.offer(file, name);
       this.status.say(`exported ${name}: ${said}`);
     } catch (error) {
       if (error.name === "AbortError") this.status.say("the export was stopped");

@@ -1,6 +1,7 @@
 // The findings of vp8list --check, and the repairs that can work for each of them.
 
 import * as server from "./interface.js";
+import { notice } from "./status.js";
 
 const find = (id) => document.getElementById(id);
 const STEP = 200;
@@ -97,6 +98,12 @@ function keyOf(finding) {
   return JSON.stringify({ ...finding, frame: undefined, group: undefined });
 }
 
+/** What a person can do where no repair is certain. */
+export function hopelessText(left) {
+  const many = left === 1 ? "1 packet stays damaged" : `${left.toLocaleString("en")} packets stay damaged`;
+  return `No repair is certain, so nothing is changed: ${many}. Press a finding to see what can be done there, or open a second recording as source 1 (Open …): its packets replace damaged ones.`;
+}
+
 export class Findings {
   constructor(model, viewer, editing, timeline, status) {
     Object.assign(this, { model, viewer, editing, timeline, status });
@@ -108,6 +115,8 @@ export class Findings {
     this.unfolded = new Map();
     // What was heard so far of the check that goes on.
     this.news = { check: null, findings: [] };
+    // The check whose damage no repair is certain for.
+    this.hopeless = null;
     model.addEventListener("session", () => this.follow());
     find("findings-more").addEventListener("click", () => {
       this.most += STEP;
@@ -155,7 +164,7 @@ export class Findings {
           : `All ${packets.toLocaleString("en")} packets were checked: nothing was found.`
         : `Checking: ${done.toLocaleString("en")} of ${packets.toLocaleString("en")} packets, ${totals}.`;
     find("check-text").textContent = text;
-    find("repair-all-line").hidden = !over || damage < 2;
+    find("repair-all-line").hidden = !over || damage < 2 || this.hopeless === this.check?.check;
     find("report-line").hidden = !over || !(damage || notes);
     find("check-status").textContent = over ? `checked, ${totals}` : `checking ${done.toLocaleString("en")} of ${packets.toLocaleString("en")} packets`;
     const count = find("findings-count");
@@ -301,7 +310,10 @@ export class Findings {
     try {
       const { lines, said, left } = await server.members("repair_all", "the repairs");
       if (!lines.length) {
-        this.status.say("nothing can be repaired without a person");
+        // It is not offered again for these packets.
+        this.hopeless = this.check?.check;
+        find("repair-all-line").hidden = true;
+        notice(hopelessText(left), { id: "repairs" });
         return;
       }
       const title = `${said.length.toLocaleString("en")} steps, ${lines.length.toLocaleString("en")} edits${left ? `, ${left} packets stay damaged` : ""}`;

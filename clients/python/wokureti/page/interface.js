@@ -17,6 +17,9 @@ export class Refusal extends Error {
 /** The server cannot be reached. */
 export class Unreachable extends Error {}
 
+// Milliseconds for which the browser may still read a file that it was offered.
+const LATER = 60000;
+
 // Where the edits are, and the command that goes on with them, once that is known.
 let kept = null;
 
@@ -88,7 +91,7 @@ export async function save(source, page) {
 }
 
 /** The frames that are shown as a file: its bytes, its name, and what it has. `got` hears how many bytes of all are here. */
-export async function exported(name, signal, got) {
+export async function exported(name = "", signal = undefined, got = () => {}) {
   const answer = await ask(`exported?name=${name}`, { signal }, "");
   const total = Number(answer.headers.get("Content-Length"));
   const pieces = [];
@@ -119,6 +122,26 @@ export async function addSource(file) {
 /** Opens a stream of the folder on a page of its own, and returns its address. */
 export async function openPage(file) {
   return (await (await post("pages", { file }, "the page to be opened")).json()).address;
+}
+
+/** The script that shows the parts of a list of cuts, CSV. */
+export async function scriptOfCuts(text) {
+  return (await (await post("cuts", { text }, "the list of cuts")).json()).script;
+}
+
+/** The parts that are shown as a list of cuts: a file and its name. */
+export async function cuts() {
+  const answer = await ask("cuts.csv", {}, "the list of cuts");
+  return { file: await answer.blob(), name: nameIn(answer.headers.get("Content-Disposition")) };
+}
+
+/** Offers bytes to the browser as a file. */
+export function offer(blob, name) {
+  const link = document.createElement("a");
+  link.href = URL.createObjectURL(blob);
+  link.download = name;
+  link.click();
+  setTimeout(() => URL.revokeObjectURL(link.href), LATER);
 }
 
 /** Inserts remembered packets as one step. */

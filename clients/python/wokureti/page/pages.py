@@ -12,7 +12,7 @@ import time
 
 from . import adding, others
 from ..session import records
-from ..tools import exports, ivf, muxing, progress, repair
+from ..tools import cut_lists, exports, ivf, muxing, progress, repair
 from .checking import Earlier, News
 from .clipboard import Clipboard, Gone, numbers_of, runs_of
 from ..tools.differences import Lasting
@@ -76,6 +76,7 @@ class PageRoutes(Routes):
         self.posts[("pages",)] = self.open_page
         self.posts[("preview",)] = self.preview
         self.posts[("paste",)] = self.paste
+        self.posts[("cuts",)] = self.script_of_cuts
         self.reads.update(
             {
                 ("session",): self.session,
@@ -88,6 +89,7 @@ class PageRoutes(Routes):
                 ("key",): self.key,
                 ("range",): self.range,
                 ("cut",): self.cut,
+                ("cuts.csv",): self.cuts,
                 ("report.json",): self.report,
                 ("report.html",): self.report,
                 ("repairs",): self.repairs,
@@ -338,6 +340,26 @@ class PageRoutes(Routes):
         else:
             found = next((end for end in reversed(ends) if end < frame), None)
         return as_json({"revision": view.revision, "frame": found})
+
+    def cuts(self, request):
+        """The parts of source 0 that the script shows as a list of cuts."""
+        self.only(request)
+        view = self.live.current_view()
+        try:
+            text = cut_lists.text_of(exports.Frames(view.contents, view.streams), view.runs()[1])
+        except exports.Failed as error:
+            raise Refuse(409, str(error)) from None
+        return Response(200, "text/csv; charset=utf-8", text.encode(), headers=[("Content-Disposition", f'attachment; filename="{self.safe_name()}-cuts.csv"')])
+
+    def script_of_cuts(self, request):
+        """The script that shows the parts of a list of cuts. Nothing is changed."""
+        self.only(request)
+        text, view = parse_body(request.body, {"text": str}).get("text", ""), self.live.current_view()
+        try:
+            script = exports.cut_script(exports.Frames(view.contents, view.streams), cut_lists.parts_of(text))
+        except exports.Failed as error:
+            raise Refuse(409, str(error)) from None
+        return as_json({"revision": view.revision, "script": script})
 
     def report(self, request):
         """The findings of the current packets as a file: as objects, or as a page of their own."""

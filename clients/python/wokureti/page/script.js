@@ -1,5 +1,8 @@
 // The script as text, a node a line; a refusal is shown at its node.
 
+import * as server from "./interface.js";
+import { notice } from "./status.js";
+
 const find = (id) => document.getElementById(id);
 
 /** The nodes of a text: separated by lines or by `;`. Empty ones at the end go. */
@@ -65,7 +68,37 @@ export class ScriptPanel {
         this.set();
       }
     });
+    find("cuts-open").addEventListener("click", () => find("cuts-file").click());
+    find("cuts-file").addEventListener("change", () => this.openCuts());
+    find("cuts-save").addEventListener("click", (event) => {
+      event.preventDefault();
+      this.saveCuts();
+    });
     this.number();
+  }
+
+  /** Shows only the parts of a list of cuts. */
+  async openCuts() {
+    const [file] = find("cuts-file").files;
+    if (!file) return;
+    try {
+      const script = await server.scriptOfCuts(await file.text());
+      await this.editing.make([`script ${script}`], `the parts of ${file.name} are shown`);
+    } catch (error) {
+      notice(error.message, { isBad: true, id: "cuts" });
+    } finally {
+      find("cuts-file").value = "";
+    }
+  }
+
+  /** Offers the parts that are shown as a list of cuts. */
+  async saveCuts() {
+    try {
+      const { name, file } = await server.cuts();
+      server.offer(file, name);
+    } catch (error) {
+      notice(error.message, { isBad: true, id: "cuts" });
+    }
   }
 
   /** Shows the script of the session, unless another text is being written. */

@@ -57,7 +57,7 @@ def new_name(folder, ending):
 def as_ivf(path, folder, is_quiet=False, is_checked=True, watch=None):
     """The path of the stream as IVF: the file itself, or a file in the folder. `-` is standard input, and /dev/null an empty stream, for which a
     session has the path `-`. With `is_checked` a file that does not begin as one raises `ivf.NotIvf`, which says what it looks like. `watch` hears how far a
-    container is; a terminal shows it if there is none."""
+    container is; a terminal shows it if there is none, unless it `is_quiet`."""
     given, name, is_file = as_file(path, folder)
     if not is_file:
         return given
@@ -121,7 +121,7 @@ def searched(path, folder, watch=None):
 def taken_out(path, folder, name, kind, is_quiet, watch=None):
     """The packets of a container as an IVF file in the folder."""
     out = new_name(folder, "ivf")
-    with Stages() if watch is None else contextlib.nullcontext(watch) as stages:
+    with contextlib.nullcontext(watch or containers.NOBODY) if watch is not None or is_quiet else Stages() as stages:
         stages.stage(f"taking the packets out of {name}")
         tool = read(path, out, name, kind, stages)
         stages.stage(f"looking for damage of {name}")

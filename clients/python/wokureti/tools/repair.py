@@ -26,6 +26,8 @@ MOST_GUESSES = 30
 PART, LEAST_PART, OVERLAP, AT_A_TIME = 16 << 20, 100, 8, 4
 # Steps between shown packets that are constant, and those in a row that may be others, for vp8list to call what is around one damage.
 MANY_STEPS, ODD_STEPS = 16, 3
+# Packets before one among which two shown ones are looked for.
+NEAR = 16
 # What a kind of finding means.
 DAMAGE = {"past_end": "read past its end", "unread": "not read to its end"}
 # What a kind of finding says of the packets around one.
@@ -168,7 +170,7 @@ class Repair:
     def findings_of_parts(self, parts, what):
         """The same of a long stream. A key packet begins anew, so a part has the damage that the whole has there; but what vp8list says of the packets around
         one is damage only if the steps of the whole are constant, and may be said by the part before, which has some packets more."""
-        found, is_constant = {}, has_constant_steps(self.packets)
+        found, is_constant = {}, constant_step(self.packets) is not None
         for (start, end), damage in zip(parts, self.by_parts(parts, OVERLAP, what, damage_in, *self.check_words(), statuses=(0, 1))):
             for number, finding in enumerate(damage):
                 place, is_around = start + finding["packet"], finding["kind"] in AROUND
@@ -180,7 +182,7 @@ class Repair:
         return ["--check", "--json"] + (["--tables", self.tables] if self.tables else [])
 
     def findings_of(self, packets):
-        return map(json.loads, facts.run_on(self.lister, packets, *self.check_words(), statuses=(0, 1)))
+        return facts.run_on(self.lister, packets, *self.check_words(), statuses=(0, 1))
 
     def forge(self, word, width, height):
         """The bytes of a grey key frame, or of a packet that shows the last picture again and is shown by libvpx too."""
@@ -253,11 +255,12 @@ class Repair:
         return found, left
 
     def wrong_ones(self, packets, gaps, guesses):
-        """The guesses that do not decode to their end if these are taken."""
+        """The guesses that do not decode to their end if these are taken, or whose time stamps break the steps. Only their groups of pictures are checked."""
         found, _, places = with_guesses(packets, gaps, guesses)
-        given = ((packet.stamp, packet.data) for packet in found)
-        damaged = {finding["packet"] for finding in self.findings_of(given) if finding["severity"] == "damage"}
-        return [guess for guess, place in zip(guesses, places) if place in damaged]
+        numbers = [place for group in groups_around(found, places) for place in group]
+        given = ((found[place].stamp, found[place].data) for place in numbers)
+        damaged = {numbers[finding["packet"]] for finding in damage_in(self.findings_of(given)) if finding["kind"] not in AROUND}
+        return [guess for guess, place in zip(guesses, places) if place in damaged or breaks_step(found, place)]
 
     def first_size(self):
         return next(filter(None, (ivf.key_size(packet.data) for packet in self.packets)), None)
@@ -495,6 +498,31 @@ class Repair:
         raise NoKeyFrame(f"no key frame survives, so no frame can be decoded and there is nothing to mend from{more}. Nothing was written")
 
 
+def groups_around(packets, places):
+    """The groups of pictures of packets at these places, which ascend: ranges from a key packet to the next one."""
+    found = []
+    for place in places:
+        if found and place < found[-1].stop:
+            continue
+        start, end = place, place + 1
+        while start and not ivf.is_key(packets[start].data):
+            start -= 1
+        while end < len(packets) and not ivf.is_key(packets[end].data):
+            end += 1
+        found.append(range(start, end))
+    return found
+
+
+def breaks_step(packets, place):
+    """Whether vp8list calls the step to an inter packet damage: it is none of the steps of the stream, which are constant."""
+    packet, before = packets[place], [one.stamp for one in packets[max(0, place - NEAR) : place] if ivf.is_shown(one.data)][-2:]
+    if ivf.is_key(packet.data) or not ivf.is_shown(packet.data) or len(before) < 2 or packet.stamp in (before[1], 2 * before[1] - before[0]):
+        # Most steps are that of the packet before.
+        return False
+    step = constant_step(packets)
+    return step is not None and packet.stamp - before[1] != step
+
+
 def damage_in(lines):
     """The damage of packets among the findings that vp8list prints."""
     return [finding for finding in map(json.loads, lines) if finding["severity"] == "damage" and finding["packet"] is not None]
@@ -505,16 +533,16 @@ def are_same(packets, others):
     return len(packets) == len(others) and all(one.data is other.data and one.stamp == other.stamp for one, other in zip(packets, others))
 
 
-def has_constant_steps(packets):
-    """Whether the steps between the time stamps of shown packets are many, and all the same but for a few in a row."""
+def constant_step(packets):
+    """The step between the time stamps of shown packets if there are many, and all are the same but for a few in a row; else None."""
     stamps = [packet.stamp for packet in packets if ivf.is_shown(packet.data)]
     steps = [after - before for before, after in zip(stamps, stamps[1:])]
     forward = [step for step in steps if step > 0]
     if len(steps) < MANY_STEPS or not forward:
-        return False
+        return None
     step = statistics.median_low(forward)
     odd = [place for place, one in enumerate(steps) if one != step]
-    return not odd or odd[-1] - odd[0] < ODD_STEPS
+    return step if not odd or odd[-1] - odd[0] < ODD_STEPS else None
 
 
 def steps_between(before, after, step):
