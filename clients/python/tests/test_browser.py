@@ -351,6 +351,19 @@ class Looks(BrowserCase):
                 top, bottom = self.js("const box = document.querySelector(args[0]).getBoundingClientRect(); return [box.top, box.bottom]", css)
                 self.assertTrue(0 <= top < bottom <= height + 1, (width, height, css, top, bottom))
 
+    def test_the_timeline_covers_no_picture(self):
+        """In a low window, with the strip of a script and a long name."""
+        path = self.folder() / f"{'a long name ' * 12}.ivf"
+        path.write_bytes(CLIP.read_bytes())
+        self.open(path)
+        self.step("script trim 0 5 30")
+        for width, height in (*self.SIZES, (1000, 700)):
+            BROWSER.set_size(width, height)
+            self.load()
+            self.wait("!document.getElementById('strip').hidden && wokureti.viewer.picture.now")
+            covered = "document.getElementById('now-canvas').getBoundingClientRect().bottom - document.getElementById('lower').getBoundingClientRect().top"
+            self.wait(f"{covered} <= 1")
+
     def folded(self):
         """A clip with findings, so that the panel is long."""
         packets = packets_of(SCENES)

@@ -563,7 +563,7 @@ class Steps(PageCase):
             thread.start()
             thread.join(10 * SLOW)
             self.assertFalse(thread.is_alive())
-        self.assertEqual(found[0][0], {"revision": 1, "doing": None, "restarts": 0})
+        self.assertEqual(found[0][0], {"revision": 1, "doing": None, "exports": {}, "opening": None, "restarts": 0})
 
     def test_frames_do_not_wait_for_a_large_step(self):
         self.serve(SCENES, edits=self.folder() / "list")
