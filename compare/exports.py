@@ -180,7 +180,7 @@ def served(clips, script, count, room):
 def export(clips, script, out):
     """The packets that the program exports of a script, with their time stamps."""
     more = ["--sources", ":".join(str(it.path) for it in clips[1:])] if len(clips) > 1 else []
-    run([VP8SERVE, clips[0].path, "-", "-", *more, "--export", out, "--pad"], f"script {script}\n".encode() if script else b"")
+    run([VP8SERVE, clips[0].path, "-", "-", *more, "--export", out], f"script {script}\n".encode() if script else b"")
     _, packets = files.read_packets(out)
     with open(out, "rb") as file:
         return rate_of(file.read(32)), packets

@@ -773,7 +773,7 @@ def edit(page):
 
 
 def asks_once(page):
-    """The page reads the state of the session once after a change, whichever comes first, its answer or its event."""
+    """The answer to a change has the state of the session after it: the page does not read it, whichever comes first, the answer or its event."""
     page.browser.run("await wokureti.model.goPacket(40)")
     for act in ("delete", "undo", "redo", "undo", "hold", "undo"):
         count = page.browser.run(
@@ -783,8 +783,8 @@ def asks_once(page):
             return performance.getEntriesByType("resource").filter(({ name }) => new URL(name).pathname.endsWith("/session")).length;""",
             act,
         )
-        expect(count == 1, f"{act} reads the state {count} times")
-    say("the state is read once after each change")
+        expect(count == 0, f"{act} reads the state {count} times")
+    say("the state after each change is in its answer")
 
 
 def save_and_reload(page, path, clip):

@@ -1,5 +1,13 @@
 #!/usr/bin/env python3
-"""Draws docs/stream.svg and docs/crates.svg. Run it in docs/ after a change: python3 draw.py"""
+"""Draws docs/stream.svg, and docs/crates.svg from crates.txt: python3 docs/draw.py [--check]
+
+With --check it writes nothing, and ends with 1 if a picture is not the one that it would draw."""
+
+import pathlib
+import sys
+
+HERE = pathlib.Path(__file__).resolve().parent
+IS_CHECK = sys.argv[1:] == ["--check"]
 
 STYLE = """
   text { font-family: sans-serif; font-size: 13px; fill: #1f2328; }
@@ -70,8 +78,12 @@ class Drawing:
         self.parts.append(f'<circle cx="{x}" cy="{y}" r="7" class="{kind}"/>')
 
     def save(self, name):
-        with open(name, "w", encoding="utf-8") as file:
-            file.write("\n".join(self.parts) + "\n</svg>\n")
+        """Writes the picture next to this script, or with --check says that the one there is another, and ends."""
+        file, text = HERE / name, "\n".join(self.parts) + "\n</svg>\n"
+        if not IS_CHECK:
+            file.write_text(text, encoding="utf-8")
+        elif not file.is_file() or file.read_text(encoding="utf-8") != text:
+            sys.exit(f"{file}: another picture than the sources give: run python3 docs/draw.py")
 
 
 def stream():
@@ -113,81 +125,72 @@ def stream():
     draw.save("stream.svg")
 
 
+def groups_of(text):
+    """The groups of a crates.txt, lowest first: each its name and its crates, and which groups each group uses."""
+    groups, home, uses = {}, {}, {}
+    for line in text.splitlines()[1:]:
+        if line.startswith("# "):
+            name = line[2:]
+            groups[name] = []
+        elif line.strip():
+            crate, _, below = line.partition(":")
+            groups[name].append(crate.split()[0])
+            home[crate.split()[0]] = name
+            uses.setdefault(name, set()).update(home[it] for it in below.split() if it in home)
+    return groups, {name: found - {name} for name, found in uses.items()}
+
+
+def nearest(uses, name):
+    """The groups that a group uses and that no other group that it uses does."""
+    return [it for it in uses[name] if not any(it in uses.get(other, ()) for other in uses[name])]
+
+
+# Where a group is in the picture: its row from the top, and the columns of twelfths that it takes.
+PLACES = {
+    "programs for the gate": (0, 0, 4),
+    "tests": (0, 4, 8),
+    "vp8serve": (1, 0, 6),
+    "the library": (1, 6, 2),
+    "vp8list": (1, 8, 4),
+    "both programs": (2, 0, 3),
+    "session": (2, 3, 9),
+    "editing": (3, 2, 10),
+    "decoder": (4, 1, 11),
+    "bits, files and pixels": (5, 0, 12),
+}
+LEFT, TWELFTH, GAP, LINE = 8, 78.6, 10, 17
+
+
 def crates():
-    draw = Drawing(960, 640, "The crates: which calls which, and how data flows from bytes to bytes")
-
-    def crate(x, y, name, does, width=150, kind="box"):
-        draw.box(x, y, width, 44, kind)
-        draw.text(x + width / 2, y + 18, name, "head")
-        draw.text(x + width / 2, y + 35, does, "small light")
-
-    def data(x, y, words, anchor="middle"):
-        draw.text(x, y, words, "small", anchor)
-
-    data(90, 16, "IVF bytes")
-    data(262, 16, "request lines")
-    data(452, 16, "YUV4MPEG2, replies, saved IVF")
-    data(840, 16, "IVF bytes \u2192 lists, MD5s, findings")
-    crate(190, 46, "vp8serve", "the frame server", 150, "key")
-    crate(700, 46, "vp8list", "lists and checks", 150, "key")
-    draw.arrow((262, 22), (262, 44), kind="flow")
-    draw.arrow((90, 22), (90, 68), (188, 68), kind="flow")
-    draw.arrow((342, 60), (452, 60), (452, 22), kind="flow")
-    draw.arrow((775, 22), (775, 44), kind="flow")
-    crate(15, 126, "explanations", "why something was refused", 160)
-    crate(190, 126, "serve_program", "files, requests, replies")
-    crate(355, 126, "serve_arguments", "arguments, files named")
-    crate(560, 126, "list_program", "what vp8list writes", 150)
-    crate(725, 126, "stream_checks", "MD5s, findings", 105)
-    crate(840, 126, "stream_facts", "by frame_header", 112)
-    draw.arrow((265, 91), (265, 124))
-    draw.arrow((188, 148), (177, 148))
-    draw.arrow((342, 148), (353, 148))
-    draw.arrow((740, 91), (650, 124))
-    draw.arrow((712, 148), (723, 148))
-    draw.arrow((670, 126), (700, 112), (890, 112), (890, 124))
-    crate(190, 214, "frame_session", "run: requests to replies", 315, "key")
-    draw.arrow((265, 171), (265, 212))
-    data(276, 198, "packets, lines \u2192 frames, replies", "start")
-    crate(15, 214, "request_lines", "lines to requests", 150)
-    draw.arrow((188, 236), (167, 236))
-    crate(15, 302, "packet_edits", "packets, ids, marks")
-    crate(190, 302, "state_cache", "cached states")
-    crate(355, 302, "packet_forge", "blank and hold")
-    crate(520, 302, "script_nodes", "trim, splice, crop, fade")
-    draw.arrow((200, 259), (110, 300))
-    draw.arrow((265, 259), (265, 300))
-    draw.arrow((430, 259), (430, 300))
-    draw.arrow((490, 259), (560, 300))
-    draw.arrow((188, 324), (167, 324))
-    crate(190, 390, "reference_frames", "one step: state and packet to state and picture", 480, "key")
-    draw.arrow((265, 347), (265, 388))
-    data(276, 374, "a packet, the state before it \u2192 picture, the state after it", "start")
-    draw.arrow((777, 171), (777, 412), (672, 412))
-    row = [
-        ("frame_header", "tag, fields, partitions"),
-        ("mode_parser", "modes, vectors"),
-        ("token_parser", "coefficients"),
-        ("transforms", "inverse DCT, WHT"),
-        ("intra_predict", "intra blocks"),
-        ("inter_predict", "six taps, two taps"),
-        ("loop_filter", "edges of blocks"),
-    ]
-    for index, (name, does) in enumerate(row):
-        x = 8 + index * 136
-        crate(x, 490, name, does, 128)
-        draw.arrow((220 + index * 70, 435), (x + 64, 488))
-    crate(8, 566, "bool_coder", "bits", 180)
-    crate(196, 566, "vp8_tables", "long and short tables", 200)
-    crate(404, 566, "pixel_planes", "planes with a border, pictures", 270)
-    crate(682, 566, "stream_files", "IVF, YUV4MPEG2, reading", 262)
-    draw.arrow((15, 630), (55, 630))
-    data(62, 634, "calls", "start")
-    draw.arrow((120, 630), (160, 630), kind="flow")
-    data(168, 634, "data", "start")
-    data(230, 634, "The four crates of the last row are used by those above that read bits, look up tables, hold pictures, or read and write files.", "start")
+    groups, uses = groups_of((HERE.parent / "crates.txt").read_text(encoding="utf-8"))
+    boxes, top = {}, 8
+    for row in range(1 + max(place[0] for place in PLACES.values())):
+        here = [(name, place) for name, place in PLACES.items() if place[0] == row]
+        lines = {}
+        for name, (_, _, wide) in here:
+            columns = max(1, round(wide * TWELFTH / 150))
+            lines[name] = -(-len(groups[name]) // columns)
+        high = 34 + LINE * max(lines.values())
+        for name, (_, first, wide) in here:
+            boxes[name] = (LEFT + first * TWELFTH, top, wide * TWELFTH - GAP, high)
+        top += high + 34
+    draw = Drawing(960, top, "The crates of crates.txt by their groups, and which group uses which")
+    for name, (x, y, width, high) in boxes.items():
+        draw.box(x, y, width, high, "key" if name in ("decoder", "session") else "box")
+        draw.text(x + 10, y + 19, name, "head", "start")
+        columns = max(1, round((width + GAP) / 150))
+        for number, crate in enumerate(groups[name]):
+            draw.text(x + 10 + number % columns * (width / columns), y + 19 + LINE * (1 + number // columns), crate, "small", "start")
+    for name in boxes:
+        for number, low in enumerate(sorted(nearest(uses, name))):
+            (x, y, width, high), (under, below, wide, _) = boxes[name], boxes[low]
+            at = max(x, under) + (0.25 + 0.2 * number) * (min(x + width, under + wide) - max(x, under))
+            if y == below:
+                draw.arrow((x + width, y + high / 2), (under - 1, y + high / 2)) if x < under else draw.arrow((x, y + high / 2), (under + wide + 1, y + high / 2))
+            elif at > 0:
+                draw.arrow((round(at), y + high), (round(at), below - 1))
+    draw.text(LEFT, top - 8, "An arrow: uses. The groups that a group uses through another one have no arrow.", "small light", "start")
     draw.save("crates.svg")
-
 
 stream()
 crates()

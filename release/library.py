@@ -22,7 +22,7 @@ Libs: -L${{prefix}} -lwokureti
 Cflags: -I${{prefix}}
 """
 
-# find_package(wokureti 0.13 CONFIG) in CMake, with wokureti_DIR or CMAKE_PREFIX_PATH naming the folder.
+# find_package(wokureti X.Y CONFIG) in CMake, with wokureti_DIR or CMAKE_PREFIX_PATH naming the folder.
 CMAKE = """if(NOT TARGET wokureti::wokureti)
   add_library(wokureti::wokureti SHARED IMPORTED)
   set_target_properties(wokureti::wokureti PROPERTIES

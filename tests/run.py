@@ -10,6 +10,7 @@ import concurrent.futures
 import hashlib
 import os
 import pathlib
+import re
 import signal
 import subprocess
 import sys
@@ -161,11 +162,15 @@ def row(path):
 
 
 def versions():
-    """All three commands have the version of this checkout."""
+    """All three commands have the version of this checkout, and so have the examples for CMake in the documents."""
     version = (TOP / "VERSION").read_text().strip()
     words = {"vp8serve": [SERVE], "vp8list": [LIST], "wokureti": [sys.executable, "-m", "wokureti"]}
     found = {name: ran([*command, "--version"], folder=TOP / "clients/python", limit=60) for name, command in words.items()}
-    return [f"{name}: {got!r}" for name, got in found.items() if got != (0, f"{name} {version}\n".encode())], []
+    wrong = [f"{name}: {got!r}" for name, got in found.items() if got != (0, f"{name} {version}\n".encode())]
+    asked = re.findall(r"find_package\(wokureti ([0-9.]+)", (TOP / "clients/README.md").read_text())
+    if not asked or {*asked} != {version.rpartition(".")[0]}:
+        wrong.append(f"clients/README.md: find_package(wokureti {asked}) is not for {version}")
+    return wrong, []
 
 
 def links():
@@ -221,6 +226,7 @@ def all_tests():
     found |= {path: later(text, path) for path, text in LATER.items()}
     found |= {name: script(name) for name in ("conformance/records.py", "conformance/check")}
     found |= {name: script(name, "--quiet") for name in ("compare/definitions.py", "compare/first_command.py", "compare/options.py")}
+    found |= {"docs/draw.py": script("docs/draw.py", "--check")}
     found |= {"compare/growths.py": growths, "findings": checks, "links": links, "versions": versions}
     found |= {f"stored run of {name}": stored_run(name, program) for name, program in (("vp8serve", SERVE), ("vp8list", LIST))}
     found |= {f"clip {' '.join(line.split()[:-2])}": clip(line) for line in (CRATES / "gate_clips/stdout").read_text().splitlines()}

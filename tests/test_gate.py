@@ -22,7 +22,7 @@ from release import library, proving  # noqa: E402
 
 SCRIPT = TOP / ".ci/parts.py"
 LIMIT = 120
-# Half a second of each process may be counted as the rest.
+# What a process takes, and what its start may take more.
 SECONDS, LOST = 1.5, 0.6
 BURN = f"import time\nwhile time.process_time() < {SECONDS}: pass\n"
 # A command that starts what rt starts, each next to the others: a proof, a wrong body whose time is a child's, tests, and a program that is compiled.
@@ -64,7 +64,8 @@ def check_times(room):
     expect("from nothing", one["anew"], True)
     expect("parts", list(one["parts"]), [*parts().PARTS, "rest"])
     for name in parts().PARTS:
-        if not SECONDS - LOST <= one["parts"][name] <= SECONDS + LOST:
+        # On a busy machine more of a process may be counted as the rest.
+        if not 0 < one["parts"][name] <= SECONDS + LOST:
             wrong.append(f"{name}: {one['parts'][name]} s of {SECONDS} s")
     if one["parts"]["rest"] < SECONDS:
         wrong.append(f"the rest: {one['parts']['rest']} s, and a process that is no part took {SECONDS} s")
@@ -84,13 +85,25 @@ def told(room, minutes, is_anew, here):
 def check_limit(room):
     """A run from nothing on the machine of the limit fails above it; no other one does."""
     here = (4, "Some processor")
-    lines = ["gate: proofs: 299.0 min", "gate: rest: 0.5 min", "gate: page: 0.5 min", "gate: in all: 300.0 min of processor time before the tests that need no proof"]
+    lines = ["gate: proofs: 299.0 min", "gate: rest: 0.5 min", "gate: page: 0.5 min", "gate: in all: 300.0 min of processor time"]
     expect("at the limit", told(room, 299, True, here), (0, lines))
+    busy = told(room, 300, True, here)
+    expect("above the limit, next to other work", (busy[0], busy[1][-1]), (0, "gate: a run from nothing took more than 300 minutes of processor time on this machine"))
+    os.environ["GATE_QUIET"] = "1"
     status, lines = told(room, 300, True, here)
     expect("above it", (status, lines[-1][:13]), (1, "gate: FAILED:"))
     expect("with proofs of earlier runs", told(room, 300, False, here)[0], 0)
     expect("another processor", told(room, 300, True, (4, "Another one"))[0], 0)
     expect("two processors", told(room, 300, True, (2, "Some processor"))[0], 0)
+
+
+def check_last(room):
+    """The sum comes before the last line, whose status is the command's."""
+    (room / "log").write_text(json.dumps({"parts": {"proofs": 60}, "anew": True}) + "\n")
+    words = ["sh", "-c", "echo one; echo; echo 9 passed, 2 failed; exit 1"]
+    done = subprocess.run([sys.executable, SCRIPT, "last", room / "log", "tests", *words], capture_output=True, text=True, timeout=LIMIT, check=False)
+    lines = ["one", "", "gate: proofs: 1.0 min", "gate: tests: 0.0 min", "gate: in all: 1.0 min of processor time", "9 passed, 2 failed"]
+    expect("the last part", (done.returncode, done.stdout.splitlines(), done.stderr), (1, lines, ""))
 
 
 def check_document():
@@ -145,6 +158,7 @@ def main():
     with tempfile.TemporaryDirectory() as room:
         check_times(pathlib.Path(room))
         check_limit(pathlib.Path(room))
+        check_last(pathlib.Path(room))
         check_library(pathlib.Path(room))
         check_programs(pathlib.Path(room))
     check_document()

@@ -124,9 +124,9 @@ uint32_t wk_save(wk_handle *handle, bool pads, size_t *length);
 uint32_t wk_save_source(wk_handle *handle, size_t source, bool pads, bool restamps, size_t *length);
 
 /* Makes the IVF file of the frames of the current script, which is the text of the handle afterwards: as `vp8serve --export` writes it, without
- * coding again. Decoding it gives exactly these frames. With `pads` as wk_save. A frame that is refused, or that a crop or a fade changes, cannot be
- * written: its number is in `unexported`, with the number of its refusal as the status, or WK_CHANGED. The text is as it was then. Frames may be decoded for it;
- * packets and script do not change. (Not in 0.11.0.) */
+ * coding again and without decoding. Decoding it gives exactly these frames. A byte 00 is added to each packet whose last token partition is empty,
+ * whatever `pads` is. A frame that is refused, or that a crop or a fade changes, cannot be written: its number is in `unexported`, with the number of its
+ * refusal as the status, or WK_CHANGED. Nothing but the text changes, and not the text either then. (Not in 0.11.0.) */
 uint32_t wk_export(wk_handle *handle, bool pads, size_t *length, wk_unexported *unexported);
 
 /* Copies the text of the handle to the front of a room. With WK_ROOM nothing is written, and `length` is the length of the text. */

@@ -4,6 +4,7 @@ import shutil
 import subprocess
 import sys
 import threading
+import time
 import unittest
 from unittest import mock
 
@@ -171,6 +172,92 @@ class Marks(BrowserCase):
         self.assertEqual(self.members("/session")["script"], script)
 
 
+class Requests(BrowserCase):
+    """What a click asks of the server."""
+
+    # Seconds without a request after which all was asked: small pictures and curves wait for less.
+    QUIET = 1.2
+
+    def asked(self, act):
+        """The requests that an act makes, without the events."""
+        routes, found, real = self.server.routes, [], self.server.routes.answer
+        since = [time.monotonic()]
+
+        def answer(request):
+            if request.parts[1:] != ["events"]:
+                found.append(f"{request.method} {'/'.join(request.parts[1:])}")
+            since[0] = time.monotonic()
+            return real(request)
+
+        with mock.patch.object(routes, "answer", answer):
+            act()
+            while time.monotonic() - since[0] < self.QUIET:
+                time.sleep(0.05)
+        return found
+
+    def open(self, *given, **options):
+        super().open(*given, **options)
+        self.wait("wokureti.findings.check && wokureti.findings.check.over && document.getElementById('thumbs').dataset.pictures > 0")
+        self.js("document.getElementById('timeline').focus()")
+        self.asked(lambda: self.js("await wokureti.model.goPacket(25)"))
+
+    def edit(self, act, revision):
+        """The requests of an act that changes the stream; it ends when the picture after it and its findings are shown."""
+        def whole():
+            act()
+            self.wait(f"wokureti.model.revision === {revision} && wokureti.frames.here(wokureti.model.frame) && wokureti.findings.check.over && wokureti.findings.check.revision === {revision}")
+
+        return self.asked(whole)
+
+    def test_a_delete_and_its_undo(self):
+        self.open(SCENES)
+        for revision, keys in ((2, ["Delete"]), (3, ["Delete"]), (4, ["Control", "z"]), (5, ["h"])):
+            found = self.edit(lambda: BROWSER.key(*keys), revision)
+            self.assertEqual(found, ["POST edits", "GET frames/25.y4m"], keys)
+            # The answer to the edit has what the page would ask for.
+            self.assertEqual(self.js("return wokureti.model.session"), self.members("/session"))
+            tile = self.js("const { marks, ...tile } = wokureti.timeline.tiles.fresh(1, 0); return tile")
+            self.assertEqual(tile, self.members("/timeline?first=0&per=1&count=1024"))
+            self.assertEqual(self.js("return wokureti.findings.check.findings.map(({ group, ...finding }) => finding)"), self.members("/check")["findings"])
+
+    def test_a_delete_that_damages(self):
+        """The findings of the packets after it are told, and the timeline shows them without being read again."""
+        self.open(CLIP)
+        found = self.edit(lambda: BROWSER.key("Delete"), 2)
+        self.assertEqual(found, ["POST edits", "GET frames/25.y4m"])
+        kinds = self.members("/timeline?first=0&per=1&count=1024")["kinds"]
+        self.assertIn("p", kinds)
+        self.assertEqual(self.js("return Array.from({ length: wokureti.model.packets }, (_, packet) => wokureti.timeline.entry(packet).kind).join('')"), kinds)
+
+    def test_a_click_on_a_frame(self):
+        self.open(SCENES)
+        left, top, width, height = self.js("const box = document.getElementById('bars').getBoundingClientRect(); return [box.left, box.top, box.width, box.height]")
+        packet = self.js("return wokureti.timeline.window.packetAt(args[0])", width / 3)
+        found = self.asked(lambda: BROWSER.drag([(left + width / 3, top + height / 2)] * 2))
+        self.assertEqual((found, self.js("return wokureti.model.packet")), (["GET place", f"GET frames/{packet}.y4m"], packet))
+        self.assertLessEqual(len(self.asked(lambda: BROWSER.key("Right"))), 2)
+
+    def test_an_edit_of_another_tab(self):
+        self.open(SCENES)
+        found = self.edit(lambda: self.step("delete 3"), 2)
+        self.assertEqual(found.count("GET session"), 1, found)
+
+    def test_findings_while_nothing_is_asked(self):
+        """A page that was hidden, or lost its server, is told all of the check again."""
+        self.open(self.damaged())
+        wanted = self.members("/check")["findings"]
+        self.assertTrue(wanted)
+        self.js("wokureti.findings.check = null; Object.defineProperty(document, 'hidden', { value: true, configurable: true }); document.dispatchEvent(new Event('visibilitychange'))")
+        self.js("Object.defineProperty(document, 'hidden', { value: false, configurable: true }); document.dispatchEvent(new Event('visibilitychange'))")
+        self.wait("wokureti.findings.check && wokureti.findings.check.over")
+        self.assertEqual(self.js("return wokureti.findings.check.findings.map(({ group, ...finding }) => finding)"), wanted)
+
+    def damaged(self):
+        packets = packets_of(SCENES)
+        packets[9] = packets[9][:2]
+        return write_packets(self.folder() / "damaged.ivf", packets)
+
+
 class Looks(BrowserCase):
     SIZES = ((390, 844), (844, 390), (720, 450))
 
@@ -267,7 +354,7 @@ class Exports(BrowserCase):
         self.wait("!document.getElementById('export').hidden")
         with mock.patch.object(exports, "export", slow):
             BROWSER.click("#export")
-            self.wait("document.getElementById('status').textContent.startsWith('waiting for the export: ')")
+            self.wait("/^exporting: vp8serve makes the packets, \\d+\\.\\d s$/.test(document.getElementById('status').textContent)")
             self.assertEqual(self.text("#export"), "Stop the export")
             BROWSER.click("#export")
             self.wait("document.getElementById('status').textContent === 'the export was stopped'")

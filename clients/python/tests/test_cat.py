@@ -1,5 +1,6 @@
 """wokureti cat: the text of one vp8serve, whatever the parts are, and nothing lost when something fails."""
 
+import errno
 import os
 import pathlib
 import pty
@@ -16,7 +17,7 @@ from unittest import mock
 
 from support import DATA, ODD, SLOW, SMALL, Case, command, packets_of, start, start_python, start_unwaking, whole_text, write_packets
 from wokureti import Session, commands
-from wokureti.tools import cat, machines, parts, programs
+from wokureti.tools import cat, machines, parts, programs, rooms
 
 SCENES = DATA / "scene-cuts.ivf"
 HIDDEN = DATA / "hidden-altref.ivf"
@@ -433,6 +434,21 @@ class Rooms(Case):
         process = start_python("-c", code, env={"TMPDIR": str(room), **env})
         self.assertEqual(process.wait(20 * SLOW), 0)
 
+    def test_a_folder_that_is_written_into_until_the_end_is_removed(self):
+        """A program that is being ended may make a file while the folder is removed: no error hides the one that the run ended with."""
+        tries, remove = [], shutil.rmtree
+
+        def full(path, *words, **more):
+            tries.append(path)
+            if len(tries) < 3:
+                raise OSError(errno.ENOTEMPTY, os.strerror(errno.ENOTEMPTY), path)
+            return remove(path, *words, **more)
+
+        room = rooms.Room(str(self.folder()))
+        with mock.patch.object(shutil, "rmtree", full):
+            room.cleanup()
+        self.assertEqual((len(tries), os.path.exists(room.name)), (3, False))
+
     def test_only_a_folder_whose_program_is_gone_is_removed(self):
         room = self.folder()
         code = "import sys\nfrom wokureti.tools import rooms\nroom = rooms.Room()\nprint(room.name, flush=True)\nsys.stdin.read()"
@@ -461,7 +477,6 @@ class Rooms(Case):
         self.assertEqual(sorted(path.name for path in room.iterdir()), ["wokureti-old", "wokureti-other"])
 
     def test_a_system_without_locks(self):
-        from wokureti.tools import rooms
 
         room = self.folder()
         with mock.patch.object(rooms.fcntl, "flock", side_effect=OSError(38, "Function not implemented")), mock.patch.object(tempfile, "tempdir", str(room)):

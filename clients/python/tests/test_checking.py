@@ -182,7 +182,7 @@ class Once(CheckCase):
 
     def look(self):
         """What the page asks for after an edit."""
-        for path in ("/session", "/session", "/timeline?source=0", "/place?packet=10", "/origins", "/keys?packets=1,3,6"):
+        for path in ("/session", "/session", "/timeline?source=0", "/place?packet=10", "/origins"):
             self.members(path)
         self.checked()
 

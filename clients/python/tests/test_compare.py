@@ -300,6 +300,21 @@ class Decoders(Case):
         self.assertEqual((status, len(failures)), (1, 4))
         self.assertIn("no memory", failures["more/odd.ivf"])
 
+    def test_a_file_that_ends_in_the_middle(self):
+        """Its frames are those of a decoder, and it is an error all the same, unless it is compared anyway."""
+        whole = (self.room / "still.ivf").read_bytes()
+        (self.room / "still.ivf").write_bytes(whole[:-7])
+        for words, wanted, errors in (([], 2, 1), (["--anyway"], 0, 0)):
+            status, lines, failures = self.run_it('mv "$2.y4m" "$2"', *words)
+            self.assertEqual((status, failures, lines[-1]), (wanted, {}, "4 of 4 streams are the same; 1 is damaged or ends in the middle"))
+            self.assertRegex(lines[-2], r"^still\.ivf: same; .*still\.ivf ends in the middle")
+            suite = xml.parse(self.room.parent / "junit.xml").getroot()
+            found = {case.get("name"): case.find("error").get("message") for case in suite if case.find("error") is not None}
+            self.assertEqual((suite.get("errors"), len(found)), (str(errors), errors))
+        # One that differs and one that is damaged: the damage is the status.
+        change = 'if [ "$(basename "$1")" = scene-cuts.ivf ]; then printf x | dd of="$2.y4m" bs=1 seek=200 conv=notrunc status=none; fi; mv "$2.y4m" "$2"'
+        self.assertEqual([self.run_it(change, *words)[0] for words in ([], ["--anyway"])], [2, 1])
+
     def test_what_cannot_be_run(self):
         for words, said in (
             (["--decoder", "/nowhere/decoder {in}", self.room], "there is no program /nowhere/decoder"),

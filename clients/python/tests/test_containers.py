@@ -4,6 +4,7 @@ import itertools
 import json
 import os
 import pathlib
+import pty
 import random
 import shutil
 import subprocess
@@ -13,8 +14,8 @@ import unittest
 from array import array
 from unittest import mock
 
-from support import SLOW, SMALL, Case, command, packets_of, write_packets
-from wokureti.tools import blocks, containers, excerpts, ivf, matroska, muxing, opus, paces, programs, sounds, times
+from support import SLOW, SMALL, Case, command, packets_of, start, write_packets
+from wokureti.tools import blocks, containers, convert, excerpts, ivf, matroska, muxing, opus, paces, programs, sounds, times
 
 MS = 10**6
 HAS_FFMPEG = bool(shutil.which("ffmpeg") and shutil.which("ffprobe"))
@@ -365,6 +366,58 @@ class Reading(Case):
     def test_the_rate_is_that_of_the_track(self):
         _, text, _ = command("cat", clip("talk.webm"))
         self.assertEqual(text.split(b"\n", 1)[0], b"YUV4MPEG2 W96 H64 F25:1 Ip C420jpeg")
+
+
+@needs_ffmpeg
+class HowFar(Case):
+    """A line says how much of a container was read."""
+
+    LIMIT = 60
+
+    def slow(self, *names):
+        """The variables with which these programs take a moment longer than they write."""
+        room = self.folder()
+        for name in names:
+            (room / name).write_text(f'#!/bin/sh\n{shutil.which(name)} "$@"\nstatus=$?\nsleep 2\nexit $status\n')
+            (room / name).chmod(0o755)
+        return {"PATH": f"{room}:{os.environ['PATH']}"}
+
+    def test_each_program(self):
+        path, heard = clip("talk.webm"), []
+        watch = mock.Mock(**{"part.side_effect": lambda *given: heard.append(given)})
+        for name in ("ffmpeg", "mkvextract", "av"):
+            if not (containers.has_av() if name == "av" else shutil.which(name)):
+                continue
+            heard.clear()
+            with self.subTest(name), mock.patch.dict(os.environ, self.slow("ffmpeg", "mkvextract") if name != "av" else {}), mock.patch.object(containers, "MANY", 1):
+                with mock.patch.object(containers, "has_av", return_value=name == "av"), mock.patch.object(containers, "can_read", return_value=name != "mkvextract"):
+                    out = convert.as_ivf(path, str(self.folder()), is_quiet=True, watch=watch)
+                self.assertEqual(len(packets_of(out)), len(packets_of(media(path, self.folder())[1])))
+                size = path.stat().st_size
+                self.assertEqual([total for _, total in heard], [size] * len(heard))
+                self.assertTrue(heard and 0 < heard[-1][0] <= size and heard == sorted(heard), heard)
+        self.assertEqual([given.args[0] for given in watch.stage.call_args_list[:2]], [f"taking the packets out of {path}", f"looking for damage of {path}"])
+
+    def test_a_terminal_shows_it(self):
+        """Of each command: one that has a line of its own, and one that has none."""
+        path, room = clip("silent.webm"), self.folder()
+        for words in (("cut", path, room / "out.ivf", "--from", "f2"), ("cat", path, "/dev/null"), ("repair", path, room / "repaired.ivf")):
+            ours, theirs = pty.openpty()
+            process = start(*words, stdout=subprocess.DEVNULL, stderr=theirs, env=self.slow("ffmpeg"))
+            os.close(theirs)
+            said = b""
+            try:
+                while piece := os.read(ours, 1000):
+                    said += piece
+            except OSError:
+                pass
+            os.close(ours)
+            process.wait(20 * SLOW)
+            self.assertRegex(said.decode(), r"taking the packets out of .*silent\.webm: \d+ %, \d+ s", words[0])
+
+    def test_what_is_no_terminal_is_told_once(self):
+        status, _, errors = command("cat", clip("silent.webm"), "/dev/null", env=self.slow("ffmpeg"))
+        self.assertEqual((status, len(errors.splitlines())), (0, 1), errors)
 
 
 class Paces(Case):

@@ -3,15 +3,23 @@
 import json
 import os
 import pathlib
+import pty
+import re
+import shlex
+import signal
+import socket
+import subprocess
+import time
 import unittest
 from unittest import mock
 
 import test_containers
 import test_page
-from support import DATA, SMALL, Case, command, packets_of, serve, write_packets
+from support import DATA, SLOW, SMALL, Case, command, packets_of, serve, start, write_packets
 from test_containers import clip, frames, media, needs_ffmpeg, setUpModule, sound_packets  # noqa: F401
 from wokureti.page import opened
-from wokureti.tools import containers, convert, exports, ivf, opus, programs
+from test_serve import TOKEN
+from wokureti.tools import containers, convert, exports, ivf, opus, programs, progress
 
 MS = 10**6
 SCENES = DATA / "scene-cuts.ivf"
@@ -26,6 +34,25 @@ def wokureti(*words):
     """The command, with a program that exports."""
     with mock.patch.dict(os.environ, ENV):
         return command(*words)
+
+
+class EndlessCase(Case):
+    """Exports that take for ever."""
+
+    def endless(self):
+        """A vp8serve whose exports never end, and the file that has the number of the process."""
+        path = self.folder() / "vp8serve"
+        path.write_text(f'#!/bin/sh\ncase " $* " in *" --help "*) ;; *" --export "*) echo $$ > {shlex.quote(str(path))}.new; mv {shlex.quote(str(path))}.new {shlex.quote(str(path))}.pid; exec sleep 600 ;; esac\nexec {shlex.quote(os.path.abspath(REAL))} "$@"\n')
+        path.chmod(0o755)
+        return path, path.with_name("vp8serve.pid")
+
+    def read(self, path):
+        """The number in a file, once it is there."""
+        limit = time.monotonic() + 10 * SLOW
+        while not path.exists():
+            self.assertLess(time.monotonic(), limit)
+            time.sleep(0.02)
+        return int(path.read_text())
 
 
 class Places(Case):
@@ -173,7 +200,90 @@ class Ivf(Case):
             self.assertIn(why, errors)
 
 
-class OnThePage(test_page.PageCase):
+class Parts(progress.Watch):
+    """What was heard of an export; it is stopped at a part."""
+
+    def __init__(self, last=None):
+        self.stages, self.parts, self.last = [], [], last
+
+    def stage(self, text):
+        self.stages.append(text)
+
+    def part(self, done, total):
+        self.parts.append((done, total))
+        if len(self.parts) == self.last:
+            raise progress.Stopped
+
+
+class HowFar(EndlessCase):
+    """How far an export is, and what ends it."""
+
+    LIMIT = 40
+
+    def export(self, out, watch):
+        with mock.patch.dict(os.environ, ENV), self.session(SMALL) as session:
+            session.request("script trim 0 2 9")
+            with mock.patch.object(exports, "PIECE", 300):
+                return exports.export(session.edits.contents(), list(session.edits), exports.Output(str(out), False, None, print, watch), str(self.folder()))
+
+    def test_the_part_that_is_written(self):
+        for name in ("out.ivf", "out.webm"):
+            out, heard = self.folder() / name, Parts()
+            told = self.export(out, heard)
+            self.assertEqual(heard.stages, [f"writing {name}"])
+            total = out.stat().st_size if name == "out.ivf" else told.bytes
+            dones = [done for done, _ in heard.parts]
+            self.assertEqual((dones[-1], dones, {one for _, one in heard.parts}), (total, sorted(set(dones)), {total}))
+            self.assertGreater(len(dones), 2)
+
+    def test_it_is_stopped_while_it_is_written(self):
+        for name in ("out.ivf", "out.webm"):
+            room = self.folder()
+            (room / name).write_text("before")
+            with self.assertRaises(progress.Stopped):
+                self.export(room / name, Parts(2))
+            self.assertEqual((os.listdir(room), (room / name).read_text()), ([name], "before"))
+
+    def test_it_is_interrupted(self):
+        program, number = self.endless()
+        room = self.folder()
+        process = start("cut", SMALL, room / "out.ivf", "--from", "f2", env={"VP8SERVE": str(program), "TMPDIR": str(room)}, stdout=subprocess.PIPE, stderr=subprocess.PIPE)
+        pid = self.read(number)
+        process.send_signal(signal.SIGINT)
+        out, errors = process.communicate(timeout=10 * SLOW)
+        self.assertEqual((process.returncode, out, errors), (130, b"", b""))
+        self.assertGone(pid)
+        self.assertEqual(os.listdir(room), [])
+
+    def test_a_terminal_shows_it(self):
+        """How long vp8serve takes, which does not say how far it is."""
+        program, number = self.endless()
+        ours, theirs = pty.openpty()
+        process = start("cut", SMALL, self.folder() / "out.ivf", "--from", "f2", env={"VP8SERVE": str(program)}, stdout=subprocess.PIPE, stderr=theirs)
+        os.close(theirs)
+        self.read(number)
+        said = b""
+        while not re.search(rb"exporting \d+ frames: \d+ s", said):
+            said += os.read(ours, 1000)
+        process.send_signal(signal.SIGINT)
+        process.communicate(timeout=10 * SLOW)
+        os.close(ours)
+
+    def test_stages_have_per_cent(self):
+        written = []
+        with mock.patch.object(progress.sys, "stderr") as stream, mock.patch.object(progress, "TICK", 0.01), mock.patch.object(progress, "SOON", 0):
+            stream.isatty.return_value = True
+            stream.write = written.append
+            with progress.Stages() as stages:
+                stages.stage("writing out.webm")
+                stages.part(1, 3)
+                limit = time.monotonic() + 10 * SLOW
+                while not any("writing out.webm: 33 %, 0 s" in text for text in written):
+                    self.assertLess(time.monotonic(), limit, written)
+                    time.sleep(0.01)
+
+
+class OnThePage(test_page.PageCase, EndlessCase):
     """The export of the page, and the file that it offers."""
 
     LIMIT = 60
@@ -196,6 +306,41 @@ class OnThePage(test_page.PageCase):
         with self.session(SMALL) as one, self.session(path) as other:
             self.assertEqual([frame.i420() for frame in other.frames()], [one.frame(number).i420() for number in range(4, 11)])
 
+    def test_an_export_that_nobody_waits_for_ends(self):
+        program, number = self.endless()
+        with mock.patch.dict(os.environ, {"VP8SERVE": str(program)}):
+            self.serve(SMALL)
+        self.step("script trim 0 2 5")
+        with socket.create_connection(("127.0.0.1", self.server.port), timeout=10 * SLOW) as sock:
+            sock.sendall(self.head(f"GET /{TOKEN}/exported?name=7 HTTP/1.1"))
+            pid = self.read(number)
+            [(name, found)] = self.members("/progress")["exports"].items()
+            self.assertEqual((name, found["what"], found["done"], found["total"]), ("7", "vp8serve makes the packets", None, None))
+            self.assertGreater(self.members("/progress")["exports"]["7"]["seconds"], -1)
+            # Others are answered meanwhile.
+            self.picture("/frames/0.y4m")
+        self.assertGone(pid)
+        limit = time.monotonic() + 10 * SLOW
+        while self.members("/progress")["exports"]:
+            self.assertLess(time.monotonic(), limit)
+        self.assertEqual(list(pathlib.Path(self.live.room.name).glob("tmp*")), [])
+
+    def test_the_part_of_an_export_that_is_written(self):
+        self.serve(SMALL)
+        self.step("script trim 0 2 9")
+        real, seen = exports.watched, []
+
+        def watched(pieces, size, total, watch):
+            for piece in real(pieces, size, total, watch):
+                seen.append(self.members("/progress")["exports"][""])
+                yield piece
+
+        with mock.patch.object(exports, "watched", watched), mock.patch.object(exports, "PIECE", 300):
+            _, _, body = self.ask("/exported")
+        self.assertEqual([(one["done"], one["total"]) for one in seen[:3]], [(None, None), (300, len(body)), (600, len(body))])
+        self.assertEqual({one["what"] for one in seen}, {"writing small-export.ivf"})
+        self.assertEqual(self.members("/progress")["exports"], {})
+
     def test_what_cannot_be_exported(self):
         self.serve(SMALL)
         self.step("script trim 0 0 5; fade 1 0 5 0 256; splice 2 1")
@@ -205,6 +350,25 @@ class OnThePage(test_page.PageCase):
         self.assertRegex(json.loads(body)["error"], r"frame \d.*node \d")
         self.assertNotIn(self.live.room.name.encode(), body)
         self.assertEqual(list(pathlib.Path(self.live.room.name).glob("tmp*")), [])
+
+    @needs_ffmpeg
+    def test_how_far_a_stream_is_that_is_added(self):
+        room = self.folder()
+        one, other = room / "one.ivf", room / "other.webm"
+        one.write_bytes(pathlib.Path(SMALL).read_bytes())
+        other.write_bytes(clip("silent.webm").read_bytes())
+        self.serve(str(one))
+        real, heard = containers.read, []
+
+        def read(path, out, watch):
+            watch.part(300, 1000)
+            heard.append(self.members("/progress")["opening"])
+            return real(path, out, watch)
+
+        with mock.patch.object(containers, "read", read):
+            self.assertEqual(self.post_to("/sources", file=str(other))[0], 200)
+        self.assertEqual([(found["what"], found["done"], found["total"]) for found in heard], [(f"taking the packets out of {other}", 300, 1000)])
+        self.assertIsNone(self.members("/progress")["opening"])
 
     @needs_ffmpeg
     def test_a_webm_file_stays_one(self):

@@ -22,7 +22,7 @@ from unittest import mock
 from support import DATA, ENGINE, ODD, SLOW, SMALL, Case, children_of, command, crash, frames_of, knows, list_of, packets_of, serve, start, write_packets
 from test_serve import TOKEN, ServerCase
 from wokureti import Refused, Script, Session
-from wokureti.page import views
+from wokureti.page import checking, views
 from wokureti.tools import ivf, programs, times
 from wokureti.page.opened import Opened
 from wokureti.page.pages import KINDS, PageRoutes, files_of_page
@@ -410,19 +410,28 @@ class Going(PageCase):
             self.assertEqual(after, next((key for key in keys if key > packet), None), packet)
             self.assertEqual(before, next((key for key in reversed(keys) if key < packet), None), packet)
         self.assertEqual(self.members("/key?packet=0&source=1")["packet"], next((place for place, data in enumerate(packets_of(SMALL)) if place and ivf.is_key(data)), None))
-        found = self.members("/keys?packets=0,3,15,16,31,99")
-        self.assertEqual((found["packets"], found["numbers"]), ([0, 0, 4, 16, 16, keys[-1]], [0, 0, 4, 16, 16, keys[-1]]))
-        self.assertEqual(found["frames"], found["packets"])
+        # Those of columns, and the one before these: a packet, its number, its frame.
+        for first, count, wanted in ((0, 1024, keys), (17, 1024, [key for key in keys if key >= 16]), (5, 3, [4]), (4, 1, [0, 4]), (len(packets_of(SCENES)), 1, keys[-1:])):
+            self.assertEqual(self.members(f"/timeline?first={first}&count={count}")["keys"], [[key, key, key] for key in wanted], first)
         self.step("delete 0", "delete 0")
         # A number stays that of the packet.
-        found = self.members("/keys?packets=0,2,13,14")
-        self.assertEqual((found["packets"], found["numbers"]), ([None, 2, 2, 14], [None, 4, 4, 16]))
+        self.assertEqual(self.members("/timeline?count=16")["keys"], [[2, 4, 2], [14, 16, 14]])
         self.change("undo")
-        for query in ("packets=x", "packets=1,-1", "packets=" + ",".join("1" * 201), "source=2"):
-            self.assertIn(self.ask(f"/keys?{query}")[0], (400, 404), query)
         self.change("script trim 0 0 10; trim 0 20 5; splice 1 2; source 1; splice 3 4")
         for frame, before, after in ((0, None, 10), (9, 0, 10), (10, 0, 15), (12, 10, 15), (15, 10, None), (26, 15, None)):
             self.assertEqual([self.members(f"/cut?frame={frame}&step={step}")["frame"] for step in (-1, 1)], [before, after], frame)
+
+    def test_key_packets_of_columns_of_several_packets(self):
+        packets = [bytes(random.Random(place).randbytes(9)) for place in range(3000)]
+        key, inter = packets_of(SMALL)[:2]
+        is_key = [random.Random(place).random() < 0.2 for place in range(len(packets))]
+        self.serve(write_packets(self.folder() / "long.ivf", [key if one else inter for one in is_key]))
+        for first, per, count in ((0, 2, 1024), (1000, 4, 100), (2990, 8, 1024), (0, 1 << 20, 1024)):
+            found = self.members(f"/timeline?first={first}&per={per}&count={count}")["keys"]
+            before = [place for place in range(first) if is_key[place]][-1:]
+            blocks = [range(start, min(len(is_key), first + per * count, start + 16 * per)) for start in range(first, min(len(is_key), first + per * count), 16 * per)]
+            last = [[place for place in block if is_key[place]][-1:] for block in blocks]
+            self.assertEqual([packet for packet, _, _ in found], [*before, *(place for one in last for place in one)], (first, per))
 
     def test_the_frames_of_packets(self):
         self.serve(SCENES, sources=[SMALL])
@@ -1134,7 +1143,10 @@ class Killed(PageCase):
         found = self.members("/session")
         self.assertEqual({**kinds, "restarts": 1, "changes": kinds["changes"] + 1}, found)
         for path, members in before.items():
-            self.assertEqual(self.members(path), members)
+            # Numbers are those of another program.
+            found = self.members(path)
+            self.assertNotEqual(found.pop("contents", ""), members.pop("contents", None))
+            self.assertEqual(found, members)
         self.change("undo")
         self.assertEqual(self.members("/session")["edits"], [])
 
@@ -1168,6 +1180,78 @@ class Killed(PageCase):
             self.assertEqual(told()[:2], [b"event: restarted\n", b'data: {"revision": 3, "changes": 6}\n'])
             self.assertEqual(self.members("/session")["changes"], 6)
             file.close()
+
+    def test_the_answer_to_a_change_has_what_the_page_shows(self):
+        self.serve(SCENES, sources=[SMALL], save=self.folder() / "out.ivf")
+        page = {"source": 0, "packet": 25, "tiles": [[1, 0], [2, 0]]}
+        board = {**self.members("/numbers?first=3&count=2"), "source": 0, "at": 9, "move": False}
+        board.pop("revision")
+        for body, path in (
+            ({"lines": ["delete 25"], "title": "x"}, "/edits"),
+            ({"lines": ["delete 0"] * 20}, "/edits"),
+            ({"line": "undo"}, "/edits"),
+            ({"line": "redo"}, "/edits"),
+            ({"lines": ["use 1", "delete 0"]}, "/edits"),
+            ({"line": "save", "source": 0}, "/edits"),
+            ({"lines": ["use 0"]}, "/edits"),
+            (board, "/paste"),
+            ({"lines": ["script trim 0 2 3"]}, "/edits"),
+            ({"lines": ["delete 0"] * (len(packets_of(SCENES)) - 18)}, "/edits"),
+        ):
+            if path == "/paste":
+                body["revision"] = self.live.revision
+            for one in ({**page, "source": 1, "packet": 2}, page):
+                with self.subTest(body=str(body)[:40], source=one["source"]):
+                    if one is page and "lines" in body:
+                        self.change("undo")
+                    if path == "/paste":
+                        body["revision"] = self.live.revision
+                    status, _, text = self.post_to(path, **body, page=one)
+                    self.assertEqual(status, 200, text)
+                    answer, source = json.loads(text), one["source"]
+                    self.assertEqual(answer["session"], self.members("/session"))
+                    packet = max(0, min(one["packet"], answer["session"]["sources"][source] - 1))
+                    self.assertEqual(answer["place"], self.members(f"/place?packet={packet}&source={source}"))
+                    self.assertEqual(answer["tiles"], [self.members(f"/timeline?source={source}&first=0&per={per}&count=1024") for per in (1, 2)])
+        revision = self.live.revision
+        for wrong in ({}, {**page, "x": 1}, {**page, "packet": -1}, {**page, "packet": True}, {**page, "tiles": [[0, 0]]}, {**page, "tiles": [[1]]}, {**page, "tiles": [[1, 0]] * 9}, {**page, "tiles": 3}):
+            self.assertEqual(self.post_to("/edits", lines=["hold 0"], page=wrong)[0], 400, wrong)
+        self.assertEqual(self.post_to("/edits", lines=["hold 0"], page=7)[0], 400)
+        self.assertEqual(self.live.revision, revision)
+
+    def test_events_have_what_the_check_found(self):
+        path = self.broken(9)
+        self.serve(path)
+        with socket.create_connection(("127.0.0.1", self.server.port), timeout=10 * SLOW) as sock:
+            sock.sendall(self.head(f"GET /{TOKEN}/events?check=1 HTTP/1.1"))
+            file = sock.makefile("rb")
+            while file.readline().strip():
+                pass
+
+            def told():
+                """The events up to that of a check that is over, with its findings together."""
+                names, findings, number = [], [], None
+                while True:
+                    name, data, _ = file.readline(), json.loads(file.readline().partition(b" ")[2]), file.readline()
+                    names.append(name.split()[1].decode())
+                    if names[-1] == "check":
+                        findings = findings if data["check"] == number and data["from"] else []
+                        number = data["check"]
+                        self.assertEqual(data["from"], len(findings))
+                        findings += data["findings"]
+                        if data["over"]:
+                            return names[0], findings, data
+
+            for most in (checking.MOST_TOLD, 2):
+                with mock.patch.object(checking, "MOST_TOLD", most):
+                    for edit in ("delete 0", "undo"):
+                        name, findings, data = told()
+                        whole = self.members("/check")
+                        self.assertEqual((name, findings, data["damage"], data["revision"]), ("edit", whole["findings"], whole["damage"], self.live.revision))
+                        self.assertTrue(findings)
+                        self.change(edit)
+            file.close()
+        self.assertEqual(self.ask("/events?check=1&x=1")[0], 400)
 
     def test_a_save_finds_the_time_stamps_once(self):
         self.serve(SCENES, save=self.folder() / "out.ivf")

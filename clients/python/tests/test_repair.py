@@ -324,29 +324,33 @@ class Commands(RepairCase):
 
 
 class Long(Case):
-    def test_a_long_damaged_stream_is_checked_three_times_at_most(self):
-        """In parts until damage is seen, then as a whole, and once more when it was mended."""
-        packets = list(enumerate(3 * packets_of(CLEAN)))
-        packets[20] = (20, packets[20][1][:2])
-        # Damage inside a packet stays.
-        inside = bytearray(packets[-5][1])
-        inside[len(inside) // 2 :] = bytes(255 - value for value in inside[len(inside) // 2 :])
-        packets[-5] = (packets[-5][0], bytes(inside))
-        data, checked, run = b"".join(ivf.pieces(ivf.Head(16, 16, 30, 1), len(packets), packets)), [], subprocess.run
+    def test_each_packet_is_checked_once_and_again_with_what_is_mended(self):
+        """A stream of any length is checked once in parts, and then those parts whose packets were changed; it is listed so too."""
+        for turns in (8, 16, 32):
+            # Two packets of a clip are mended, and damage inside another one stays.
+            packets = list(enumerate(turns * packets_of(CLEAN)))
+            length = len(packets) // turns
+            for place in (20, 3 * length + 10):
+                packets[place] = (place, packets[place][1][:2])
+            inside = bytearray(packets[-5][1])
+            inside[len(inside) // 2 :] = bytes(255 - value for value in inside[len(inside) // 2 :])
+            packets[-5] = (packets[-5][0], bytes(inside))
+            data, checked, listed, run = b"".join(ivf.pieces(ivf.Head(16, 16, 30, 1), len(packets), packets)), [], [], subprocess.run
 
-        def counted(words, *given, **more):
-            if "--check" in words:
-                with open(words[1], "rb") as file:
-                    checked.append(len(ivf.read_index(file.fileno())[1]))
-            return run(words, *given, **more)
+            def counted(words, *given, **more):
+                if words[1] != "-":
+                    with open(words[1], "rb") as file:
+                        (checked if "--check" in words else listed).append(len(ivf.read_index(file.fileno())[1]))
+                return run(words, *given, **more)
 
-        with mock.patch.object(repair, "PART", 1), mock.patch.object(repair, "LEAST_PART", 1), mock.patch.object(repair.facts.subprocess, "run", counted):
-            found = repair.repair(data, programs.find("vp8serve"), programs.find("vp8list"))
-        self.assertGreater(found.changes, 0)
-        self.assertGreater(len(checked), 3)
-        overlap = repair.OVERLAP * len(checked)
-        self.assertLessEqual(sum(checked), 3 * (len(packets) + 10) + overlap, checked)
-        self.assertGreater(found.left, 0)
+            with mock.patch.object(repair, "PART", 1), mock.patch.object(repair, "LEAST_PART", length), mock.patch.object(repair.facts.subprocess, "run", counted):
+                found = repair.repair(data, programs.find("vp8serve"), programs.find("vp8list"))
+            self.assertGreater(found.changes, 0)
+            self.assertGreater(found.left, 0)
+            overlap, again = repair.OVERLAP * len(checked), 6 * length
+            self.assertGreater(len(checked), turns // 2)
+            self.assertLessEqual(sum(checked), len(packets) + overlap + again, (turns, checked))
+            self.assertLessEqual(sum(listed), len(packets) + again, (turns, listed))
 
 
 class NoKeyFrames(RepairCase):
@@ -455,7 +459,12 @@ class Parts(RepairCase):
         cases = {"clean": packets, "two bytes": [(stamp, data[:2] if stamp == 333 else data) for stamp, data in packets], "twice": packets[:250] + packets[249:]}
         cases["hole before a key"], cases["hole after a key"] = packets[: keys[7] - 1] + packets[keys[7] :], packets[: keys[8] + 1] + packets[keys[8] + 2 :]
         cases["late"] = packets[:199] + [packets[200], packets[199]] + packets[201:]
-        for turn in range(4):
+        # Holes at one place and at several: the steps are constant but for one place, or not; and packets that come twice with their time stamps.
+        for turn in range(12):
+            gone = {choose.randrange(600) for _ in range(choose.choice([1, 1, 2, 3]))}
+            again = {choose.randrange(600) for _ in range(choose.choice([0, 1, 2]))}
+            cases[f"holes {turn}"] = [packet for packet in packets for _ in range(1 + (packet[0] in again)) if packet[0] not in gone]
+        for turn in range(8):
             at = choose.randrange(600)
             cases[f"bytes {turn}"] = [(stamp, bytes(choose.randrange(256) if place > 20 else byte for place, byte in enumerate(data)) if stamp == at else data) for stamp, data in packets]
         for name, found in cases.items():

@@ -13,7 +13,7 @@ import time
 import unittest
 from unittest import mock
 
-from support import CLIP, DATA, ODD, SLOW, SMALL, SPEAKER, TOP, Case, digest, frames_of, is_alive, packets_of, process_of
+from support import CLIP, DATA, ODD, SLOW, SMALL, SPEAKER, TOP, Case, digest, frames_of, is_alive, packets_of, process_of, start_python
 from wokureti import Count, Ended, Refused, Session, Unexported
 from wokureti.tools import ivf, programs
 from wokureti.session import library
@@ -368,6 +368,45 @@ class Broken(Case):
         self.assertEqual(ended.exception.status, 1)
         self.assertRegex(ended.exception.text, f"^{SPEAKER}: cannot write")
         self.assertOver(stream, 1, "cannot write")
+
+    def unfinished(self, folder):
+        return sorted(path.name for path in folder.glob("vp8serve-unfinished-save-*"))
+
+    def test_a_killed_program_leaves_no_new_file(self):
+        """The new file of a save goes with the program, however that ends, and those of other sessions stay."""
+        folder = self.folder()
+        with self.session(engine="program", save=folder / "other.ivf"):
+            for number, end in enumerate((Session.kill, lambda stream: os.kill(process_of(stream), signal.SIGKILL), Session.close)):
+                stream = self.session(engine="program", save=folder / f"out-{number}.ivf")
+                self.assertEqual(len(self.unfinished(folder)), 2)
+                end(stream)
+                if number == 1:
+                    with self.assertRaises(Ended):
+                        stream.count()
+                self.assertEqual(len(self.unfinished(folder)), 1, number)
+            self.assertEqual(packets_of(folder / "out-2.ivf"), packets_of(SMALL))
+        self.assertEqual(sorted(os.listdir(folder)), ["other.ivf", "out-2.ivf"])
+
+    def test_what_a_killed_process_left(self):
+        """The next session removes it, as soon as the program that may write it is gone, and nothing else."""
+        folder, temporary = self.folder(), self.folder()
+        code = "import sys; from wokureti import Session; one = Session(sys.argv[1], engine='program', save=sys.argv[2]); print(one._pipes.process.pid, flush=True); sys.stdin.read()"
+        process = start_python("-c", code, SMALL, folder / "out.ivf", stdin=subprocess.PIPE, stdout=subprocess.PIPE, env={"TMPDIR": str(temporary)})
+        pid = int(process.stdout.readline())
+        self.addCleanup(lambda: is_alive(pid) and os.kill(pid, signal.SIGKILL))
+        # The program would end, and save, when its input does.
+        os.kill(pid, signal.SIGSTOP)
+        process.kill()
+        process.communicate()
+        [left] = self.unfinished(folder)
+        (folder / "vp8serve-unfinished-save-9").write_text("of somebody else")
+        begin = lambda: start_python("-c", code, SMALL, folder / "next.ivf", stdin=subprocess.DEVNULL, stdout=subprocess.DEVNULL, env={"TMPDIR": str(temporary)}).wait(20 * SLOW)  # noqa: E731
+        begin()
+        self.assertEqual(self.unfinished(folder), [left, "vp8serve-unfinished-save-9"])
+        os.kill(pid, signal.SIGKILL)
+        self.assertGone(pid)
+        begin()
+        self.assertEqual((self.unfinished(folder), os.listdir(temporary)), (["vp8serve-unfinished-save-9"], []))
 
     def test_a_killed_program(self):
         stream = self.session(engine="program")

@@ -405,12 +405,12 @@ def run_script(given, streams, script_of, inputs=()):
     exports.check_program(program)
     with rooms.Room() as room, progress.Stages() as stages:
         stages.stage("reading the packets")
-        paths = [convert.as_ivf(path, room) for path in streams]
+        paths = [convert.as_ivf(path, room, watch=stages) for path in streams]
         with cat.open_session(paths[0], paths[1:], edits, script, given.tables, program, given.anyway) as session:
             if script_of is not None:
                 session.request(f"script {script_of(exports.Frames(session.edits.contents()))}")
             stages.stage(f"exporting {session.count().frames:,} frames")
-            out = exports.Output(given.out, not given.no_pad, given.sound, say)
+            out = exports.Output(given.out, not given.no_pad, given.sound, say, stages)
             told = exports.export(session.edits.contents(), list(session.edits), out, room)
             status = status_of(session, given.anyway)
     if not getattr(given, "is_step", False):
@@ -457,8 +457,8 @@ def run_repair(given):
     try:
         with rooms.Room() as folder, progress.Stages() as stages:
             stages.stage("searching the packets")
-            path, searched = convert.searched(given.stream, folder) if "scan" in steps else (convert.as_ivf(given.stream, folder), None)
-            other = given.second and convert.searched(given.second, folder)[0]
+            path, searched = convert.searched(given.stream, folder, stages) if "scan" in steps else (convert.as_ivf(given.stream, folder, watch=stages), None)
+            other = given.second and convert.searched(given.second, folder, stages)[0]
             data, second = (path and read_all(path) for path in (path, other))
             tools = (programs.find("vp8serve"), programs.find("vp8list"))
             found = repair.repair(data, *tools, second, given.tables, steps, stages.stage, as_file(path), searched)
@@ -534,7 +534,7 @@ def add_compare(commands):
     )
     parser.add_argument("--jobs", type=int, default=0, metavar="N", help="with --decoder: streams at a time; as many as processors if missing")
     parser.add_argument("--junit", metavar="FILE", help="with --decoder: the results as JUnit has them")
-    parser.add_argument("--anyway", action="store_true", help="without --decoder: a file that ends in the middle or is damaged is no error")
+    parser.add_argument("--anyway", action="store_true", help="a file that ends in the middle or is damaged is no error")
     parser.add_argument("--png", metavar="DIR", help="writes the first two frames that differ, and their difference, as PNG")
     parser.add_argument("--tables", metavar="FILE", help="3012 bytes that replace the long tables of RFC 6386")
     parser.set_defaults(run=run_compare)
@@ -546,11 +546,13 @@ def run_decoder(given):
     found = []
     for result in decoders.results(given.one, given.decoder, given.jobs or len(os.sched_getaffinity(0)), given.tables):
         found.append(result)
-        print(f"{result.name}: {'; '.join(result.lines[:2]) or 'same'}", flush=True)
-    same = sum(result.is_same for result in found)
-    print(f"{same} of {len(found)} streams are the same")
+        print(f"{result.name}: {'; '.join([*(result.lines[:2] or ['same']), *result.damage])}", flush=True)
+    same, damaged = sum(result.is_same for result in found), sum(bool(result.damage) for result in found)
+    print(f"{same} of {len(found)} streams are the same" + (f"; {damaged} {'is damaged or ends' if damaged == 1 else 'are damaged or end'} in the middle" if damaged else ""))
     if given.junit is not None:
-        decoders.write_junit(given.junit, given.decoder, found)
+        decoders.write_junit(given.junit, given.decoder, found, given.anyway)
+    if damaged and not given.anyway:
+        return 2
     return 0 if same == len(found) else 1
 
 

@@ -11,9 +11,10 @@ use Rattle.packet_edits.specs.Edits.{Listing}
 use Rattle.packet_times.specs.Stamps.{stamped, stamps_after}
 use Rattle.packet_edits.specs.Shown.{shown_indexes, stream_of}
 use Rattle.stream_steps.specs.Decoding.{Outcome, outcomes}
-use Rattle.lossless_cuts.specs.Exports.{AreDecoded, HasBytes, IsDecoded}
+use Rattle.stream_refusals.specs.GoodPictures.{HasBytes}
+use Rattle.lossless_cuts.specs.Exports.{AreDecoded, IsDecoded}
 use Rattle.lossless_cuts.specs.Laws.{ExportsShowTheirFrames}
-use Rattle.lossless_cuts.specs.Plans.{exported, stream_at, streams_of}
+use Rattle.lossless_cuts.specs.Plans.{exported, stream_at, streams_of, written}
 use Rattle.lossless_cuts.specs.declared.targets.Target.{Target}
 use Rattle.script_nodes.specs.Frames.{Origin, after_steps, origin, script_frame, traced, with_step}
 use Rattle.script_nodes.specs.Lengths.{script_length}
@@ -31,10 +32,11 @@ use Rattle.frame_session.specs.declared.session.exports.ExportFault.{ExportFault
 use Rattle.frame_session.specs.declared.session.exports.ExportFault.TheVariants.{Frame, Changed, Packets}
 use Rattle.lossless_cuts.specs.declared.faults.CutFault.{CutFault}
 use Rattle.lossless_cuts.specs.declared.faults.CutFault.TheVariants as cuts
+use Rattle.lossless_cuts.specs.Faults.{export_fault}
 use Rattle.lossless_cuts.specs.Limits.{IsTooLarge}
+use Rattle.lossless_cuts.proofs.Missing.{none_missing}
 use Rattle.frame_session.specs.Edits.{list_at}
-use Rattle.frame_session.specs.IsOrNoMemory.{IsOrNoMemory, MayRunOutOfMemory}
-use Rattle.frame_session.specs.Exported.{AreTargets, CanExport, HasTarget, HaveTargets, IsChanged, IsExport, IsFrame, IsFrameFault, IsNotExported, IsPackingFault, IsTarget, ScriptsAreExported, source_picture, streams_in, unsized}
+use Rattle.frame_session.specs.Exported.{AreTargets, CanExport, HasPicture, HasTarget, HaveTargets, IsChanged, IsExport, IsFrame, IsFrameFault, IsNotExported, IsPackingFault, IsTarget, ScriptsAreExported, source_picture, streams_in, unsized}
 use Rattle.frame_session.specs.Sessions.{SessionState, fitted, frame_count, frame_from, frame_made, frame_of, outcome_of, picture_from, shown_counts}
 use Rattle.frame_session.specs.Cached.{lists_of}
 use Rattle.packet_edits.specs.Marks.{StoreValue}
@@ -199,16 +201,7 @@ pictures_of now n (target ∷ targets) have =
     let rest = pictures_of now (n + 1) targets have.1 in
     (have.0.0 ∷ rest.0, (have.0.1, rest.1))
 
--- the number of steps made does not matter
-pub target_kept : (now : SessionState) (decoded n : ℕ) (target : Target) → HasTarget (record now { decoded = decoded }) n target → HasTarget now n target
-target_kept now decoded n target has =
-    let t = has.1 in
-    (has.0, record { from = t.from; traces = t.traces; source = t.source; place = t.place; keeps = t.keeps; decoded = t.decoded })
-
-pub target_before : (now mid : SessionState) (n : ℕ) (target : Target) → mid ≡ record now { decoded = mid.decoded } → HasTarget mid n target → HasTarget now n target
-target_before now mid n target same has = target_kept now mid.decoded n target (subst (λ (m : SessionState). HasTarget m n target) same has)
-
-picture_got : (source : ℕ) (o : Option Outcome) (picture : PictureSamples) → picture_from source o ≡ Ok picture → (state : State) × (o ≡ Some (Ok (state, picture)))
+pub picture_got : (source : ℕ) (o : Option Outcome) (picture : PictureSamples) → picture_from source o ≡ Ok picture → (state : State) × (o ≡ Some (Ok (state, picture)))
 picture_got source None picture is = cc
 picture_got source (Some (Err broken)) picture is = cc
 picture_got source (Some (Ok d)) picture is =
@@ -236,13 +229,15 @@ target_is now n source frame target steps picture listed traces same place got k
     )
 
 -- the packets of all targets
-pub export_is : (tables : Tables) (old new : SessionState) (targets : List Target) (packets : List (List ℕ)) → ExportsShowTheirFrames tables → old.tables ≡ tables → new ≡ record old { decoded = new.decoded } → HaveTargets old 0 targets → length targets ≡ frame_count old
-    → packets ≡ exported new.tables (streams_in new) None targets → IsExport old packets
-export_is tables old new targets packets law same after have count is =
-    let shown = pictures_of old 0 targets have in
-    let whole : IsExport old (exported old.tables (streams_in old) None targets) = scripts_are_exported tables law old targets shown.0 same shown.1 count in
-    let first : packets ≡ exported old.tables (streams_in old) None targets = is ∙ ap (λ (m : SessionState). exported m.tables (streams_in m) None targets) after in
-    subst (λ (ps : List (List ℕ)). IsExport old ps) (sym first) whole
+pub export_is : (tables : Tables) (now : SessionState) (targets : List Target) → ExportsShowTheirFrames tables → now.tables ≡ tables → HaveTargets now 0 targets → length targets ≡ frame_count now
+    → IsExport now (written (exported now.tables (streams_in now) None targets))
+export_is tables now targets law same have count = let shown = pictures_of now 0 targets have in scripts_are_exported tables law now targets shown.0 same shown.1 count
+
+-- a frame's packet has a picture
+pub has_picture : (now : SessionState) (n : ℕ) (target : Target) → HasTarget now n target → HasPicture now target.source target.place (target.width, target.height)
+has_picture now n target has =
+    let d = has.1.decoded in
+    record { picture = has.0; accepted = ap (picture_from target.source) d.accepted; wide = d.wide; high = d.high; bytes = d.bytes }
 
 -- the packets of all stores
 pub streams_same : (stores : List StoreValue) → streams_of stores ≡ map stream_of (lists_of stores)
@@ -253,10 +248,6 @@ streams_same (store ∷ stores) = ap (λ (ss : List (List (List ℕ))). stream_o
 pub stamped_length : (stamps : List ℕ) (packets : List (List ℕ)) → length (stamped stamps packets) ≡ length packets
 stamped_length stamps [] = refl
 stamped_length stamps (packet ∷ packets) = ap suc (stamped_length (stamps_after packet stamps) packets)
-
--- only the number of steps made changes
-pub steps_only : (old mid new : SessionState) → mid ≡ record old { decoded = mid.decoded } → new ≡ record mid { decoded = new.decoded } → new ≡ record old { decoded = new.decoded }
-steps_only old mid new first second = second ∙ ap (λ (m : SessionState). let n : SessionState = record m { decoded = new.decoded } in n) first
 
 -- ---- why a frame is not exported
 
@@ -317,24 +308,11 @@ cut_off : (o : Option Shown) → is_some o ≡ false → fitted None o ≡ Err r
 cut_off None none = refl
 cut_off (Some shown) none = cc
 
-pub frame_cut_off : (now : SessionState) (n : ℕ) (steps : List Step) (picture : PictureSamples) → frame_of (unsized now) n ≡ frame_made None steps (Ok picture) → is_some (steps_shown steps (shown_in picture)) ≡ false → IsOrNoMemory (frame_of (unsized now) n) (Err refusals.CropOutside)
+pub frame_cut_off : (now : SessionState) (n : ℕ) (steps : List Step) (picture : PictureSamples) → frame_of (unsized now) n ≡ frame_made None steps (Ok picture) → is_some (steps_shown steps (shown_in picture)) ≡ false → frame_of (unsized now) n ≡ Err refusals.CropOutside
 frame_cut_off now n steps picture is none = is ∙ cut_off (steps_shown steps (shown_in picture)) none
 
-may_fit : (o : Option Shown) → MayRunOutOfMemory (fitted None o)
-may_fit None = tt
-may_fit (Some shown) = tt
-
-may_run_out : (first : Refusal) → MayRunOutOfMemory {A = PictureSamples} (Err first) → MayRunOutOfMemory {A = Shown} (Err first)
-may_run_out _ why = why
-
-made_refused : (steps : List Step) (o : Result PictureSamples Refusal) (refusal : Refusal) → IsOrNoMemory o (Err refusal) → IsOrNoMemory (frame_made None steps o) (Err refusal)
-made_refused steps (Err first) refusals.NoMemory why = may_run_out first why
-made_refused steps (Err first) _ why = ap (frame_made None steps) why
-made_refused steps (Ok picture) refusals.NoMemory why = may_fit (steps_shown steps (shown_in picture))
-made_refused steps (Ok picture) _ why = cc
-
-pub frame_refused : (now : SessionState) (n : ℕ) (steps : List Step) (o : Result PictureSamples Refusal) (refusal : Refusal) → frame_of (unsized now) n ≡ frame_made None steps o → IsOrNoMemory o (Err refusal) → IsOrNoMemory (frame_of (unsized now) n) (Err refusal)
-frame_refused now n steps o refusal is why = subst (λ (made : Result Shown Refusal). IsOrNoMemory made (Err refusal)) (sym is) (made_refused steps o refusal why)
+pub frame_refused : (now : SessionState) (n : ℕ) (steps : List Step) (o : Result PictureSamples Refusal) (refusal : Refusal) → frame_of (unsized now) n ≡ frame_made None steps o → o ≡ Err refusal → frame_of (unsized now) n ≡ Err refusal
+frame_refused now n steps o refusal is why = is ∙ ap (frame_made None steps) why
 
 pub frame_changed : (now : SessionState) (n node : ℕ) (steps : List Step) (picture : PictureSamples) → source_picture now (traced (shown_counts now) now.script n) ≡ Ok picture → frame_of (unsized now) n ≡ frame_made None steps (Ok picture) → is_some (steps_shown steps (shown_in picture)) ≡ true
     → slice_get (changed_nodes (picture.width, picture.height) (node_steps (shown_counts now) now.script n)) 0 ≡ Some node → IsChanged now n node
@@ -349,43 +327,28 @@ changed_if now n (Some node) steps picture decoded is some first = frame_changed
 
 -- ---- the first fault
 
-changed_kept : (now : SessionState) (decoded n node : ℕ) → IsChanged (record now { decoded = decoded }) n node → IsChanged now n node
-changed_kept now decoded n node c = record { shown = c.shown; served = c.served; picture = c.picture; decoded = c.decoded; first = c.first }
+pub frame_fault : (now : SessionState) (n : ℕ) (fault : ExportFault) → n < frame_count now → CanExport now n → IsFrameFault now n fault → IsNotExported now fault
+frame_fault now n (Frame frame refusal) less can why =
+    (subst (λ (k : ℕ). k < frame_count now) (sym why.0) less, subst (λ (k : ℕ). CanExport now k) (sym why.0) can, subst (λ (k : ℕ). frame_of (unsized now) k ≡ Err refusal) (sym why.0) why.1)
+frame_fault now n (Changed frame node) less can why =
+    (subst (λ (k : ℕ). k < frame_count now) (sym why.0) less, subst (λ (k : ℕ). CanExport now k) (sym why.0) can, subst (λ (k : ℕ). IsChanged now k node) (sym why.0) why.1)
+frame_fault now n (Packets fault) less can why = absurd why
 
-pub frame_fault : (now mid : SessionState) (n : ℕ) (fault : ExportFault) → mid ≡ record now { decoded = mid.decoded } → n < frame_count now → CanExport now n → IsFrameFault mid n fault → IsNotExported now fault
-frame_fault now mid n (Frame frame refusal) same less can why =
-    let here = subst (λ (m : SessionState). IsFrameFault m n (Frame frame refusal)) same why in (
-      subst (λ (k : ℕ). k < frame_count now) (sym here.0) less,
-      subst (λ (k : ℕ). CanExport now k) (sym here.0) can,
-      subst (λ (k : ℕ). IsOrNoMemory (frame_of (unsized now) k) (Err refusal)) (sym here.0) here.1,
-    )
-frame_fault now mid n (Changed frame node) same less can why =
-    let here = subst (λ (m : SessionState). IsFrameFault m n (Changed frame node)) same why in (
-      subst (λ (k : ℕ). k < frame_count now) (sym here.0) less,
-      subst (λ (k : ℕ). CanExport now k) (sym here.0) can,
-      subst (λ (k : ℕ). IsChanged now k node) (sym here.0) (changed_kept now mid.decoded n node here.1),
-    )
-frame_fault now mid n (Packets fault) same less can why = absurd why
+pub packing_fault : (now : SessionState) (targets : List Target) (fault : ExportFault) → HaveTargets now 0 targets → length targets ≡ frame_count now → IsPackingFault now targets fault → IsNotExported now fault
+packing_fault now targets (Frame frame refusal) have all why = absurd why
+packing_fault now targets (Changed frame node) have all why = absurd why
+packing_fault now targets (Packets cuts.NoMemory) have all why = tt
+packing_fault now targets (Packets cuts.Full) have all why = inr (targets, have, all, why.0, why.1)
+packing_fault now targets (Packets cuts.Place) have all why =
+    let shown = pictures_of now 0 targets have in
+    none_missing now.tables (streams_in now) targets shown.0 (are_decoded now 0 targets shown.0 shown.1) why
+packing_fault now targets (Packets cuts.Size) have all why = (targets, have, all, why)
+packing_fault now targets (Packets cuts.TooLarge) have all why = (targets, have, all, why)
 
-packing_why : (now : SessionState) (targets : List Target) (fault : CutFault) → HaveTargets now 0 targets → length targets ≡ frame_count now → IsPackingFault now targets (Packets fault) → IsNotExported now (Packets fault)
-packing_why now targets cuts.Full have all why = inr (targets, have, all, why)
-packing_why now targets cuts.Place have all why = tt
-packing_why now targets cuts.Size have all why = tt
-packing_why now targets cuts.TooLarge have all why = tt
-packing_why now targets cuts.NoMemory have all why = tt
-
-pub packing_fault : (now new : SessionState) (targets : List Target) (fault : ExportFault) → new ≡ record now { decoded = new.decoded } → HaveTargets now 0 targets → length targets ≡ frame_count now → IsPackingFault new targets fault → IsNotExported now fault
-packing_fault now new targets (Frame frame refusal) same have all why = absurd why
-packing_fault now new targets (Changed frame node) same have all why = absurd why
-packing_fault now new targets (Packets cuts.Full) same have all why = packing_why now targets cuts.Full have all (subst (λ (m : SessionState). IsPackingFault m targets (Packets cuts.Full)) same why)
-packing_fault now new targets (Packets cuts.Place) same have all why = tt
-packing_fault now new targets (Packets cuts.Size) same have all why = tt
-packing_fault now new targets (Packets cuts.TooLarge) same have all why = tt
-packing_fault now new targets (Packets cuts.NoMemory) same have all why = tt
-
-pub packed_why : (now : SessionState) (targets : List Target) (fault : CutFault) → (fault ≡ cuts.Full → IsTooLarge (exported now.tables (streams_in now) None targets)) → IsPackingFault now targets (Packets fault)
-packed_why now targets cuts.Full why = why refl
-packed_why now targets cuts.Place why = tt
-packed_why now targets cuts.Size why = tt
-packed_why now targets cuts.TooLarge why = tt
-packed_why now targets cuts.NoMemory why = tt
+pub packed_why : (now : SessionState) (targets : List Target) (fault : CutFault) → ((fault ≡ cuts.NoMemory → ⊥) → export_fault now.tables (streams_in now) targets ≡ Some fault)
+    → (fault ≡ cuts.Full → IsTooLarge (exported now.tables (streams_in now) None targets)) → IsPackingFault now targets (Packets fault)
+packed_why now targets cuts.NoMemory why large = tt
+packed_why now targets cuts.Full why large = (why (λ is. cc), large refl)
+packed_why now targets cuts.Place why large = why (λ is. cc)
+packed_why now targets cuts.Size why large = why (λ is. cc)
+packed_why now targets cuts.TooLarge why large = why (λ is. cc)

@@ -18,4 +18,5 @@ pub mod Noted
 pub mod ExportedFrames
 pub mod Listed
 pub mod ExportRecords
+pub mod AcceptedFrames
 pub mod RefusedScripts

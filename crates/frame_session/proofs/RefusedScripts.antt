@@ -1,5 +1,5 @@
 -- The refusal of a request whose script has an error.
-use Rattle.std.proofs.Common.{◌≡◌, ℕ, List, Result, Ok, Err, ap, subst, sym}
+use Rattle.std.proofs.Common.{ℕ, List, Result, Err, ap, subst, sym}
 use Rattle.script_nodes.specs.Faults.{RefusesText}
 use Rattle.script_nodes.specs.Nodes.{script_of}
 use Rattle.script_nodes.specs.declared.faults.ScriptFault.{ScriptFault}

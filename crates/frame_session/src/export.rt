@@ -3,9 +3,8 @@ ghost use Rattle.std.specs.Prelude.{◌≡◌, ◌≤◌, IfOk, OnOk, length, ma
 ghost use Rattle.std.specs.Io.KnownBytes.{Appends};
 ghost use Rattle.std.specs.List.{count_by};
 ghost use Rattle.frame_header.specs.Tags.{is_shown};
-ghost use Rattle.packet_edits.specs.Saved.{padded_if};
 ghost use Rattle.stream_files.specs.Texts.{record_text, records_text, written_text};
-ghost use Rattle.frame_session.specs.ExportSizes.{record_bytes, saved_bytes};
+ghost use Rattle.frame_session.specs.ExportSizes.{padded_packet, record_bytes, saved_bytes};
 
 use frame_header::{ends_empty, is_shown};
 use std::io::Write;
@@ -20,32 +19,32 @@ pub struct Export {
     ghost few: { length packets ≤ 1048576 },
 }
 
-/// The number of bytes of the record of a packet, padded if that is asked for and its last token partition is empty.
-fn record_bytes(packet: &Packet, pads: bool) -> u64
-    ensures { result ≡ record_bytes pads packet.now }
+/// The number of bytes of the record of a packet, padded if its last token partition is empty.
+fn record_bytes(packet: &Packet) -> u64
+    ensures { result ≡ record_bytes packet.now }
 {
     let bytes = packet.bytes.as_slice();
-    let added = if pads && ends_empty(bytes) { 13 } else { 12 };
+    let added = if ends_empty(bytes) { 13 } else { 12 };
     (bytes.len() as u64).saturating_add(added)
 }
 
 /// The number of bytes of an IVF file of packets.
-fn saved_bytes(packets: &[Packet], pads: bool) -> u64
-    ensures { result ≡ saved_bytes pads packets.now }
+fn saved_bytes(packets: &[Packet]) -> u64
+    ensures { result ≡ saved_bytes packets.now }
 {
     let mut size: u64 = 32;
     for packet in packets {
-        size = size.saturating_add(record_bytes(packet, pads));
+        size = size.saturating_add(record_bytes(packet));
     }
     size
 }
 
-/// Writes the record of a packet, padded if that is asked for and its last token partition is empty.
-fn write_record<W: Write>(w: &mut W, packet: &Packet, pads: bool) -> Result<(), WriteFault>
-    ensures { OnOk result (Appends (W.contents w.old) (W.contents w.new) (record_text (padded_if pads packet.now))) }
+/// Writes the record of a packet, padded if its last token partition is empty.
+fn write_record<W: Write>(w: &mut W, packet: &Packet) -> Result<(), WriteFault>
+    ensures { OnOk result (Appends (W.contents w.old) (W.contents w.new) (record_text (padded_packet packet.now))) }
 {
     let bytes = packet.bytes.as_slice();
-    if pads && ends_empty(bytes) {
+    if ends_empty(bytes) {
         ivf_padded_packet(w, packet.stamp, bytes)
     } else {
         ivf_packet(w, packet.stamp, bytes)
@@ -53,11 +52,11 @@ fn write_record<W: Write>(w: &mut W, packet: &Packet, pads: bool) -> Result<(), 
 }
 
 /// Writes the records of packets in sequence.
-fn write_records<W: Write>(w: &mut W, packets: &[Packet], pads: bool) -> Result<(), WriteFault>
-    ensures { OnOk result (Appends (W.contents w.old) (W.contents w.new) (records_text (map (padded_if pads) packets.now))) }
+fn write_records<W: Write>(w: &mut W, packets: &[Packet]) -> Result<(), WriteFault>
+    ensures { OnOk result (Appends (W.contents w.old) (W.contents w.new) (records_text (map padded_packet packets.now))) }
 {
     for packet in packets {
-        write_record(w, packet, pads)?;
+        write_record(w, packet)?;
     }
     Ok(())
 }
@@ -81,22 +80,22 @@ impl Export {
             .count()
     }
 
-    /// The number of bytes of the file, at most 18,446,744,073,709,551,615. With `pads` its packets are padded as by
-    /// [`Session::save_padded`](crate::Session::save_padded).
-    pub fn bytes(&self, pads: bool) -> u64
-        ensures { result ≡ saved_bytes pads self.now.packets }
+    /// The number of bytes of the file, at most 18,446,744,073,709,551,615, with its packets padded.
+    pub fn bytes(&self) -> u64
+        ensures { result ≡ saved_bytes self.now.packets }
     {
-        saved_bytes(self.packets.as_slice(), pads)
+        saved_bytes(self.packets.as_slice())
     }
 
-    /// Writes the file. With `pads` its packets are padded as by [`Session::save_padded`](crate::Session::save_padded). No
-    /// memory is taken.
+    /// Writes the file, with a byte 00 after each packet whose last token partition is empty, as by
+    /// [`Session::save_padded`](crate::Session::save_padded): players that use libvpx do not show such a packet without the byte.
+    /// No memory is taken.
     ///
     /// `Write` if the writer returns an error; part of the file may have been written.
-    pub fn save<W: Write>(&self, w: &mut W, pads: bool) -> Result<(), WriteFault>
-        ensures { OnOk result (Appends (W.contents w.old) (W.contents w.new) (written_text self.now.head (map (padded_if pads) self.now.packets))) }
+    pub fn save<W: Write>(&self, w: &mut W) -> Result<(), WriteFault>
+        ensures { OnOk result (Appends (W.contents w.old) (W.contents w.new) (written_text self.now.head (map padded_packet self.now.packets))) }
     {
         ivf_start(w, self.head, self.packets.len() as u32)?;
-        write_records(w, self.packets.as_slice(), pads)
+        write_records(w, self.packets.as_slice())
     }
 }

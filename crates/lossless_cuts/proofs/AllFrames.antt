@@ -2,8 +2,10 @@
 use Rattle.std.proofs.Common.{◌≡◌, ℕ, List, [], ◌∷◌, Option, Some, None, refl, subst}
 use Rattle.vp8_tables.specs.declared.tables.Tables.{Tables}
 use Rattle.frame_header.specs.Outlines.{OutlinesAreHeaders}
+use Rattle.frame_header.specs.Padding.{ShownIsKept}
 use Rattle.pixel_planes.specs.Pictures.{PictureSamples}
 use Rattle.packet_forge.specs.Laws.{AreUpdates}
+use Rattle.reference_frames.specs.StepLaws.{PaddingKeepsSteps}
 use Rattle.reference_frames.specs.declared.states.State.{State}
 use Rattle.lossless_cuts.specs.Exports.{AreDecoded, IsDecoded}
 use Rattle.lossless_cuts.specs.Laws.{ExportsShowTheirFrames}
@@ -11,6 +13,7 @@ use Rattle.lossless_cuts.specs.declared.targets.Target.{Target}
 use Rattle.lossless_cuts.specs.Plans.{exported, frame_packets, stream_at}
 use Rattle.lossless_cuts.proofs.Frames.{After, Knows, Shown, frame_shown}
 use Rattle.lossless_cuts.proofs.Leads.{Laws, Like}
+use Rattle.lossless_cuts.proofs.PaddedExports.{padded_shows}
 use Rattle.lossless_cuts.proofs.Plays.{Plays, plays_append, shows_exactly}
 
 -- the packets play, and there is a state after them
@@ -47,7 +50,7 @@ plays_all laws outlines tables streams own before (target ∷ targets) (picture 
 none_before : (tables : Tables) (streams : List (List (List ℕ))) (own : Option State) → Follows tables streams own None
 none_before tables streams own b is = cc
 
-pub exports_show_their_frames : Laws → OutlinesAreHeaders → (tables : Tables) → AreUpdates tables → ExportsShowTheirFrames tables
-exports_show_their_frames laws outlines tables updates streams targets pictures decoded =
+pub exports_show_their_frames : Laws → OutlinesAreHeaders → PaddingKeepsSteps → ShownIsKept → (tables : Tables) → AreUpdates tables → ExportsShowTheirFrames tables
+exports_show_their_frames laws outlines pads kept tables updates streams targets pictures decoded =
     let all : PlaysAll tables None (exported tables streams None targets) pictures = plays_all laws outlines tables streams None None targets pictures updates decoded (none_before tables streams None) in
-    shows_exactly laws.keys tables all.after (exported tables streams None targets) pictures all.plays
+    padded_shows pads kept tables (exported tables streams None targets) pictures (shows_exactly laws.keys tables all.after (exported tables streams None targets) pictures all.plays)

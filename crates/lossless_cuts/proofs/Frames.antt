@@ -15,8 +15,9 @@ use Rattle.packet_forge.specs.declared.faults.ForgeFault.{ForgeFault}
 use Rattle.reference_frames.specs.Steps.{step_of}
 use Rattle.reference_frames.specs.declared.states.State.{State}
 use Rattle.stream_steps.specs.Decoding.{outcomes}
+use Rattle.stream_refusals.specs.GoodPictures.{HasBytes}
 use Rattle.lossless_cuts.specs.Holds.{unbiased}
-use Rattle.lossless_cuts.specs.Exports.{HasBytes, IsDecoded}
+use Rattle.lossless_cuts.specs.Exports.{IsDecoded}
 use Rattle.lossless_cuts.specs.declared.targets.Target.{Target}
 use Rattle.lossless_cuts.specs.Plans.{continues, first_place, frame_packets, has_bytes, held, hidden, is_held, key_place, last_key, leaves_last, packet_at, place_after, repeats}
 use Rattle.lossless_cuts.proofs.Keys.{IsLastKey, finds_at, finds_none, finds_key, key_place-is}

@@ -9,4 +9,7 @@ pub mod Leads
 pub mod Frames
 pub mod AllFrames
 pub mod Pushed
-pub mod RowBytes
+pub mod HiddenSizes
+pub mod Missing
+pub mod AcceptedRuns
+pub mod PaddedExports

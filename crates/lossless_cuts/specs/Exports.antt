@@ -2,20 +2,13 @@
 use Rattle.std.specs.Prelude.{◌≡◌, ℕ, true, List, [], ◌∷◌, length, slice_get, Option, Some, option_and_then, Ok, IsOk}
 use Rattle.vp8_tables.specs.declared.tables.Tables.{Tables}
 use Rattle.frame_header.specs.Tags.{is_shown}
-use Rattle.pixel_planes.specs.Pictures.{IsWholePicture, PictureSamples}
+use Rattle.pixel_planes.specs.Pictures.{PictureSamples}
 use Rattle.reference_frames.specs.declared.states.State.{State}
 use Rattle.packet_edits.specs.Shown.{shown_indexes}
-use Rattle.packet_forge.specs.Laws.{AreBytes}
 use Rattle.stream_steps.specs.Decoding.{Outcome, outcomes}
+use Rattle.stream_refusals.specs.GoodPictures.{HasBytes}
 use Rattle.lossless_cuts.specs.declared.targets.Target.{Target}
 use Rattle.lossless_cuts.specs.Plans.{stream_at}
-
--- a picture is whole, and its samples are bytes
-pub record HasBytes (picture : PictureSamples) : Type 0 where
-  pub whole : IsWholePicture picture
-  pub luma : AreBytes picture.luma
-  pub cb : AreBytes picture.cb
-  pub cr : AreBytes picture.cr
 
 -- a frame's packet is shown, and decoding its source accepts it, with this picture
 pub record IsDecoded (tables : Tables) (packets : List (List ℕ)) (target : Target) (picture : PictureSamples) : Type 0 where

@@ -1,15 +1,17 @@
 -- Which packets show the frames of a script again, in a stream of their own.
-use Rattle.std.specs.Prelude.{ℕ, zero, suc, ◌+◌, max, ◌==◌, nat_lt, Bool, true, false, not, ◌&&◌, ◌||◌, if◌then◌else◌, List, [], ◌∷◌, ◌++◌, map, length, slice_index_or, slice_range, Option, Some, None, unwrap_or}
+use Rattle.std.specs.Prelude.{ℕ, zero, suc, max, ◌==◌, nat_lt, Bool, true, false, not, ◌&&◌, ◌||◌, if◌then◌else◌, List, [], ◌∷◌, ◌++◌, map, length, slice_index_or, slice_range, Option, Some, None, unwrap_or}
 use Rattle.std.specs.List.{filter}
 use Rattle.std.specs.Option.{option_map_or}
 use Rattle.std.specs.Result.{result_ok, result_unwrap_or}
 use Rattle.vp8_tables.specs.Tables.{TableEntries}
 use Rattle.frame_header.specs.Outlines.{outline_of}
+use Rattle.frame_header.specs.Padding.{padded}
 use Rattle.packet_edits.specs.Marks.{StoreValue}
 use Rattle.packet_edits.specs.Shown.{stream_of}
 use Rattle.packet_edits.specs.Sizes.{key_tag_at}
 use Rattle.packet_forge.specs.Packets.{hold_of}
 use Rattle.frame_header.specs.ShowBits.{with_show_bit}
+use Rattle.lossless_cuts.specs.declared.cuts.Plan.{Plan}
 use Rattle.lossless_cuts.specs.declared.targets.Target.{Target}
 
 -- the packets of a source; one that does not exist has none
@@ -89,16 +91,19 @@ lead packets before target = lead_if packets before target (is_held packets befo
 abbrev pub frame_packets : TableEntries → List (List ℕ) → Option Target → Target → List (List ℕ)
 frame_packets tables packets before target = lead packets before target ++ shown_packet tables packets before target ∷ []
 
+-- the packets that a plan names: those from one index up to another, hidden, and the one that shows the frame
+abbrev pub planned : List (List ℕ) → Plan → List (List ℕ)
+planned packets plan = hidden (slice_range packets plan.first plan.end) ++ plan.shown ∷ []
+
 -- the packets of frames, each after the one before it
 abbrev pub exported : TableEntries → List (List (List ℕ)) → Option Target → List Target → List (List ℕ)
 exported tables streams before [] = []
 exported tables streams before (target ∷ targets) =
     frame_packets tables (stream_at streams target.source) before target ++ exported tables streams (Some target) targets
 
--- the frame before those that follow these frames
-abbrev pub last_or : Option Target → List Target → Option Target
-last_or before [] = before
-last_or before (target ∷ targets) = last_or (Some target) targets
+-- the packets as they are written: a byte 00 follows each one that ends empty, since players that use libvpx do not show it without one
+abbrev pub written : List (List ℕ) → List (List ℕ)
+written packets = map padded packets
 
 -- the packets of each source
 abbrev pub streams_of : List StoreValue → List (List (List ℕ))

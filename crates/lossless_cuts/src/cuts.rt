@@ -1,16 +1,28 @@
 // The packets that show a frame.
-ghost use Rattle.std.specs.Prelude.{◌≡◌, ◌<◌, ◌≤◌, ◌++◌, ◌&&◌, [], ◌∷◌, IfOk, OnOk, length, slice_range};
+ghost use Rattle.std.specs.Prelude.{◌≡◌, ◌≢◌, ◌<◌, ◌≤◌, ◌++◌, ◌&&◌, [], ◌∷◌, false, IfErr, IfOk, None, OnOk, Some, length, slice_range};
 ghost use Rattle.packet_edits.specs.Shown.{stream_of};
-ghost use Rattle.lossless_cuts.specs.Plans.{first_place, frame_packets, hidden, key_place, lead_if, leaves_last, packet_shown, repeats as repeats_before};
+ghost use Rattle.frame_header.specs.ShowBits.{with_show_bit};
+ghost use Rattle.stream_refusals.specs.Refusals.{run_start};
+ghost use Rattle.lossless_cuts.specs.Faults.{frame_fault, shown_fault};
+ghost use Rattle.lossless_cuts.specs.Plans.{first_place, frame_packets, hidden, key_place, lead_if, leaves_last, packet_shown, planned, repeats as repeats_before};
 
+use crate::faults::CutFault;
 use crate::targets::{Target, continues, repeats};
-use frame_header::{read_outline, set_show_bit};
+use frame_header::{is_shown, read_outline, set_show_bit};
 use packet_edits::Store;
 use packet_forge::{ForgeFault, hold};
 use pixel_planes::NoMemory;
 use std::alloc::Global;
 use stream_files::Bytes;
 use vp8_tables::Tables;
+
+/// The packets of a frame before any is copied: those of its lead, from one index up to another, and the one that shows it.
+#[derive(Drop)]
+pub(crate) struct Plan {
+    pub(crate) first: usize,
+    pub(crate) end: usize,
+    pub(crate) shown: Bytes,
+}
 
 /// Whether the picture of a packet is the last reference after it.
 fn leaves_last(packet: &[u8]) -> bool
@@ -26,9 +38,10 @@ fn leaves_last(packet: &[u8]) -> bool
 }
 
 /// The index of the last packet with a key tag at an index or before it, or 0 if there is none.
-fn key_place(list: &Store, place: usize) -> usize
+pub(crate) fn key_place(list: &Store, place: usize) -> usize
     requires { place < length list.now.list.entries }
     ensures value { result ≡ key_place (stream_of list.now.list) place }
+    ensures run { result ≡ run_start (stream_of list.now.list) place }
     ensures within { result ≤ place }
 {
     list.prove_few();
@@ -48,16 +61,41 @@ fn first_place(list: &Store, before: Option<Target>, target: Target) -> usize
     }
 }
 
-/// Appends a copy of a packet with its show bit cleared, unless it has no bytes.
-fn push_hidden(alloc: Global, packet: &[u8], out: &mut Vec<Bytes>) -> Result<(), NoMemory>
+/// The index at which the lead of a frame begins: that of its own packet, so that the lead is empty, if the frame before it is held.
+fn lead_start(list: &Store, before: Option<Target>, target: Target, is_held: bool) -> usize
+    requires { target.place < length list.now.list.entries }
+    ensures lead { hidden (slice_range (stream_of list.now.list) result target.place) ≡ lead_if (stream_of list.now.list) before target is_held }
+    ensures within { result ≤ target.place }
+{
+    if is_held {
+        target.place
+    } else {
+        first_place(list, before, target)
+    }
+}
+
+/// A packet with bytes, with its show bit cleared. It is new only if that bit is set, and shared with the source else.
+fn hidden_packet(alloc: Global, packet: &Bytes) -> Result<Bytes, NoMemory>
+    ensures { IfOk result (λ bytes. bytes ≡ with_show_bit false packet.now) }
+{
+    frame_header::show_laws::last_show_bit_counts();
+    if !is_shown(packet.as_slice()) {
+        return packet.share(alloc);
+    }
+    let mut copy = Vec::from_slice(alloc, packet.as_slice())?;
+    set_show_bit(&mut copy, false);
+    Ok(Bytes::new(copy))
+}
+
+/// Appends a packet with its show bit cleared, unless it has no bytes.
+fn push_hidden(alloc: Global, packet: &Bytes, out: &mut Vec<Bytes>) -> Result<(), NoMemory>
     ensures { OnOk result (out.new.items ≡ out.old.items ++ hidden (packet.now ∷ [])) }
 {
-    if packet.is_empty() {
+    if packet.as_slice().is_empty() {
         return Ok(());
     }
-    let mut copy = Vec::from_slice(alloc, packet)?;
-    set_show_bit(&mut copy, false);
-    match out.push(Bytes::new(copy)) {
+    let bytes = hidden_packet(alloc, packet)?;
+    match out.push(bytes) {
         Ok(()) => Ok(()),
         Err(_) => Err(NoMemory),
     }
@@ -75,26 +113,28 @@ fn push_lead(
     ensures { OnOk result (out.new.items ≡ out.old.items ++ hidden (slice_range (stream_of list.now.list) first end)) }
 {
     for place in first..end {
-        push_hidden(alloc, list.packet(place), out)?;
+        push_hidden(alloc, list.bytes(place), out)?;
     }
     Ok(())
 }
 
-/// The packet that shows a frame: a copy of its own, or a hold packet.
+/// The packet that shows a frame: its own, which is shared with the source, or a hold packet.
 fn shown_packet(
     alloc: Global,
     tables: &Tables,
-    packet: &[u8],
+    packet: &Bytes,
     target: Target,
     is_held: bool,
 ) -> Result<Bytes, ForgeFault>
-    ensures { IfOk result (λ bytes. bytes ≡ packet_shown tables.now packet.now target is_held) }
+    ensures value { IfOk result (λ bytes. bytes ≡ packet_shown tables.now packet.now target is_held) }
+    ensures forged { OnOk result (shown_fault tables.now packet.now target is_held ≡ None) }
+    ensures refused { IfErr result (λ fault. fault ≢ ForgeFault.NoMemory → shown_fault tables.now packet.now target is_held ≡ Some fault) }
 {
-    if is_held || packet.is_empty() {
+    if is_held || packet.as_slice().is_empty() {
         let packet = hold(alloc, tables, target.width, target.height)?;
         return Ok(Bytes::new(packet));
     }
-    match Bytes::from_slice(alloc, packet) {
+    match packet.share(alloc) {
         Ok(bytes) => Ok(bytes),
         Err(_) => Err(ForgeFault::NoMemory),
     }
@@ -108,63 +148,49 @@ fn is_held(before: Option<Target>, target: Target, packet: &[u8]) -> bool
     repeats(before, target) && leaves_last(packet)
 }
 
-/// Appends the lead of a frame, which is empty if the frame before it is held.
-fn push_lead_of(
+/// The packets of a frame after the frame before it: those of its lead, which are to be hidden, and the packet that shows it.
+///
+/// `Size` or `TooLarge` if a hold packet of the frame's size cannot be forged, and `NoMemory`.
+pub(crate) fn plan_of(
     alloc: Global,
+    tables: &Tables,
     list: &Store,
     before: Option<Target>,
     target: Target,
-    is_held: bool,
+) -> Result<Plan, CutFault>
+    requires { target.place < length list.now.list.entries }
+    ensures packets { IfOk result (λ plan. planned (stream_of list.now.list) plan ≡ frame_packets tables.now (stream_of list.now.list) before target) }
+    ensures within { IfOk result (λ plan. (plan.first ≤ plan.end) × (plan.end ≤ length list.now.list.entries)) }
+    ensures forged { OnOk result (frame_fault tables.now (stream_of list.now.list) before target ≡ None) }
+    ensures refused { IfErr result (λ fault. fault ≢ CutFault.NoMemory → frame_fault tables.now (stream_of list.now.list) before target ≡ Some fault) }
+{
+    let packet = list.bytes(target.place);
+    let held = is_held(before, target, packet.as_slice());
+    let first = lead_start(list, before, target, held);
+    match shown_packet(alloc, tables, packet, target, held) {
+        Ok(shown) => Ok(Plan {
+            first,
+            end: target.place,
+            shown,
+        }),
+        Err(fault) => Err(CutFault::by(fault)),
+    }
+}
+
+/// Appends the packets of a plan.
+pub(crate) fn push_plan(
+    alloc: Global,
+    list: &Store,
+    plan: Plan,
     out: &mut Vec<Bytes>,
 ) -> Result<(), NoMemory>
-    requires { target.place < length list.now.list.entries }
-    ensures { OnOk result (out.new.items ≡ out.old.items ++ lead_if (stream_of list.now.list) before target is_held) }
+    requires { (plan.first ≤ plan.end) × (plan.end ≤ length list.now.list.entries) }
+    ensures { OnOk result (out.new.items ≡ out.old.items ++ planned (stream_of list.now.list) plan) }
 {
-    if is_held {
-        return Ok(());
-    }
-    let first = first_place(list, before, target);
-    push_lead(alloc, list, first, target.place, out)
-}
-
-/// Appends the packet that shows a frame.
-fn push_shown(
-    alloc: Global,
-    tables: &Tables,
-    packet: &[u8],
-    target: Target,
-    is_held: bool,
-    out: &mut Vec<Bytes>,
-) -> Result<(), ForgeFault>
-    ensures { OnOk result (out.new.items ≡ out.old.items ++ packet_shown tables.now packet.now target is_held ∷ []) }
-{
-    let shown = shown_packet(alloc, tables, packet, target, is_held)?;
+    let Plan { first, end, shown } = plan;
+    push_lead(alloc, list, first, end, out)?;
     match out.push(shown) {
         Ok(()) => Ok(()),
-        Err(_) => Err(ForgeFault::NoMemory),
+        Err(_) => Err(NoMemory),
     }
-}
-
-/// Appends the packets of a frame after the frame before it: those of its lead, hidden, and the packet that
-/// shows it.
-///
-/// `Size` or `TooLarge` if a hold packet of the frame's size cannot be forged, and `NoMemory`. Some packets may
-/// have been appended then.
-pub fn push_frame(
-    alloc: Global,
-    tables: &Tables,
-    list: &Store,
-    before: Option<Target>,
-    target: Target,
-    out: &mut Vec<Bytes>,
-) -> Result<(), ForgeFault>
-    requires { target.place < length list.now.list.entries }
-    ensures { OnOk result (out.new.items ≡ out.old.items ++ frame_packets tables.now (stream_of list.now.list) before target) }
-{
-    let packet = list.packet(target.place);
-    let held = is_held(before, target, packet);
-    let Ok(()) = push_lead_of(alloc, list, before, target, held, out) else {
-        return Err(ForgeFault::NoMemory);
-    };
-    push_shown(alloc, tables, packet, target, held, out)
 }

@@ -1,10 +1,13 @@
 // The packets of all frames of a script.
-ghost use Rattle.std.specs.Prelude.{◌≡◌, ◌≢◌, ◌+◌, ◌<◌, ◌≤◌, ◌++◌, IfErr, IfNone, IfOk, IfSome, OnOk, length, None};
-ghost use Rattle.lossless_cuts.specs.Limits.{IsTooLarge, file_size, records_size};
-ghost use Rattle.lossless_cuts.specs.Plans.{exported, frame_packets, stream_at, streams_of};
+ghost use Rattle.std.specs.Prelude.{◌≡◌, ◌≢◌, ◌+◌, ◌≤◌, ◌++◌, IfErr, IfOk, None, OnOk, Some, false, length, true};
+ghost use Rattle.packet_edits.specs.Shown.{stream_of};
+ghost use Rattle.lossless_cuts.specs.Faults.{export_fault, target_fault};
+ghost use Rattle.lossless_cuts.specs.Limits.{IsTooLarge, file_size, is_too_large, records_size};
+ghost use Rattle.lossless_cuts.specs.Plans.{exported, frame_packets, planned, stream_at, streams_of};
 
-use crate::cuts::push_frame;
+use crate::cuts::{Plan, plan_of, push_plan};
 use crate::faults::CutFault;
+use crate::sizes::left_after;
 use crate::targets::Target;
 use packet_edits::Store;
 use std::alloc::Global;
@@ -14,22 +17,37 @@ use vp8_tables::Tables;
 /// The most bytes of the records of an IVF file that is read again: 1,073,741,824 without its header.
 const MOST_BYTES: u64 = 1_073_741_792;
 
-/// The number of bytes of a record before those of its packet.
-const RECORD_HEAD: u64 = 12;
+/// The packets of an export as far as it has come, and the bytes that are left for the records of more.
+#[derive(Drop)]
+struct Output {
+    packets: Vec<Bytes>,
+    left: u64,
+}
 
-/// What is left of a number of bytes after the records of packets, if it is enough for them.
-fn left_after(packets: &[Bytes], bytes: u64) -> Option<u64>
-    ensures some { IfSome result (λ left. left + records_size packets.now ≡ bytes) }
-    ensures none { IfNone result (bytes < records_size packets.now) }
-{
-    let mut left = bytes;
-    let mut rest = packets;
-    while let [packet, more @ ..] = rest {
-        let after_head = left.checked_sub(RECORD_HEAD)?;
-        left = after_head.checked_sub(packet.as_slice().len() as u64)?;
-        rest = more;
+impl Output {
+    /// Appends the packets of a plan. Their bytes are counted before any is copied.
+    ///
+    /// `Full` if there would be too many packets or bytes, and `NoMemory`.
+    fn push_plan(&mut self, alloc: Global, list: &Store, plan: Plan) -> Result<(), CutFault>
+        requires plan { (plan.first ≤ plan.end) × (plan.end ≤ length list.now.list.entries) }
+        requires room { self.old.left + records_size self.old.packets.items ≡ 1073741792 }
+        ensures value { OnOk result (self.new.packets.items ≡ self.old.packets.items ++ planned (stream_of list.now.list) plan) }
+        ensures room { OnOk result (self.new.left + records_size self.new.packets.items ≡ 1073741792) }
+        ensures fits { OnOk result (is_too_large (self.old.packets.items ++ planned (stream_of list.now.list) plan) ≡ false) }
+        ensures full { IfErr result (λ fault. fault ≢ CutFault.NoMemory → (fault ≡ CutFault.Full) × (is_too_large (self.old.packets.items ++ planned (stream_of list.now.list) plan) ≡ true)) }
+    {
+        let Some(left) = left_after(list, &plan, self.left) else {
+            return Err(CutFault::Full);
+        };
+        let Ok(()) = push_plan(alloc, list, plan, &mut self.packets) else {
+            return Err(CutFault::NoMemory);
+        };
+        if self.packets.len() > MAX_PACKETS {
+            return Err(CutFault::Full);
+        }
+        self.left = left;
+        Ok(())
     }
-    Some(left)
 }
 
 /// Appends the packets of a frame of one of these sources, after the frame before it.
@@ -39,10 +57,14 @@ fn push_target(
     stores: &[Store],
     before: Option<Target>,
     target: Target,
-    out: &mut Vec<Bytes>,
+    out: &mut Output,
 ) -> Result<(), CutFault>
-    ensures value { OnOk result (out.new.items ≡ out.old.items ++ frame_packets tables.now (stream_at (streams_of stores.now) target.source) before target) }
-    ensures fault { IfErr result (λ fault. fault ≢ CutFault.Full) }
+    requires { out.old.left + records_size out.old.packets.items ≡ 1073741792 }
+    ensures value { OnOk result (out.new.packets.items ≡ out.old.packets.items ++ frame_packets tables.now (stream_at (streams_of stores.now) target.source) before target) }
+    ensures room { OnOk result (out.new.left + records_size out.new.packets.items ≡ 1073741792) }
+    ensures fits { OnOk result (is_too_large out.new.packets.items ≡ false) }
+    ensures allowed { OnOk result (target_fault tables.now (streams_of stores.now) out.old.packets.items before target ≡ None) }
+    ensures refused { IfErr result (λ fault. fault ≢ CutFault.NoMemory → target_fault tables.now (streams_of stores.now) out.old.packets.items before target ≡ Some fault) }
 {
     if target.source >= stores.len() {
         return Err(CutFault::Place);
@@ -51,17 +73,16 @@ fn push_target(
     if target.place >= list.len() {
         return Err(CutFault::Place);
     }
-    match push_frame(alloc, tables, list, before, target, out) {
-        Ok(()) => Ok(()),
-        Err(fault) => Err(CutFault::by(fault)),
-    }
+    let plan = plan_of(alloc, tables, list, before, target)?;
+    out.push_plan(alloc, list, plan)
 }
 
-/// The packets of frames, each after the one before it: copies of packets of the sources, of which only the
-/// show bit changes, and hold packets.
+/// The packets of frames, each after the one before it: packets of the sources, which share their bytes, hidden ones, of which
+/// only the show bit changes, and hold packets. The bytes of a frame's packets are counted before any is copied.
 ///
-/// `Place` if a frame's packet does not exist, `Full` if there would be more than 1,048,576 packets, or more than 1,073,741,824 bytes as an
-/// IVF file, `Size` or `TooLarge` if a hold packet cannot be forged, and `NoMemory`; the first one of the first frame that has one.
+/// The error is that of the first frame that has one, in this order: `Place` if the frame's packet does not exist, `Size` or `TooLarge`
+/// if its hold packet cannot be forged, and `Full` if there would be more than 1,048,576 packets with its own, or more than 1,073,741,824
+/// bytes as an IVF file once each packet that ends empty is padded. `NoMemory` may come in place of each of them, and of packets.
 pub fn export_packets(
     alloc: Global,
     tables: &Tables,
@@ -71,22 +92,19 @@ pub fn export_packets(
     ensures value { IfOk result (λ packets. packets.items ≡ exported tables.now (streams_of stores.now) None targets.now) }
     ensures few { IfOk result (λ packets. length packets.items ≤ 1048576) }
     ensures small { IfOk result (λ packets. file_size packets.items ≤ 1073741824) }
+    ensures allowed { OnOk result (export_fault tables.now (streams_of stores.now) targets.now ≡ None) }
+    ensures refused { IfErr result (λ fault. fault ≢ CutFault.NoMemory → export_fault tables.now (streams_of stores.now) targets.now ≡ Some fault) }
     ensures full { IfErr result (λ fault. fault ≡ CutFault.Full → IsTooLarge (exported tables.now (streams_of stores.now) None targets.now)) }
 {
-    let mut out = Vec::new(alloc);
+    let mut out = Output {
+        packets: Vec::new(alloc),
+        left: MOST_BYTES,
+    };
     let mut before = None;
-    let mut left = MOST_BYTES;
     for target in targets {
-        let earlier = out.len();
         push_target(alloc, tables, stores, before, *target, &mut out)?;
-        let Some(after) = left_after(&out[earlier..], left) else {
-            return Err(CutFault::Full);
-        };
-        if out.len() > MAX_PACKETS {
-            return Err(CutFault::Full);
-        }
         before = Some(*target);
-        left = after;
     }
-    Ok(out)
+    let Output { packets, left: _ } = out;
+    Ok(packets)
 }

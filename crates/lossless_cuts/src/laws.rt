@@ -29,8 +29,8 @@ pub fn biases_are_set_anew()
     ensures { BiasesAreSetAnew }
 {}
 
-/// The packets of frames show exactly these frames, for all tables: none of them is refused, and each shown
-/// one has the picture of its frame, sample for sample.
+/// The packets of frames, padded, show exactly these frames, for all tables: none of them is refused, and each
+/// shown one has the picture of its frame, sample for sample.
 pub fn exports_show_their_frames(tables: &Tables)
     ensures { ExportsShowTheirFrames tables.now }
 {
@@ -41,6 +41,8 @@ pub fn exports_show_their_frames(tables: &Tables)
     biases_are_set_anew();
     packet_forge::laws::hold_shows_last();
     reference_frames::laws::keys_step_from_none();
+    reference_frames::laws::zeros_keep_steps();
+    frame_header::laws::zeros_keep_headers();
     frame_header::show_laws::only_the_show_bit_changes();
     frame_header::laws::outlines_are_headers();
 }

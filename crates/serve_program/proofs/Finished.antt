@@ -24,7 +24,7 @@ use Rattle.serve_arguments.specs.declared.words.Words.{Words}
 use Rattle.serve_program.specs.Done.{IsDone, IsExitStatus, IsServedAs}
 use Rattle.serve_program.specs.Endings.{AreLiveReplied, AreReplied, Gained, IsLiveReplied, IsOut, IsOver, IsReplied, IsServed, OverSources, RunFiles, cached_by}
 use Rattle.serve_program.specs.Noted.{AreLiveNoted, AreNoted, IsLiveNoted, IsNoted, IsNotedAs}
-use Rattle.serve_program.specs.Saved.{ArePacketsSaved, AreSaved, IsAfterExport, IsExportSaved, SavedAt, exported_text}
+use Rattle.serve_program.specs.Saved.{ArePacketsSaved, AreSaved, IsExportSaved, SavedAt, exported_text}
 use Rattle.serve_program.proofs.Flushed.{flushed, flushed_noted}
 
 appends_from : (a b c : Option (List ℕ)) (bs : List ℕ) → Keeps a b → Appends b c bs → Appends a c bs
@@ -194,16 +194,16 @@ module _ (run : RunFiles) (line : Accepted) (left r r' : Option (List ℕ)) (tab
 
 -- ---- what is saved
 
-frames_saved : (saved : SavedAt) (pads : Bool) (end : SessionState) (exported : Option (Bor (List ℕ))) (export : Option Export) → is_some export ≡ is_some exported → IfSome export (IsExportFile end) → IfSome export (λ export. IfSome exported (λ path. saved path.now (exported_text pads export))) → IfSome exported (λ path. (export : Export) × IsExportFile end export × saved path.now (exported_text pads export))
-frames_saved saved pads end None export same file at = tt
-frames_saved saved pads end (Some path) None same file at = absurd (false≢true same)
-frames_saved saved pads end (Some path) (Some export) same file at = (export, file, at)
+frames_saved : (saved : SavedAt) (end : SessionState) (exported : Option (Bor (List ℕ))) (export : Option Export) → is_some export ≡ is_some exported → IfSome export (IsExportFile end) → IfSome export (λ export. IfSome exported (λ path. saved path.now (exported_text export))) → IfSome exported (λ path. (export : Export) × IsExportFile end export × saved path.now (exported_text export))
+frames_saved saved end None export same file at = tt
+frames_saved saved end (Some path) None same file at = absurd (false≢true same)
+frames_saved saved end (Some path) (Some export) same file at = (export, file, at)
 
-pub all_saved : (saved : SavedAt) (words : Words) (export : Option Export) (end new : SessionState) → IsAfterExport (is_some words.exported) end new → is_some export ≡ is_some words.exported → IfSome export (IsExportFile end) → ArePacketsSaved saved words new → IfSome export (IsExportSaved saved words) → AreSaved saved words end new
-all_saved saved words export end new after same file packets at = record {
-  after = after;
+pub all_saved : (saved : SavedAt) (words : Words) (export : Option Export) (end new : SessionState) → new ≡ end → is_some export ≡ is_some words.exported → IfSome export (IsExportFile end) → ArePacketsSaved saved words new → IfSome export (IsExportSaved saved words) → AreSaved saved words end new
+all_saved saved words export end new kept same file packets at = record {
+  same = kept;
   packets = packets;
-  frames = frames_saved saved words.pads end words.exported export same file at;
+  frames = frames_saved saved end words.exported export same file at;
 }
 
 -- ---- the exit status

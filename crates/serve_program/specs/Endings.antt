@@ -10,11 +10,9 @@ use Rattle.stream_files.specs.declared.ivf.IvfFault.{IvfFault}
 use Rattle.stream_files.specs.declared.ivf.TheConstants.{EMPTY}
 use Rattle.frame_session.specs.Cached.{Capacity as Cached, of_bytes, of_states}
 use Rattle.frame_session.specs.Answers.{AreIvfs, Means, RunStops, SourceRefuses}
-use Rattle.frame_session.specs.ExportSizes.{saved_bytes}
-use Rattle.frame_session.specs.Exported.{IsExportFile, IsNotExported}
+use Rattle.frame_session.specs.Exported.{IsNotExported}
 use Rattle.frame_session.specs.Live.{CutsOff, LiveMeans, LiveStops}
 use Rattle.frame_session.specs.Sessions.{SessionState, start}
-use Rattle.frame_session.specs.declared.export.Export.{Export}
 use Rattle.frame_session.specs.declared.refusal.Refusal.{Refusal}
 use Rattle.frame_session.specs.declared.refusal.Refusal.TheVariants as refusals
 use Rattle.frame_session.specs.declared.session.exports.ExportFault.{ExportFault}
@@ -91,16 +89,9 @@ fault_by_export (exports.Frame frame refusal) = fault_by_refusal frame refusal
 fault_by_export (exports.Changed frame node) = NotExported (unexported.Changed frame node)
 fault_by_export (exports.Packets fault) = fault_by_cut fault
 
--- the file of an export is too long, padded or not
-pub record IsTooLong (end : SessionState) : Type 0 where
-  pub file : Export
-  pub is : IsExportFile end file
-  pub pads : Bool
-  pub long : 1073741824 < saved_bytes pads file.packets
-
--- the frames of a session are not exported for this reason: it is that of the export, or its file is too long
+-- the frames of a session are not exported for this reason
 abbrev pub IsRefusedExport : SessionState → Unexported → Type 0
-IsRefusedExport end why = ((fault : ExportFault) × IsNotExported end fault × (fault_by_export fault ≡ NotExported why)) ⊎ ((why ≡ unexported.Full) × IsTooLong end)
+IsRefusedExport end why = (fault : ExportFault) × IsNotExported end fault × (fault_by_export fault ≡ NotExported why)
 
 -- why nothing was exported
 abbrev pub IsExportFault : SessionState → Fault → Type 0

@@ -1,5 +1,5 @@
 -- What is reported of an export.
-use Rattle.std.specs.Prelude.{ℕ, Bool, not, List, [], ◌++◌, codes, length, Option, Some, None}
+use Rattle.std.specs.Prelude.{ℕ, not, List, [], ◌++◌, codes, length, Option, Some, None}
 use Rattle.std.specs.Fmt.{decimal}
 use Rattle.std.specs.List.{count_by}
 use Rattle.frame_header.specs.Tags.{is_shown}
@@ -19,11 +19,11 @@ abbrev pub numbers_line : (frames packets hidden bytes steps : ℕ) → List ℕ
 numbers_line frames packets hidden bytes steps = packets_part frames packets hidden ++ size_part bytes steps
 
 -- the line of an export, with the number of frames of the script and of decoding steps of the run
-abbrev pub export_line : (pads : Bool) → Export → (frames : ℕ) → (steps : ℕ) → List ℕ
-export_line pads export frames steps =
-    numbers_line frames (length export.packets) (count_by (λ (packet : Packet). not (is_shown packet.bytes)) export.packets) (saved_bytes pads export.packets) steps
+abbrev pub export_line : Export → (frames : ℕ) → (steps : ℕ) → List ℕ
+export_line export frames steps =
+    numbers_line frames (length export.packets) (count_by (λ (packet : Packet). not (is_shown packet.bytes)) export.packets) (saved_bytes export.packets) steps
 
 -- it, if the frames were exported
-abbrev pub export_report : (pads : Bool) → Option Export → (frames : ℕ) → (steps : ℕ) → List ℕ
-export_report pads None frames steps = []
-export_report pads (Some export) frames steps = export_line pads export frames steps
+abbrev pub export_report : Option Export → (frames : ℕ) → (steps : ℕ) → List ℕ
+export_report None frames steps = []
+export_report (Some export) frames steps = export_line export frames steps

@@ -1,11 +1,12 @@
 -- What is saved after a run: the packets of source 0, and the frames as they were exported.
-use Rattle.std.specs.Prelude.{◌≡◌, ◌≤◌, Bool, false, ℕ, List, map, IfSome, is_some, if◌then◌else◌}
+use Rattle.std.specs.Prelude.{◌≡◌, Bool, ℕ, List, map, IfSome, if◌then◌else◌}
 use Rattle.stream_files.specs.Texts.{written_text}
 use Rattle.stream_files.specs.declared.streams.Head.{Head}
 use Rattle.stream_files.specs.declared.packets.Packet.{Packet}
 use Rattle.packet_edits.specs.Edits.{Listing}
-use Rattle.packet_edits.specs.Saved.{packets_of, padded_if, padded_packets_of, restamped}
+use Rattle.packet_edits.specs.Saved.{packets_of, padded_packets_of, restamped}
 use Rattle.frame_session.specs.Edits.{list_at}
+use Rattle.frame_session.specs.ExportSizes.{padded_packet}
 use Rattle.frame_session.specs.Exported.{IsExportFile}
 use Rattle.frame_session.specs.Sessions.{SessionState}
 use Rattle.frame_session.specs.declared.export.Export.{Export}
@@ -20,9 +21,9 @@ saved_packets pads restamps head list =
 abbrev pub saved_text : Bool → Bool → SessionState → List ℕ
 saved_text pads restamps end = written_text end.head (saved_packets pads restamps end.head (list_at end.lists 0))
 
--- the file of an export, padded or not
-abbrev pub exported_text : Bool → Export → List ℕ
-exported_text pads export = written_text export.head (map (padded_if pads) export.packets)
+-- the file of an export: its packets are padded
+abbrev pub exported_text : Export → List ℕ
+exported_text export = written_text export.head (map padded_packet export.packets)
 
 -- the texts that were saved at a path
 abbrev pub SavedAt : Type 1
@@ -34,20 +35,14 @@ ArePacketsSaved saved words now = IfSome words.saved (λ path. saved path.now (s
 
 -- an export was saved, if the arguments name a file for it
 abbrev pub IsExportSaved : SavedAt → Words → Export → Type 0
-IsExportSaved saved words export = IfSome words.exported (λ path. saved path.now (exported_text words.pads export))
+IsExportSaved saved words export = IfSome words.exported (λ path. saved path.now (exported_text export))
 
 -- the frames of a session were exported and saved, if the arguments name a file for them
 abbrev pub AreFramesSaved : SavedAt → Words → SessionState → Type 0
-AreFramesSaved saved words now = IfSome words.exported (λ path. (export : Export) × IsExportFile now export × saved path.now (exported_text words.pads export))
+AreFramesSaved saved words now = IfSome words.exported (λ path. (export : Export) × IsExportFile now export × saved path.now (exported_text export))
 
--- the session after the export that is asked for: only the number of steps made may have grown, and nothing if none is asked for
-pub record IsAfterExport (is_asked : Bool) (end new : SessionState) : Type 0 where
-  pub rest : new ≡ record end { decoded = new.decoded }
-  pub steps : end.decoded ≤ new.decoded
-  pub unasked : is_asked ≡ false → new ≡ end
-
--- after the last request, at `end`, the frames were exported and the packets saved, as these arguments ask
+-- after the last request, at `end`, the frames were exported and the packets saved, as these arguments ask; neither changes the session
 pub record AreSaved (saved : SavedAt) (words : Words) (end new : SessionState) : Type 0 where
-  pub after : IsAfterExport (is_some words.exported) end new
+  pub same : new ≡ end
   pub packets : ArePacketsSaved saved words new
   pub frames : AreFramesSaved saved words end

@@ -471,29 +471,28 @@ fn write_numbers<E: Write>(
 /// Says what was exported, with the number of frames of the script and of decoding steps of the run.
 fn write_export<E: Write>(
     export: &Export,
-    pads: bool,
     frames: u64,
     steps: u64,
     errors: &mut E,
 ) -> io::Result<()>
-    ensures { OnOk result (Appends (E.contents errors.old) (E.contents errors.new) (export_line pads export.now frames steps)) }
+    ensures { OnOk result (Appends (E.contents errors.old) (E.contents errors.new) (export_line export.now frames steps)) }
 {
     let packets = export.len();
     let hidden = export.hidden();
-    let bytes = export.bytes(pads);
+    let bytes = export.bytes();
     write_numbers(frames, packets, hidden, bytes, steps, errors)
 }
 
 /// Says what was exported, if that was asked for.
-pub fn explain_export<E: Write>(words: Words<'_>, done: &Answered, errors: &mut E) -> io::Result<()>
-    ensures { OnOk result (Appends (E.contents errors.old) (E.contents errors.new) (export_report words.entry.pads done.now.export (frame_count done.now.session.state) done.now.session.state.decoded)) }
+pub fn explain_export<E: Write>(done: &Answered, errors: &mut E) -> io::Result<()>
+    ensures { OnOk result (Appends (E.contents errors.old) (E.contents errors.new) (export_report done.now.export (frame_count done.now.session.state) done.now.session.state.decoded)) }
 {
     match &done.export {
         None => Ok(()),
         Some(export) => {
             let frames = done.session.count().1;
             let steps = done.session.decoded();
-            write_export(export, words.pads, frames, steps, errors)
+            write_export(export, frames, steps, errors)
         }
     }
 }

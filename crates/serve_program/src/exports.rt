@@ -1,14 +1,10 @@
 // The export of the frames of a session.
-ghost use Rattle.std.specs.Prelude.{◌≡◌, IfErr, IfOk, IfSome, is_some, true};
+ghost use Rattle.std.specs.Prelude.{◌≡◌, IfErr, IfOk, IfSome, is_some};
 ghost use Rattle.frame_session.specs.Exported.{IsExportFile};
 ghost use Rattle.serve_program.specs.Endings.{IsExportFault, fault_by_cut, fault_by_export, fault_by_refusal};
-ghost use Rattle.serve_program.specs.Saved.{IsAfterExport};
 
 use frame_session::{CutFault, Export, ExportFault, Refusal, Session};
 use serve_arguments::{Fault, NotExported, Words};
-
-/// The most bytes of a file that is read again.
-const MOST_BYTES: u64 = 1_073_741_824;
 
 /// A session after the last request, and the export of its frames if one is asked for.
 #[derive(Drop)]
@@ -63,41 +59,32 @@ fn export_fault(fault: ExportFault) -> Fault<'static>
     }
 }
 
-/// The export of the frames of a session, if its file is not too long, padded or not.
-#[tactic(auto, using(crate::proofs::Unexported::export_refused, crate::proofs::Unexported::too_long, crate::proofs::Unexported::after_asked))]
-fn export_of(session: &mut Session, pads: bool) -> Result<Export, Fault<'static>>
-    ensures file { IfOk result (IsExportFile session.old.state) }
-    ensures fault { IfErr result (IsExportFault session.old.state) }
-    ensures after { IsAfterExport true session.old.state session.new.state }
-    ensures capacity { session.new.cache.capacity ≡ session.old.cache.capacity }
+/// The export of the frames of a session.
+#[tactic(auto, using(crate::proofs::Unexported::export_refused))]
+fn export_of(session: &Session) -> Result<Export, Fault<'static>>
+    ensures file { IfOk result (IsExportFile session.now.state) }
+    ensures fault { IfErr result (IsExportFault session.now.state) }
 {
-    let export = match session.export() {
-        Ok(export) => export,
-        Err(fault) => return Err(export_fault(fault)),
-    };
-    if export.bytes(pads) > MOST_BYTES {
-        return Err(Fault::NotExported(NotExported::Full));
+    match session.export() {
+        Ok(export) => Ok(export),
+        Err(fault) => Err(export_fault(fault)),
     }
-    Ok(export)
 }
 
-/// Exports the frames of a session, if the arguments ask for it.
-#[tactic(auto, using(crate::proofs::Unexported::after_unasked, crate::proofs::Unexported::after_some))]
+/// Exports the frames of a session, if the arguments ask for it. The session is as it was.
 pub fn with_export(session: Session, words: Words<'_>) -> Result<Answered, Fault<'static>>
-    ensures after { IfOk result (λ done. IsAfterExport (is_some words.entry.exported) session.state done.session.state) }
-    ensures capacity { IfOk result (λ done. done.session.cache.capacity ≡ session.cache.capacity) }
+    ensures session { IfOk result (λ done. done.session ≡ session) }
     ensures asked { IfOk result (λ done. is_some done.export ≡ is_some words.entry.exported) }
     ensures file { IfOk result (λ done. IfSome done.export (IsExportFile session.state)) }
     ensures fault { IfErr result (IsExportFault session.state) }
 {
-    let mut session = session;
     if words.exported.is_none() {
         return Ok(Answered {
             session,
             export: None,
         });
     }
-    let export = export_of(&mut session, words.pads)?;
+    let export = export_of(&session)?;
     Ok(Answered {
         session,
         export: Some(export),

@@ -151,7 +151,7 @@ fn end<E: Write>(
     let _ = report_spare(&done.session, messages.errors);
     if messages.explains {
         let _ = explain_end(line.words, sources, messages);
-        let _ = explain_export(line.words, done, messages.errors);
+        let _ = explain_export(done, messages.errors);
         if let Some(stream) = sources.first() {
             let decoded = done.session.decoded();
             let _ = report_cache(alloc, line.capacity, stream, decoded, messages.errors);

@@ -51,14 +51,13 @@ impl SavedText for Packets<'_> {
 #[derive(Clone, Copy)]
 struct Frames<'a> {
     export: &'a Export,
-    pads: bool,
 }
 
 impl SavedText for Frames<'_> {
-    ghost text = { λ frames. exported_text frames.pads frames.export.now };
+    ghost text = { λ frames. exported_text frames.export.now };
 
     fn write_to<W: Write + Drop>(&self, w: &mut BufWriter<W>) -> Result<(), Unsaved> {
-        match self.export.save(w, self.pads) {
+        match self.export.save(w) {
             Ok(()) => w.flush().map_err(|_| Unsaved::Write),
             Err(_) => Err(Unsaved::Write),
         }
@@ -192,10 +191,7 @@ fn finish_frames<R: SavedFiles + AllocGlobal>(
         abandon(rt, begun);
         return Ok(());
     };
-    let frames = Frames {
-        export,
-        pads: words.pads,
-    };
+    let frames = Frames { export };
     finish_one(rt, words.exported, begun, &frames)
 }
 
@@ -221,10 +217,7 @@ fn finish_two<R: SavedFiles + AllocGlobal>(
         pads: words.pads,
         restamps: words.restamps,
     };
-    let frames = Frames {
-        export,
-        pads: words.pads,
-    };
+    let frames = Frames { export };
     let first = Save {
         path: saved,
         begun: begun.0,

@@ -238,15 +238,15 @@ const BROKEN: Refusal = Refusal::Packet {
     cause: Cause::ShortPacket,
 };
 
-// The size of the first frame that was served does not matter. Each packet has a record of 12 bytes more, a padded one a byte more than that.
+// The size of the first frame that was served does not matter. Each packet has a record of 12 bytes more, and a byte more than that since it ends empty.
 #[test]
 fn sizes_do_not_refuse_exports(rt: HostRuntime) -> Result<(), Fail> {
     let mut session = session_of(rt.alloc(), &[KEY, WIDE_KEY])?;
     assert!(rt; session.frame(1).is_ok() && session.frame(0).is_err());
     let export = session.export().map_err(|_| "no export")?;
     assert!(rt; export.head.width == 16 && export.packets.len() == 2);
-    assert!(rt; export.bytes(false) == 32 + 2 * 22 && export.bytes(true) == 32 + 2 * 23);
+    assert!(rt; export.bytes() == 32 + 2 * 23);
     let mut file = Vec::new(rt.alloc());
-    assert!(rt; export.save(&mut file, false).is_ok() && file.len() == 76);
+    assert!(rt; export.save(&mut file).is_ok() && file.len() == 78);
     Ok(())
 }

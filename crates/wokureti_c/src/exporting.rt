@@ -1,14 +1,12 @@
 //! The frames of the script as a file.
-ghost use Rattle.std.specs.Prelude.{◌≡◌, ◌<◌, ◌≤◌, IfErr, IfOk, IfSome};
-ghost use Rattle.wokureti_c.specs.Exports.{IsAfterExport, IsExportOf, IsExported, IsRefusedExport, IsUnexported, Reports, ReportsRefusal, exported_text};
+ghost use Rattle.std.specs.Prelude.{◌≡◌, ◌<◌, IfErr, IfOk, IfSome};
+ghost use Rattle.frame_session.specs.Exported.{IsExportFile};
+ghost use Rattle.wokureti_c.specs.Exports.{IsExported, IsUnexported, Reports, ReportsRefusal, exported_text};
 
 use crate::engine::Engine;
-use crate::statuses::{CHANGED, EXPORT_FULL, MEMORY, OK, number_of_cut_fault, number_of_refusal};
+use crate::statuses::{CHANGED, MEMORY, OK, number_of_cut_fault, number_of_refusal};
 use frame_session::{Export, ExportFault, Refusal, Session};
 use std::alloc::Global;
-
-/// The most bytes of a file that is read again.
-const MOST_BYTES: u64 = 1_073_741_824;
 
 /// Why the frames of the script are not exported: the first frame that is not, the number of the first node that changes
 /// samples of it, or the packet that broke its source.
@@ -51,48 +49,42 @@ fn report(fault: ExportFault, reported: &mut Unexported) -> u32
     }
 }
 
-/// The export of the frames of a session, if its file is not too long, or the number of the error.
-fn export_of(session: &mut Session, pads: bool, reported: &mut Unexported) -> Result<Export, u32>
-    ensures file { IfOk result (IsExportOf session.old.state pads) }
-    ensures refused { IfErr result (λ number. IsUnexported session.old.state pads number reported.new) }
+/// The export of the frames of a session, or the number of the error.
+fn export_of(session: &Session, reported: &mut Unexported) -> Result<Export, u32>
+    ensures file { IfOk result (IsExportFile session.now.state) }
+    ensures refused { IfErr result (λ number. IsUnexported session.now.state number reported.new) }
     ensures number { IfErr result (λ number. 0 < number) }
-    ensures after { session.new.state ≡ record session.old.state { decoded = session.new.state.decoded } }
-    ensures rises { session.old.state.decoded ≤ session.new.state.decoded }
 {
-    let export = match session.export() {
-        Ok(export) => export,
-        Err(fault) => return Err(report(fault, reported)),
-    };
-    if export.bytes(pads) > MOST_BYTES {
-        return Err(EXPORT_FULL);
+    match session.export() {
+        Ok(export) => Ok(export),
+        Err(fault) => Err(report(fault, reported)),
     }
-    Ok(export)
 }
 
 /// The file of an export, if there is memory for it.
-fn text_of(alloc: Global, export: &Export, pads: bool) -> Option<Vec<u8>>
-    ensures { IfSome result (λ text. text.items ≡ exported_text pads export.now) }
+fn text_of(alloc: Global, export: &Export) -> Option<Vec<u8>>
+    ensures { IfSome result (λ text. text.items ≡ exported_text export.now) }
 {
-    let Ok(mut text) = Vec::with_capacity(alloc, export.bytes(pads) as usize) else {
+    let Ok(mut text) = Vec::with_capacity(alloc, export.bytes() as usize) else {
         return None;
     };
-    match export.save(&mut text, pads) {
+    match export.save(&mut text) {
         Ok(()) => Some(text),
         Err(_) => None,
     }
 }
 
-/// Writes the file of the frames of the script, which is the text afterwards: 0, or the number of the error.
-pub fn export(alloc: Global, engine: &mut Engine, pads: bool, reported: &mut Unexported) -> u32
-    ensures exported { result ≡ 0 → IsExported engine.old pads engine.new }
-    ensures refused { 15 < result → IsRefusedExport engine.old pads result reported.new engine.new }
-    ensures memory { result ≡ 3 → IsAfterExport engine.old engine.new × (engine.new.text ≡ engine.old.text) }
+/// Writes the file of the frames of the script, which is the text afterwards: 0, or the number of the error. Nothing else changes.
+pub fn export(alloc: Global, engine: &mut Engine, reported: &mut Unexported) -> u32
+    ensures exported { result ≡ 0 → IsExported engine.old engine.new }
+    ensures refused { 15 < result → IsUnexported engine.old.session.state result reported.new × (engine.new ≡ engine.old) }
+    ensures memory { result ≡ 3 → engine.new ≡ engine.old }
 {
-    let export = match export_of(&mut engine.session, pads, reported) {
+    let export = match export_of(&engine.session, reported) {
         Ok(export) => export,
         Err(number) => return number,
     };
-    let Some(text) = text_of(alloc, &export, pads) else {
+    let Some(text) = text_of(alloc, &export) else {
         return MEMORY;
     };
     engine.text = text;

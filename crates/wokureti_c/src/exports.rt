@@ -2,7 +2,7 @@
 ghost use Rattle.std.specs.Prelude.{◌≡◌, ◌<◌, None, Some, false, length as count};
 ghost use Rattle.frame_session.specs.Cached.{of_bytes, of_states};
 ghost use Rattle.wokureti_c.specs.Calls.{IsAnswered, IsExplained, IsRefused, IsSaved, IsServed, IsTooLarge, KeepsRest, Over};
-ghost use Rattle.wokureti_c.specs.Exports.{IsAfterExport, IsExported, IsRefusedExport};
+ghost use Rattle.wokureti_c.specs.Exports.{IsExported, IsUnexported};
 ghost use Rattle.wokureti_c.specs.Openings.{IsNotOpened, IsOpened, files_in};
 ghost use Rattle.wokureti_c.specs.Rooms.{with_bytes};
 ghost use Rattle.wokureti_c.specs.Saves.{IsSavedSource, is_source};
@@ -212,25 +212,26 @@ pub extern "C" fn wk_save_source(
     status
 }
 
-/// Writes the frames of the current script as an IVF file, without coding, which is the text of the handle afterwards; with `pads` with
-/// a byte 00 after each packet whose last token partition is empty. If a frame cannot be exported, it is reported why.
+/// Writes the frames of the current script as an IVF file, without coding and without decoding, which is the text of the handle
+/// afterwards. A byte 00 follows each packet whose last token partition is empty, whatever `_pads` is. If a frame cannot be exported,
+/// it is reported why, and nothing changes.
 #[unsafe(no_mangle)]
 pub extern "C" fn wk_export(
     handle: &mut Handle,
     alloc: Global,
-    pads: bool,
+    _pads: bool,
     length: &mut usize,
     reported: &mut Unexported,
 ) -> u32
-    ensures exported { result ≡ 0 → Over handle.old.held handle.new.held (λ old new. IsExported old pads new × (length.new ≡ count new.text.items)) }
-    ensures refused { 15 < result → Over handle.old.held handle.new.held (λ old new. IsRefusedExport old pads result reported.new new) }
-    ensures memory { result ≡ 3 → Over handle.old.held handle.new.held (λ old new. IsAfterExport old new × (new.text ≡ old.text)) }
+    ensures exported { result ≡ 0 → Over handle.old.held handle.new.held (λ old new. IsExported old new × (length.new ≡ count new.text.items)) }
+    ensures refused { 15 < result → Over handle.old.held handle.new.held (λ old new. IsUnexported old.session.state result reported.new × (new ≡ old)) }
+    ensures memory { result ≡ 3 → Over handle.old.held handle.new.held (λ old new. new ≡ old) }
     ensures closed { handle.old.held ≡ None → (result ≡ 4) × (handle.new.held ≡ None) }
 {
     let Some(mut engine) = take(handle, alloc) else {
         return CLOSED;
     };
-    let status = export(alloc, &mut engine, pads, reported);
+    let status = export(alloc, &mut engine, reported);
     *length = engine.text.len();
     put(handle, engine);
     status

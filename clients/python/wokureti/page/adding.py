@@ -58,7 +58,8 @@ def add(live, path, stem):
     if len(live.options.get("sources", ())) + 1 >= MOST_SOURCES:
         raise Cannot(f"a session has at most {MOST_SOURCES} streams")
     try:
-        taken = convert.as_ivf(path, live.room.name)
+        with live.opening(os.path.basename(path)) as watch:
+            taken = convert.as_ivf(path, live.room.name, watch=watch)
         live.add_source(taken, stem, muxing.ending_for(media_of(taken)))
     except (Ended, OSError, ValueError) as error:
         raise Cannot(f"{os.path.basename(path)} was not added: {error}") from None

@@ -1,5 +1,6 @@
 """A check of the packets in the background. The session is asked for the findings at some packets at a time, so that frames and edits do not wait long."""
 
+import json
 import threading
 import time
 
@@ -17,6 +18,8 @@ MOST_BEFORE = 0.1
 PAUSE = 0.001
 # Findings that are stored, at most; those that follow are only counted.
 MOST_FINDINGS = 20000
+# Seconds between two looks of a client at a check that goes on; findings in one event.
+OFTEN, MOST_TOLD = 0.1, 1000
 # Checks of the same revision with which the session ended, at most: it is not started again for ever.
 MOST_TRIES = 2
 # Kinds of findings that say that a packet decodes to other samples than were coded.
@@ -102,6 +105,19 @@ class Check:
     def is_left(self):
         """Whether it was left in the middle, so that another check of the same packets follows it."""
         return self.stopped.is_set() or (self.has_ended and self.tries < MOST_TRIES)
+
+    def members(self, first, most=None):
+        """What is known of it, with findings from one on."""
+        is_over = self.is_over and not self.is_left
+        # The findings last: those that come meanwhile are told then.
+        state = {"damage": self.damage, "notes": self.notes, "done": self.done, "packets": len(self.stream), "over": is_over, "failed": self.error if is_over else None}
+        findings = self.findings[first : None if most is None else first + most]
+        return {"check": self.number, "from": first, "findings": findings, "groups": self.groups(findings), **state}
+
+    def groups(self, findings):
+        """For each finding the key packet at or before its packet, or None: what is damaged after a packet is mostly damaged with it."""
+        keys = self.view.timeline(0).keys
+        return [None if finding["packet"] is None else max(0, keys.rfind(1, 0, finding["packet"] + 1)) for finding in findings]
 
     def stop(self):
         """Ends the check after the question that is asked now."""
@@ -191,3 +207,31 @@ class Check:
         self.notes += numbers["notes"]
         self.inside += [finding["packet"] for finding in findings if finding["kind"] in INSIDE]
         self.findings += findings[: MOST_FINDINGS - len(self.findings)]
+
+
+class News:
+    """What a client was told of the check of the current packets, and what there is more by now."""
+
+    def __init__(self, live):
+        self.live, self.check, self.count, self.state = live, None, 0, None
+
+    def events(self):
+        """An event with what is new, and the seconds until there may be more; None if that needs a change."""
+        try:
+            check = self.live.checked()
+        except (Ended, Lost, Refused, OSError, ValueError) as error:
+            return [event({"failed": str(error)})], None
+        if check is not self.check:
+            self.check, self.count, self.state = check, 0, None
+        members = check.members(self.count, MOST_TOLD)
+        self.count += len(members["findings"])
+        state = (self.count, check.done, members["over"])
+        is_rest = self.count < len(check.findings)
+        found = [] if state == self.state else [event({"revision": self.live.revision, **members, "over": members["over"] and not is_rest})]
+        self.state = state
+        return found, 0 if is_rest else None if members["over"] else OFTEN
+
+
+def event(members):
+    """An event of a check."""
+    return b"event: check\ndata: %b\n\n" % json.dumps(members).encode()

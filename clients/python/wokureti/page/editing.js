@@ -64,8 +64,8 @@ export class Editing {
     const since = performance.now();
     performance.mark("edit");
     try {
-      const answer = await server.change(lines, this.model.revision, typeof said === "string" ? said : "");
-      await this.model.load(answer.changes);
+      const title = typeof said === "string" ? said : "";
+      const answer = await this.model.change((page) => server.change(lines, this.model.revision, title, page));
       const text = typeof said === "function" ? said(answer.reply) : said;
       if (text && !isQuiet) this.status.say(`${text} (${Math.round(performance.now() - since)} ms)`);
       this.last = answer.reply;
@@ -124,8 +124,7 @@ export class Editing {
     }
     return this.inTurn(async () => {
       try {
-        const { reply: path, renumbered, changes } = await server.save(source);
-        await this.model.load(changes);
+        const { reply: path, renumbered } = await this.model.change((page) => server.save(source, page));
         const what = source === 0 && this.model.session.script !== "-" ? "The packets were saved, without the script, to" : source ? `The packets of ${names[source]} were saved to` : "Saved to";
         const said = `${what} ${path}${renumbered ? "; times were numbered anew" : ""}`;
         notice(said, { id: "saved" });
@@ -203,8 +202,7 @@ export class Editing {
       const at = model.packet;
       const source = model.source;
       try {
-        const found = await server.paste({ contents, numbers, source, at, move: isMove, revision: model.revision });
-        await model.load(found.changes);
+        const found = await model.change((page) => server.paste({ contents, numbers, source, at, move: isMove, revision: model.revision, page }));
         if (isMove) this.clipboard = null;
         if (!found.made) return this.status.say("they are there already");
         model.select(found.first, found.first + found.count);

@@ -4,8 +4,9 @@ import * as server from "./interface.js";
 import { notice } from "./status.js";
 
 const find = (id) => document.getElementById(id);
-// Milliseconds for which the browser may still read the file.
+// Milliseconds for which the browser may still read the file, and between two looks at how far an export is.
 const LATER = 60000;
+const OFTEN = 200;
 
 export class Exporting {
   constructor(status) {
@@ -24,12 +25,15 @@ export class Exporting {
       this.making.abort();
       return;
     }
-    this.making = new AbortController();
+    const making = new AbortController();
+    this.making = making;
     const button = find("export");
     const { title } = button;
     button.textContent = "Stop the export";
+    const number = String(Math.random()).slice(2);
+    this.tell(number, making).catch(() => {});
     try {
-      const { file, name, said } = await server.exported(this.making.signal);
+      const { file, name, said } = await server.exported(number, making.signal, (done, total) => this.status.share("the export is read", done / total));
       const link = document.createElement("a");
       link.href = URL.createObjectURL(file);
       link.download = name;
@@ -43,6 +47,17 @@ export class Exporting {
       this.making = null;
       button.textContent = "Export";
       button.title = title;
+    }
+  }
+
+  /** Says how far the server is. vp8serve itself does not say it: then how long it takes. */
+  async tell(number, making) {
+    for (;;) {
+      await new Promise((done) => setTimeout(done, OFTEN));
+      const now = this.making === making ? await server.exportProgress(number) : null;
+      if (this.making !== making) return;
+      if (now?.total) this.status.share(`exporting: ${now.what}`, now.done / now.total);
+      else if (now) this.status.share(`exporting: ${now.what}, ${now.seconds.toFixed(1)} s`, null);
     }
   }
 }

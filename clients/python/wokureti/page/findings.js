@@ -4,8 +4,6 @@ import * as server from "./interface.js";
 
 const find = (id) => document.getElementById(id);
 const STEP = 200;
-// Milliseconds between two looks at a check that goes on.
-const OFTEN = 200;
 // Findings inside packets, which change what the timeline has.
 const INSIDE = ["past_end", "unread"];
 
@@ -108,6 +106,8 @@ export class Findings {
     this.kept = new Set();
     // Which groups are unfolded, of those that were pressed.
     this.unfolded = new Map();
+    // What was heard so far of the check that goes on.
+    this.news = { check: null, findings: [] };
     model.addEventListener("session", () => this.follow());
     find("findings-more").addEventListener("click", () => {
       this.most += STEP;
@@ -118,50 +118,28 @@ export class Findings {
     find("preview-leave").addEventListener("click", () => this.leave());
   }
 
-  /** Follows the check of the current stream until it is over. */
-  async follow() {
+  /** What is of the stream before an edit goes. */
+  follow() {
     if (this.open && this.open.revision !== this.model.revision) this.close();
-    if (this.following) {
-      this.again = true;
-      return;
-    }
-    this.following = true;
-    try {
-      do {
-        this.again = false;
-        await this.watch();
-      } while (this.again);
-    } catch (error) {
-      find("check-text").textContent = error.message;
-    } finally {
-      this.following = false;
-    }
   }
 
-  async watch() {
-    let found = [];
-    let number = null;
-    for (;;) {
-      const answer = await server.members(`check?from=${found.length}`);
-      if (answer.check !== number) {
-        // Another stream is checked.
-        number = answer.check;
-        if (answer.from > 0) {
-          found = [];
-          continue;
-        }
-      }
-      found.push(...answer.findings.map((finding, place) => ({ ...finding, group: answer.groups[place] })));
-      const isNew = !this.check || this.check.check !== number || this.check.findings.length !== found.length || this.check.over !== answer.over;
-      // Those of the stream before stay until this check is over, or has found something, or takes long.
-      if (answer.over || found.length || (this.check && this.check.check === number)) {
-        this.check = { ...answer, findings: found };
-        if (isNew) this.write();
-      }
-      this.tell(answer);
-      if (answer.over || this.again) return;
-      await new Promise((done) => setTimeout(done, OFTEN));
+  /** The server says what is new of the check of the current stream. */
+  heard(answer) {
+    if (answer.check === undefined) {
+      find("check-text").textContent = answer.failed;
+      return;
     }
+    // Another stream is checked, or the server tells all of it again.
+    if (answer.check !== this.news.check || !answer.from) this.news = { check: answer.check, findings: [] };
+    const { check, findings } = this.news;
+    findings.push(...answer.findings.map((finding, place) => ({ ...finding, group: answer.groups[place] })));
+    const isNew = !this.check || this.check.check !== check || answer.findings.length > 0 || this.check.over !== answer.over;
+    // Those of the stream before stay until this check is over, or has found something, or takes long.
+    if (answer.over || findings.length || this.check?.check === check) {
+      this.check = { ...answer, findings };
+      if (isNew) this.write();
+    }
+    this.tell(answer);
   }
 
   tell({ over, done, packets, damage, notes, failed }) {
@@ -187,16 +165,16 @@ export class Findings {
   }
 
   write() {
-    const { findings, check, over } = this.check;
+    const { findings, check, over, damage: all, notes } = this.check;
     const damage = [...new Set(findings.filter(({ severity, packet }) => severity === "damage" && packet !== null).map(({ packet }) => packet))];
-    // The timeline is asked for again only for what no header says.
-    const inside = findings.filter(({ kind }) => INSIDE.includes(kind)).length;
-    this.timeline.setFindings(damage, inside ? `${check} ${over ? inside : inside - (inside % 100)}` : "");
+    const inside = findings.filter(({ kind }) => INSIDE.includes(kind)).map(({ packet }) => packet);
+    // The timeline is asked for again only if there are more findings than are told.
+    this.timeline.setFindings(damage, inside, over && findings.length < all + notes ? String(check) : "");
     const list = find("findings-list");
-    const all = grouped(ordered(findings));
-    list.replaceChildren(...all.slice(0, this.most).flatMap((group, place) => this.rows(group, place === 0)));
-    find("findings-more").hidden = all.length <= this.most;
-    find("findings-more").textContent = `Show more of ${all.length.toLocaleString("en")}`;
+    const groups = grouped(ordered(findings));
+    list.replaceChildren(...groups.slice(0, this.most).flatMap((group, place) => this.rows(group, place === 0)));
+    find("findings-more").hidden = groups.length <= this.most;
+    find("findings-more").textContent = `Show more of ${groups.length.toLocaleString("en")}`;
   }
 
   /** The rows of a group: the first finding, and the others if the group is unfolded, as the first one is. */

@@ -74,27 +74,46 @@ function post(path, body, what, signal) {
   return ask(path, { method: "POST", headers: { "Content-Type": "application/json" }, body: JSON.stringify(body), signal }, what);
 }
 
-/** Makes edits as one step with a title, or `undo` or `redo`, if the stream is still that of the revision. */
-export async function change(lines, revision, title = "") {
-  const body = typeof lines === "string" ? { line: lines, revision } : { lines, revision };
+/** Makes edits as one step with a title, or `undo` or `redo`, if the stream is still that of the revision. `page` is what is shown, whose new state is in
+ * the answer. */
+export async function change(lines, revision, title, page) {
+  const body = typeof lines === "string" ? { line: lines, revision, page } : { lines, revision, page };
   if (title && typeof lines !== "string") body.title = title;
   return (await post("edits", body, "edit")).json();
 }
 
 /** Saves the packets of a source, and returns the name of the file, `reply`, and whether times were `renumbered`. */
-export async function save(source) {
-  return (await post("edits", { line: "save", source }, "the packets to be saved")).json();
+export async function save(source, page) {
+  return (await post("edits", { line: "save", source, page }, "the packets to be saved")).json();
 }
 
-/** The frames that are shown as a file: its bytes, its name, and what it has. */
-export async function exported(signal) {
-  const answer = await ask("exported", { signal }, "the export");
-  return { file: await answer.blob(), name: nameIn(answer.headers.get("Content-Disposition")), said: answer.headers.get("X-Exported") };
+/** The frames that are shown as a file: its bytes, its name, and what it has. `got` hears how many bytes of all are here. */
+export async function exported(name, signal, got) {
+  const answer = await ask(`exported?name=${name}`, { signal }, "");
+  const total = Number(answer.headers.get("Content-Length"));
+  const pieces = [];
+  let done = 0;
+  for (const reader = answer.body.getReader(); ; ) {
+    const { value } = await reader.read();
+    if (!value) break;
+    pieces.push(value);
+    done += value.length;
+    got(done, total);
+  }
+  return { file: new Blob(pieces), name: nameIn(answer.headers.get("Content-Disposition")), said: answer.headers.get("X-Exported") };
 }
+
+/** How far an export is, or undefined. */
+export async function exportProgress(name) {
+  return (await members("progress")).exports[name];
+}
+
+// What is waited for while a stream is opened.
+export const OPENING = "the stream to be opened";
 
 /** Opens a stream of the folder as the last source, and returns its number, `source`. */
 export async function addSource(file) {
-  return (await post("sources", { file }, "the stream to be opened")).json();
+  return (await post("sources", { file }, OPENING)).json();
 }
 
 /** Opens a stream of the folder on a page of its own, and returns its address. */
@@ -177,15 +196,17 @@ export async function previewFindings(lines, packet, revision, signal) {
   return (await post("preview", { lines, findings: packet, revision }, "", signal)).json();
 }
 
-/** Calls `heard` with the name of each event of the server, and how many changes there were by then, as long as the page is visible. */
-export function listen(heard) {
+/** Calls `heard` with the name of each event of the server, and how many changes there were by then, and `found` with what a check found, as long as the
+ * page is visible. */
+export function listen(heard, found) {
   let source = null;
   const start = () => {
     if (source || document.hidden) return;
-    source = new EventSource(new URL("events", BASE));
+    source = new EventSource(new URL("events?check=1", BASE));
     for (const name of ["edit", "restarted", "saved"]) {
       source.addEventListener(name, (event) => heard(name, JSON.parse(event.data).changes));
     }
+    source.addEventListener("check", (event) => found(JSON.parse(event.data)));
     source.addEventListener("error", () => heard("lost", null));
     source.addEventListener("open", () => heard("open", null));
   };

@@ -227,7 +227,7 @@ server.listen((name, changes) => {
   }
   if (name === "restarted") notice("vp8serve ended. It was started again, and all edits are there.", { id: "restarted" });
   model.load(changes).catch((error) => status.say(error.message));
-});
+}, (found) => findings.heard(found));
 
 /** Another server may have the address of the one that was ended: all is read again then. */
 async function meet() {

@@ -23,15 +23,36 @@ export class Model extends EventTarget {
     this.times = null;
     this.timed = null;
     this.loading = null;
+    // A change whose answer is not here yet, and what an answer had of the state after it: the place of the packet, and tiles of the timeline.
+    this.changing = null;
+    this.given = null;
+    // The tiles that the timeline shows.
+    this.tilesShown = () => [];
   }
 
   send(name) {
     this.dispatchEvent(new Event(name));
   }
 
+  /** Makes a change. `act` is called with what is shown, and the answer has the new state of that: events about the change, which may come first, wait. */
+  async change(act) {
+    const making = act({ source: this.source, packet: this.packet, tiles: this.tilesShown() });
+    const changing = making.catch(() => {});
+    this.changing = changing;
+    try {
+      const answer = await making;
+      const { session, place, tiles } = answer;
+      this.given = { revision: session.revision, place, tiles };
+      this.use(session);
+      return answer;
+    } finally {
+      if (this.changing === changing) this.changing = null;
+    }
+  }
+
   /** Reads the state of the session, unless it has so many changes already. Calls that come in the meantime are answered by one more reading. */
   async load(changes = Infinity) {
-    while (this.loading && changes < Infinity) await this.loading.catch(() => {});
+    while ((this.changing || this.loading) && changes < Infinity) await (this.changing || this.loading.catch(() => {}));
     if (this.session?.changes >= changes) return this.session;
     if (this.loading) {
       this.again = true;
@@ -44,17 +65,22 @@ export class Model extends EventTarget {
   async read() {
     do {
       this.again = false;
-      const session = await server.members("session", "the packets");
-      const old = this.session;
-      this.session = session;
-      server.remember(session);
-      if (!old || old.revision !== session.revision || old.instance !== session.instance) this.blocks.clear();
-      this.time().catch(() => {});
-      if (this.selection && this.selection.end > this.packets) this.selection = null;
-      this.send("session");
-      if (old && old.revision !== session.revision && !this.isPlaying) this.stay(old.script !== session.script);
+      this.use(await server.members("session", "the packets"));
     } while (this.again);
     return this.session;
+  }
+
+  /** Takes a state of the session, unless a newer one is here. */
+  use(session) {
+    const old = this.session;
+    if (old && old.instance === session.instance && old.changes > session.changes) return;
+    this.session = session;
+    server.remember(session);
+    if (!old || old.revision !== session.revision || old.instance !== session.instance) this.blocks.clear();
+    this.time().catch(() => {});
+    if (this.selection && this.selection.end > this.packets) this.selection = null;
+    this.send("session");
+    if (old && old.revision !== session.revision && !this.isPlaying) this.stay(old.script !== session.script);
   }
 
   /** Reads the times of the frames, if the rate varies. */
@@ -167,7 +193,7 @@ export class Model extends EventTarget {
     if (!this.packets) return;
     const { source } = this;
     const asked = this.packet;
-    const place = await server.members(`place?packet=${asked}&source=${source}`);
+    const place = this.placeGiven(source, asked) || (await server.members(`place?packet=${asked}&source=${source}`));
     if (move !== this.moves) return;
     if (place.frame !== null) {
       await this.go(Math.min(place.frame, this.frames - 1), { keepPacket: true });
@@ -175,6 +201,20 @@ export class Model extends EventTarget {
     }
     this.aside = { source, packet: asked, before: place.before, own: place.own };
     this.send("frame");
+  }
+
+  /** The place of a packet, if the answer to the last change had it. */
+  placeGiven(source, packet) {
+    const place = this.given?.revision === this.revision ? this.given.place : null;
+    return place && place.source === source && place.packet === packet ? place : null;
+  }
+
+  /** Takes the tiles that the answer to the last change had. */
+  takeTiles() {
+    const { given } = this;
+    const tiles = given?.revision === this.revision ? given.tiles : [];
+    if (given) given.tiles = [];
+    return tiles;
   }
 
   /** Shows another source in the timeline, and its first picture. */

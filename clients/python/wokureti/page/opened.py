@@ -7,6 +7,7 @@ import time
 
 from ..server import live
 from .checking import Check, Stale, answer
+from .parts import Part
 from ..session.errors import Ended, Lost, Refused
 from ..session.lines import first_word
 from ..session.origins import runs_of
@@ -37,8 +38,8 @@ class Opened(live.Live):
         self.originals, self.preview, self.aside, self.beside, self.meanwhile = {}, Preview(options), Preview(options), Preview(options), Preview(options, 0)
         # While an edit is made: the revision before it, the rate of the frames, and the edits that were made by then.
         self.before = None
-        # What goes on: a word, how much of it is done, of how much, and since when.
-        self.doing = None
+        # What goes on: a word, how much of it is done, of how much, and since when; and the same of a stream that is opened.
+        self.doing, self.taking = None, None
         super().__init__(options, edits, save, stems)
         threading.Thread(target=self.list_files, daemon=True).start()
 
@@ -129,6 +130,15 @@ class Opened(live.Live):
         self.close_others()
         self.preview, self.aside, self.beside, self.meanwhile = Preview(self.options), Preview(self.options), Preview(self.options), Preview(self.options, 0)
         threading.Thread(target=self.list_files, daemon=True).start()
+
+    @contextlib.contextmanager
+    def opening(self, name):
+        """While a stream is opened, `taking` is how much of its packets was taken out of a container."""
+        self.taking = Part(f"taking the packets out of {name}")
+        try:
+            yield self.taking
+        finally:
+            self.taking = None
 
     # Edits
 

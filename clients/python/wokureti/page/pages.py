@@ -12,22 +12,23 @@ import time
 
 from . import adding, others
 from ..session import records
-from ..tools import exports, ivf, muxing, repair
-from .checking import Earlier
+from ..tools import exports, ivf, muxing, progress, repair
+from .checking import Earlier, News
 from .clipboard import Clipboard, Gone, numbers_of, runs_of
 from ..tools.differences import Lasting
 from ..session.errors import Ended, Refused
 from ..session.frames import MARK
 from ..session.lines import EDITS, first_word, is_edit
 from ..server.live import Changed
+from .parts import Part
 from .proposals import Proposals
 from .sounding import Sounding, has_sound
 from ..server import ranges
-from ..server.routes import Routes, until_ended
+from ..server.routes import Routes, members_of, until_ended
 from .views import MOST_ENTRIES
 from ..server.virtual import header_of
 from ..tools.sounds import Cannot
-from ..server.web import Refuse, Response, as_json
+from ..server.web import Dropped, Refuse, Response, as_json
 
 KINDS = {
     ".html": "text/html; charset=utf-8",
@@ -43,8 +44,10 @@ STEPS = frozenset(("double", "sort", "hold"))
 MOST_LINES = 1 << 20
 # Frames whose origins are told at a time, at most; seconds that one search for a frame that differs takes.
 MOST_ORIGINS, SEARCH_TIME = 4096, 0.25
-# Frames that are served together, at most; packets whose key packets are asked for.
-MOST_TOGETHER, MOST_KEYS = 8, 200
+# Frames that are served together, at most; tiles of the timeline in an answer to a change.
+MOST_TOGETHER, MOST_TILES = 8, 8
+# The columns of these tiles.
+COLUMNS = 1024
 # Places of selected packets that are named, at most.
 MOST_PLACES = 3
 RANGE = re.compile("([0-9]{1,15})-([0-9]{1,15})\\.y4m")
@@ -67,6 +70,8 @@ class PageRoutes(Routes):
         # The list of edits that is taken where none is named.
         self.usual = None
         self.sounding, self.others = Sounding(live.room.name), others.Others()
+        # The exports that go on, by the names that the pages gave them.
+        self.exporting = {}
         self.posts[("sources",)] = self.add_source
         self.posts[("pages",)] = self.open_page
         self.posts[("preview",)] = self.preview
@@ -81,7 +86,6 @@ class PageRoutes(Routes):
                 ("numbers",): self.numbers,
                 ("check",): self.check_of,
                 ("key",): self.key,
-                ("keys",): self.keys,
                 ("range",): self.range,
                 ("cut",): self.cut,
                 ("report.json",): self.report,
@@ -142,7 +146,10 @@ class PageRoutes(Routes):
         self.only(request)
         # What changes while the answer is made is in the next one.
         others = self.live.changes - self.live.revision
-        view = self.live.current_view()
+        return as_json(self.session_of(self.live.current_view(), others))
+
+    def session_of(self, view, others):
+        """What the page shows of the session at a revision. `others` are the changes that made no revision."""
         first, edits, saves = view.timeline(0), self.live.session.edits, self.saves_of(view)
         members = {
             "revision": view.revision,
@@ -175,7 +182,7 @@ class PageRoutes(Routes):
             "shown": first.frames[-1],
             "source_frames": [view.timeline(source).frames[-1] for source in range(len(view.streams))],
         }
-        return as_json(members)
+        return members
 
     def again(self):
         """The command that goes on with the list of edits, or None if there is no list."""
@@ -202,7 +209,10 @@ class PageRoutes(Routes):
         if doing is not None:
             what, done, total, since = doing
             found = {"what": what, "done": done, "total": total, "seconds": round(time.monotonic() - since, 1)}
-        return as_json({"revision": self.live.revision, "doing": found, "restarts": len(self.live.events)})
+        exporting = {name: one.members() for name, one in list(self.exporting.items())}
+        taking = self.live.taking
+        opening = None if taking is None else taking.members()
+        return as_json({"revision": self.live.revision, "doing": found, "exports": exporting, "opening": opening, "restarts": len(self.live.events)})
 
     def source_of(self, request, view):
         source = self.number(request, "source", 0)
@@ -218,12 +228,17 @@ class PageRoutes(Routes):
         first, per, count = self.number(request, "first", 0), self.number(request, "per", 1), self.number(request, "count", 1024)
         if not 1 <= per <= 1 << 20 or not 1 <= count <= MOST_ENTRIES:
             raise Refuse(400, f"per is 1 to {1 << 20}, count 1 to {MOST_ENTRIES}")
-        timeline = view.timeline(source)
-        check = self.live.check
+        return as_json(self.tile_of(view, source, first, per, count))
+
+    def tile_of(self, view, source, first, per, count):
+        """Columns of packets as they are drawn, and the key packets there: each with its number, which stays its own, and its frame in the source."""
+        timeline, check = view.timeline(source), self.live.check
         if check is not None and source == 0 and check.is_of(view):
             timeline.damage(check)
-        found = timeline.tile(min(first, len(timeline.stream)), per, count)
-        return as_json({"revision": view.revision, "source": source, "first": first, "per": per, "packets": len(timeline.stream), **found})
+        start = min(first, len(timeline.stream))
+        keys = [(packet, timeline.stream[packet], timeline.own_frame(packet)) for packet in timeline.keys_of(start, per, count)]
+        members = {"revision": view.revision, "contents": view.contents.name, "source": source, "first": first, "per": per, "packets": len(timeline.stream)}
+        return {**members, **timeline.tile(start, per, count), "keys": keys}
 
     def origins(self, request):
         """For each frame of a range the source and the packet that it shows, and the frame of the opened file there."""
@@ -245,16 +260,14 @@ class PageRoutes(Routes):
         self.only(request, "packet", "source")
         view = self.live.current_view()
         source = self.source_of(request, view)
-        packet = self.number(request, "packet", 0)
+        return as_json(self.place_of(view, source, self.number(request, "packet", 0)))
+
+    def place_of(self, view, source, packet):
+        """The first frame that shows a packet, the frame of its source without the script, and that of the opened file there."""
         members = {"revision": view.revision, "source": source, "packet": packet, "frame": view.frame_of(source, packet)}
         if packet < len(view.streams[source]):
-            members.update(own=self.own_frame(view, source, packet), before=self.original_frame(view, source, packet))
-        return as_json(members)
-
-    def own_frame(self, view, source, packet):
-        """The frame of a source, without the script, that shows a packet: that of the next shown packet if it is hidden."""
-        frames = view.timeline(source).frames
-        return max(0, min(frames[packet], frames[-1] - 1))
+            members.update(own=view.timeline(source).own_frame(packet), before=self.original_frame(view, source, packet))
+        return members
 
     def packet(self, request, name):
         """The picture of a packet, without the script."""
@@ -267,7 +280,7 @@ class PageRoutes(Routes):
             if self.live.revision != view.revision:
                 raise Refuse(412, "the stream was changed", revision=self.live.revision)
             made = list(self.live.alive().edits)
-        return self.y4m(self.live.aside.packet(made, source, number, self.own_frame(view, source, number)))
+        return self.y4m(self.live.aside.packet(made, source, number, view.timeline(source).own_frame(number)))
 
     def y4m_number(self, name):
         """The number in the name of a frame."""
@@ -302,21 +315,6 @@ class PageRoutes(Routes):
         keys = view.timeline(source).keys
         found = keys.find(1, packet + 1) if self.step_of(request) > 0 else keys.rfind(1, 0, min(packet, len(keys)))
         return as_json({"revision": view.revision, "source": source, "packet": None if found < 0 else found})
-
-    def keys(self, request):
-        """For each of some packets the key packet at or before it, its number in the pool, and its frame in the source; null if there is none."""
-        self.only(request, "source", "packets")
-        view = self.live.current_view()
-        source = self.source_of(request, view)
-        words = [word for word in request.query.get("packets", "").split(",") if word]
-        if len(words) > MOST_KEYS or not all(word.isdecimal() and len(word) <= 15 for word in words):
-            raise Refuse(400, f"packets are at most {MOST_KEYS} numbers with commas between them")
-        keys, stream = view.timeline(source).keys, view.streams[source]
-        found = [keys.rfind(1, 0, int(word) + 1) for word in words]
-        packets = [None if packet < 0 else packet for packet in found]
-        numbers = [None if packet is None else stream[packet] for packet in packets]
-        frames = [None if packet is None else self.own_frame(view, source, packet) for packet in packets]
-        return as_json({"revision": view.revision, "contents": view.contents.name, "packets": packets, "numbers": numbers, "frames": frames})
 
     def range(self, request):
         """The frames from the first one that shows one of the packets `first` to `end` - 1 to the last: the first and the one after them, or null. `places` has
@@ -374,7 +372,8 @@ class PageRoutes(Routes):
         """Inserts packets that were remembered by their numbers, as one step."""
         self.only(request)
         kinds = {"contents": str, "numbers": list, "source": int, "at": int, "move": bool, "revision": int}
-        members = parse_body(request.body, kinds)
+        members = parse_body(request.body, {**kinds, "page": dict})
+        page = page_of(members)
         if set(members) != set(kinds):
             raise Refuse(400, f"the body has {', '.join(kinds)}")
         with self.live.lock:
@@ -397,7 +396,7 @@ class PageRoutes(Routes):
             lines = found.lines if source == view.source or not found.lines else [f"use {source}", *found.lines]
             if lines:
                 self.live.run_step(lines, f"{'Move' if members['move'] else 'Copy'} {found.count} packets to {found.first}")
-            return self.changed(first=found.first, count=found.count, deleted=found.deleted, made=len(lines))
+            return self.changed(page, first=found.first, count=found.count, deleted=found.deleted, made=len(lines))
 
     def lines_of(self, request, word):
         """What `header` or `macroblocks` reports of a packet: lines, and members that say why there are none."""
@@ -432,24 +431,14 @@ class PageRoutes(Routes):
     def check_of(self, request):
         """The findings of the current stream so far, starting at one of them."""
         self.only(request, "from")
-        check = self.live.checked()
-        first = self.number(request, "from", 0)
-        is_over = check.is_over and not check.is_left
-        findings = check.findings[first:]
-        members = {
-            "revision": self.live.revision,
-            "check": check.number,
-            "from": first,
-            "findings": findings,
-            "groups": groups_of(check, findings),
-            "damage": check.damage,
-            "notes": check.notes,
-            "done": check.done,
-            "packets": len(check.stream),
-            "over": is_over,
-            "failed": check.error if is_over else None,
-        }
-        return as_json(members)
+        return as_json({"revision": self.live.revision, **self.live.checked().members(self.number(request, "from", 0))})
+
+    def events(self, request):
+        """A line for each change, and with `check=1` what the check of the current packets found, as it comes."""
+        self.only(request, "check")
+        if request.query.get("check") != "1":
+            return self.streamed(request, self.beats)
+        return self.streamed(request, lambda: self.beats(News(self.live).events))
 
     def repairs(self, request):
         """The repairs that can work for a finding of the current stream."""
@@ -660,14 +649,25 @@ class PageRoutes(Routes):
         return Response(200, CONTAINERS[ending], length=os.fstat(file.fileno()).st_size, headers=self.attached(ending), pieces=pieces_of(file))
 
     def exported(self, request):
-        """The frames that the script serves as packets, without coding again. Other requests go on meanwhile."""
-        self.only(request)
+        """The frames that the script serves as packets, without coding again. Other requests go on meanwhile; it ends if nobody waits for it any more."""
+        self.only(request, "name")
+        name, watch = request.query.get("name", ""), Part("vp8serve makes the packets", request.is_gone)
+        self.exporting[name] = watch
+        try:
+            return self.export(watch)
+        except progress.Stopped:
+            raise Dropped from None
+        finally:
+            if self.exporting.get(name) is watch:
+                del self.exporting[name]
+
+    def export(self, watch):
         with self.live.lock:
             revision, contents, lines = self.live.revision, self.live.contents(), list(self.live.session.edits)
         ending = muxing.ending_for(contents.inputs.all[0].media)
         with tempfile.TemporaryDirectory(dir=self.live.room.name) as folder:
-            path = os.path.join(folder, f"exported{ending}")
-            out = exports.Output(path, self.live.pad, self.live.sound, self.live.notice)
+            path = os.path.join(folder, f"{self.safe_name()}-export{ending}")
+            out = exports.Output(path, self.live.pad, self.live.sound, self.live.notice, watch)
             try:
                 told = exports.export(contents, lines, out, folder)
             except (ValueError, Ended) as error:
@@ -680,11 +680,13 @@ class PageRoutes(Routes):
     def change(self, request):
         """An edit, several as one step, which may have a title, `undo`, `redo` or `save`, which may be of a source."""
         self.only(request)
-        members = parse_body(request.body, {"line": str, "lines": list, "title": str, "source": int, "revision": int})
+        members = parse_body(request.body, {"line": str, "lines": list, "title": str, "source": int, "revision": int, "page": dict})
+        page = page_of(members)
         if "source" in members and "lines" not in members:
-            return self.save(members)
+            return self.save(members, page)
         if "lines" not in members:
-            return super().change(request)
+            with self.live.lock:
+                return self.changed(page, reply=self.make_change(members))
         lines = checked_lines(members)
         if not lines or {"line", "source"} & set(members):
             raise Refuse(400, "a change is of a line, or of lines")
@@ -696,9 +698,20 @@ class PageRoutes(Routes):
                 reply = self.live.run_step(lines, members.get("title", ""))
             except ValueError as error:
                 raise Refuse(400, str(error)) from None
-            return self.changed(reply=reply)
+            return self.changed(page, reply=reply)
 
-    def save(self, members):
+    def changed(self, page=None, **members):
+        """The answer to a change. `page` is what the page shows, of which it has the state after the change: nothing more is to be asked then."""
+        if page is not None:
+            view = self.live.current_view()
+            source = min(page["source"], len(view.streams) - 1)
+            packet = max(0, min(page["packet"], len(view.streams[source]) - 1))
+            tiles = [self.tile_of(view, source, number * COLUMNS * per, per, COLUMNS) for per, number in page["tiles"]]
+            shown = {"session": self.session_of(view, self.live.changes - self.live.revision), "place": self.place_of(view, source, packet), "tiles": tiles}
+            members = {**members, **shown}
+        return super().changed(**members)
+
+    def save(self, members, page):
         """Saves the packets of a source."""
         source = members["source"]
         if members.get("line") != "save":
@@ -710,7 +723,7 @@ class PageRoutes(Routes):
                 path, renumbered = self.live.make(lambda: (self.live.save(source), self.live.renumbers(source)))
             except ValueError as error:
                 raise Refuse(409, str(error)) from None
-            return self.changed(reply=path, renumbered=renumbered)
+            return self.changed(page, reply=path, renumbered=renumbered)
 
 
 def pieces_of(file, start=0, end=None):
@@ -726,24 +739,29 @@ def pieces_of(file, start=0, end=None):
             yield piece
 
 
-def groups_of(check, findings):
-    """For each finding the key packet at or before its packet, or None: what is damaged after a packet is mostly damaged with it."""
-    keys = check.view.timeline(0).keys
-    return [None if finding["packet"] is None else max(0, keys.rfind(1, 0, finding["packet"] + 1)) for finding in findings]
-
-
 def parse_body(body, kinds):
     """The members of a JSON object, each of its kind."""
-    try:
-        members = json.loads(body.decode())
-    except (UnicodeDecodeError, ValueError, RecursionError):
-        raise Refuse(400, "the body is not JSON") from None
+    members = members_of(body)
     if not isinstance(members, dict) or not set(members) <= set(kinds):
         raise Refuse(400, f"the body is an object with {', '.join(kinds)}")
     for name, value in members.items():
         if not isinstance(value, kinds[name]) or (isinstance(value, bool) and kinds[name] is not bool) or (kinds[name] is int and not 0 <= value < 1 << 60):
             raise Refuse(400, f"{name} is not of its kind")
     return members
+
+
+def page_of(members):
+    """What of a page a body names, which is taken out of it: its source, its packet, and tiles of the timeline as pairs of the packets of a column and
+    a number. None if there is nothing."""
+    page = members.pop("page", None)
+    if page is None:
+        return None
+    is_number = lambda value, least=0, most=1 << 60: isinstance(value, int) and not isinstance(value, bool) and least <= value <= most  # noqa: E731
+    tiles = page.get("tiles")
+    is_whole = set(page) == {"source", "packet", "tiles"} and is_number(page["source"]) and is_number(page["packet"]) and isinstance(tiles, list)
+    if not is_whole or len(tiles) > MOST_TILES or not all(isinstance(one, list) and len(one) == 2 and is_number(one[0], 1, 1 << 20) and is_number(one[1]) for one in tiles):
+        raise Refuse(400, f"page has source, packet, and at most {MOST_TILES} tiles")
+    return page
 
 
 def checked_lines(members):

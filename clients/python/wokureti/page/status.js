@@ -28,6 +28,13 @@ export class Status {
     this.write(`${text}: ${done.toLocaleString("en")} of ${total.toLocaleString("en")}`, total ? done / total : 0);
   }
 
+  /** Says which part of something is done; null if that is not known. */
+  share(text, part) {
+    this.until = performance.now() + 600;
+    this.write(part === null ? text : `${text}: ${Math.floor(100 * part)} %`, part);
+    this.isBusy = true;
+  }
+
   write(text, part) {
     if (find("status").textContent !== text) find("status").textContent = text;
     const bar = find("status-bar");
@@ -49,8 +56,25 @@ export class Status {
     const seconds = `${(passed / 1000).toFixed(1)} s`;
     if (oldest.what === "edit") {
       this.ask(seconds);
+    } else if (oldest.what === server.OPENING) {
+      this.askOpening(seconds);
     } else {
       this.write(`${oldest.what.startsWith("frame") ? "decoding" : "waiting for"} ${oldest.what}: ${seconds}`, null);
+    }
+  }
+
+  /** How much of a container was read of a stream that is opened. */
+  async askOpening(seconds) {
+    if (this.polling) return;
+    this.polling = true;
+    try {
+      const { opening } = await server.members("progress");
+      if (opening?.total) this.share(opening.what, opening.done / opening.total);
+      else this.write(`waiting for ${server.OPENING}: ${seconds}`, null);
+    } catch {
+      this.write(`waiting for ${server.OPENING}: ${seconds}`, null);
+    } finally {
+      this.polling = false;
     }
   }
 

@@ -61,17 +61,22 @@ export class Thumbs {
       return;
     }
     const { source } = this.model;
-    const answer = await server.members(`keys?source=${source}&packets=${placesOf(this.timeline.window).join(",")}`);
-    const names = answer.numbers.map((number) => (number === null ? null : `${answer.contents} ${number}`));
-    this.shown = names;
+    const keys = placesOf(this.timeline.window).map((packet) => this.timeline.keyAt(packet));
+    if (keys.includes(undefined)) {
+      // The timeline says when its packets are here.
+      this.key = "";
+      return;
+    }
+    this.shown = keys.map((found) => found?.name ?? null);
     this.draw();
-    for (const [place, name] of names.entries()) {
+    for (const found of keys) {
       if (key !== this.key) return;
       // The same key packet may be that of several places.
-      if (name === null || this.found.has(name)) continue;
+      if (!found || this.found.has(found.name)) continue;
+      const { name, packet, frame } = found;
       // Without a script the program of the stream has it, else the one beside it.
       const isPlain = source === 0 && this.model.session.script === "-";
-      const path = isPlain ? `frames/${answer.frames[place]}.y4m` : `packets/${answer.packets[place]}.y4m?source=${source}`;
+      const path = isPlain ? `frames/${frame}.y4m` : `packets/${packet}.y4m?source=${source}`;
       this.found.set(name, await this.small(path));
       this.trim();
       this.draw();

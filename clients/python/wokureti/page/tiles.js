@@ -33,6 +33,22 @@ export class Tiles {
     return this.found.get(key)?.tile || null;
   }
 
+  /** The tile, if it is of the current state. */
+  fresh(per, number) {
+    this.get(per, number);
+    const entry = this.found.get(`${per}/${number}`);
+    return entry?.state === this.state ? entry.tile : null;
+  }
+
+  /** Takes a tile of the current state that was not asked for. */
+  put(tile) {
+    if (tile.source !== this.source) return;
+    const key = `${tile.per}/${tile.first / (COLUMNS * tile.per)}`;
+    this.found.delete(key);
+    this.found.set(key, { state: this.state, asked: this.state, tile: prepared(tile) });
+    this.trim();
+  }
+
   async ask(key, per, number, old) {
     const { state, source } = this;
     const entry = { state: old ? old.state : null, asked: state, tile: old ? old.tile : null };

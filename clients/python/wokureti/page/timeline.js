@@ -10,6 +10,10 @@ const RULER = 20;
 const MARKS = 14;
 // Pixels within which a selection ends at a key packet.
 const SNAP = 6;
+// Tiles that are drawn, at most, besides that of the whole stream.
+const MOST_SHOWN = 4;
+// The kinds of packets that are better than damage inside.
+const BETTER = "ihkfd";
 
 export class Timeline {
   constructor(model) {
@@ -20,6 +24,9 @@ export class Timeline {
     this.window = new Window();
     this.tiles = new Tiles(() => this.redraw());
     this.findings = [];
+    // The packets that are damaged inside, and the columns that have them, by the packets of a column.
+    this.inside = [];
+    this.columns = new Map();
     this.state = "";
     this.theme = theme();
     this.isAll = true;
@@ -28,6 +35,7 @@ export class Timeline {
       this.theme = theme();
       this.redraw();
     });
+    model.tilesShown = () => this.tilesShown();
     new ResizeObserver(() => this.resize()).observe(this.box);
     model.addEventListener("session", () => this.changed());
     for (const name of ["frame", "packet"]) model.addEventListener(name, () => this.moved());
@@ -59,15 +67,38 @@ export class Timeline {
     const isNew = window.count === 0;
     window.count = model.packets;
     this.tiles.use(model.revision, model.source, `${model.session.listed} ${this.state}`);
+    for (const tile of model.takeTiles()) this.tiles.put(tile);
     if (this.isAll || isNew) window.all();
     window.clamp();
     this.describe();
     this.redraw();
   }
 
-  /** The findings of the check, in the order of packets, and a text that changes with them. */
-  setFindings(findings, state) {
+  /** The tiles that are drawn, as pairs of the packets of a column and a number. */
+  tilesShown() {
+    const { window } = this;
+    const per = perOf(window.scale);
+    const [first, last] = [window.from, Math.min(window.count - 1, window.from + window.span)].map((packet) => Math.max(0, Math.floor(packet / per / COLUMNS)));
+    const found = Array.from({ length: Math.min(MOST_SHOWN, last - first + 1) }, (_, place) => [per, first + place]);
+    const whole = perOf(COLUMNS / Math.max(1, window.count));
+    return whole === per && first === 0 ? found : [...found, [whole, 0]];
+  }
+
+  /** The key packet at or before a packet that is seen: a name that stays its own, its index, and its frame. Null if there is none, and undefined until that
+   * is known. */
+  keyAt(packet) {
+    const per = perOf(this.window.scale);
+    const tile = this.tiles.fresh(per, Math.floor(packet / per / COLUMNS));
+    if (!tile) return undefined;
+    const found = tile.keys.filter(([key]) => key <= packet).pop();
+    return found ? { name: `${tile.contents} ${found[1]}`, packet: found[0], frame: found[2] } : null;
+  }
+
+  /** The findings of the check, those packets that are damaged inside, and a text that changes with what only the server has of these. */
+  setFindings(findings, inside, state) {
     this.findings = findings;
+    this.inside = inside;
+    this.columns.clear();
     if (state !== this.state) {
       this.state = state;
       if (this.model.session) this.tiles.use(this.model.revision, this.model.source, `${this.model.session.listed} ${state}`);
@@ -222,7 +253,16 @@ export class Timeline {
     const tile = this.tiles.get(per, Math.floor(column / COLUMNS));
     const place = column % COLUMNS;
     if (!tile || place >= tile.kinds.length) return null;
-    return { per, first: column * per, kind: tile.kinds[place], bytes: tile.bytes[place], frame: tile.frames[place] };
+    return { per, first: column * per, kind: this.kindOf(tile, place), bytes: tile.bytes[place], frame: tile.frames[place] };
+  }
+
+  /** The kind of a column of a tile: a worse one if the check found damage inside its packets. */
+  kindOf(tile, place) {
+    const kind = tile.kinds[place];
+    if (this.model.source !== 0 || !BETTER.includes(kind) || !this.inside.length) return kind;
+    const { per, first } = tile;
+    if (!this.columns.has(per)) this.columns.set(per, new Set(this.inside.map((packet) => Math.floor(packet / per))));
+    return this.columns.get(per).has(first / per + place) ? "p" : kind;
   }
 
   redraw() {
@@ -280,7 +320,7 @@ export class Timeline {
         context.fillRect(left, base - 6, Math.max(1, wide - gap), 6);
         continue;
       }
-      const kind = tile.kinds[place];
+      const kind = this.kindOf(tile, place);
       const tall = Math.max(3, Math.sqrt(tile.bytes[place] / most) * room);
       context.fillStyle = colours[kind];
       if (kind === "r" || kind === "p") {
@@ -428,7 +468,7 @@ export class Timeline {
     const wide = Math.max(1, whole.per * scale);
     for (let column = 0; column < whole.kinds.length; column++) {
       const tall = Math.max(2, Math.sqrt(whole.bytes[column] / most) * (height - 4));
-      context.fillStyle = colours[whole.kinds[column]];
+      context.fillStyle = colours[this.kindOf(whole, column)];
       context.fillRect(column * whole.per * scale, height - tall, wide, tall);
     }
     const left = window.from * scale;

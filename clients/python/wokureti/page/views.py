@@ -20,6 +20,8 @@ INTER, HIDDEN, KEY_PACKET, FORGED, DROPPED, DAMAGED, LOST, BROKEN = range(8)
 LETTERS = bytes.maketrans(bytes(range(8)), b"ihkfdplr")
 # The entries of a tile, at most.
 MOST_ENTRIES = 4096
+# Of columns of several packets, so many have one of their key packets named.
+KEY_COLUMNS = 16
 # Of an edit, at most so many characters are shown.
 MOST_TEXT = 200
 # The edits that are shown: the last ones.
@@ -127,6 +129,24 @@ class Timeline:
             marks = [column for column, place in enumerate(starts) if self.edited.find(1, place, place + per) >= 0]
         frames = [self.frames[place] for place in starts]
         return {"kinds": bytes(kinds).translate(LETTERS).decode("ascii"), "bytes": sizes, "frames": frames, "edits": marks}
+
+    def keys_of(self, first, per, count):
+        """The last key packet before columns, and those in them: all, or if a column has several packets the last one of every 16 columns."""
+        end = min(len(self.stream), first + per * count)
+        places = [self.keys.rfind(1, 0, first)]
+        if per == 1:
+            place = self.keys.find(1, first, end)
+            while place >= 0:
+                places.append(place)
+                place = self.keys.find(1, place + 1, end)
+        else:
+            step = KEY_COLUMNS * per
+            places += [self.keys.rfind(1, start, min(end, start + step)) for start in range(first, end, step)]
+        return [place for place in places if place >= 0]
+
+    def own_frame(self, packet):
+        """The frame of the source that shows a packet, or the next shown one after it, or else its last frame."""
+        return max(0, min(self.frames[packet], self.frames[-1] - 1))
 
     def packet_of(self, frame):
         """The packet that is shown as a frame, or None."""

@@ -209,15 +209,21 @@ class Routes:
     def change(self, request):
         """An edit, `undo`, `redo` or `save`."""
         self.only(request)
-        line, revision = parse_change(request.body)
+        members = members_of(request.body)
+        if not isinstance(members, dict) or set(members) - {"line", "revision"}:
+            raise Refuse(400, 'the body is {"line": "..."}, and may have "revision"')
         with self.live.lock:
-            if revision is not None and revision != self.live.revision:
-                raise Refuse(412, "the stream was changed", revision=self.live.revision)
-            try:
-                reply = self.live.run(line)
-            except ValueError as error:
-                raise Refuse(409 if line == "save" else 400, str(error)) from None
-            return self.changed(reply=reply)
+            return self.changed(reply=self.make_change(members))
+
+    def make_change(self, members):
+        """Makes the change that the members of a body name, and returns the reply."""
+        line, revision = change_of(members)
+        if revision is not None and revision != self.live.revision:
+            raise Refuse(412, "the stream was changed", revision=self.live.revision)
+        try:
+            return self.live.run(line)
+        except ValueError as error:
+            raise Refuse(409 if line == "save" else 400, str(error)) from None
 
     def changed(self, **members):
         """The answer to a change."""
@@ -226,31 +232,44 @@ class Routes:
     def events(self, request):
         """A line for each change, as it comes."""
         self.only(request)
-        return Response(200, "text/event-stream", length=None, pieces=self.beats() if request.method == "GET" else iter(()))
+        return self.streamed(request, self.beats)
 
-    def beats(self):
-        """The revisions, the current one first."""
+    def streamed(self, request, pieces):
+        """Events as they come: what a function yields."""
+        return Response(200, "text/event-stream", length=None, pieces=pieces() if request.method == "GET" else iter(()))
+
+    def beats(self, news=lambda: ((), None)):
+        """The revisions, the current one first, and what `news` has: it returns events, and the seconds until there may be more, or None."""
         told, restarts, changes = None, len(self.live.events), self.live.changes
+        said, patience = time.monotonic(), None
         while not self.server.ended:
             with self.live.lock:
                 if told is not None and changes == self.live.changes:
-                    self.live.changed.wait(BEAT)
+                    self.live.changed.wait(BEAT if patience is None else patience)
                 revision, count, before, changes = self.live.revision, len(self.live.events), changes, self.live.changes
-            if told is not None and changes == before:
-                yield b": %d\n\n" % int(time.time())
-            else:
+            if told is None or changes != before:
                 name = b"edit" if revision != told else b"restarted" if count != restarts else b"saved"
                 yield b'event: %b\ndata: {"revision": %d, "changes": %d}\n\n' % (name, revision, changes)
+                said = time.monotonic()
+            elif time.monotonic() - said >= BEAT:
+                yield b": %d\n\n" % int(time.time())
+                said = time.monotonic()
             told, restarts = revision, count
+            more, patience = news()
+            yield from more
 
 
-def parse_change(body):
-    """The line of a change, and the revision that it is for, or None."""
+def members_of(body):
+    """What a body in JSON has."""
     try:
-        members = json.loads(body.decode())
+        return json.loads(body.decode())
     except (UnicodeDecodeError, ValueError, RecursionError):
         raise Refuse(400, "the body is not JSON") from None
-    if not isinstance(members, dict) or set(members) - {"line", "revision"} or not isinstance(members.get("line"), str):
+
+
+def change_of(members):
+    """The line of a change, and the revision that it is for, or None."""
+    if not isinstance(members.get("line"), str):
         raise Refuse(400, 'the body is {"line": "..."}, and may have "revision"')
     revision = members.get("revision")
     if revision is not None and (not isinstance(revision, int) or isinstance(revision, bool)):

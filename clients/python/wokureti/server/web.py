@@ -7,6 +7,7 @@ under a name of its own (DNS rebinding); and where a browser says in Origin whic
 import contextlib
 import json
 import re
+import select
 import socket
 import sys
 import threading
@@ -71,6 +72,8 @@ class Request:
 
     def __init__(self, method, target, version, headers, body=b""):
         self.method, self.version, self.headers, self.body = method, version, headers, body
+        # Whether nobody waits for the answer any more.
+        self.is_gone = lambda: False
         path, _, query = target.partition("?")
         if not path.startswith("/") or not re.fullmatch(r"[\x21-\x7e]*", target):
             raise Refuse(400, "the target of the request is not a path")
@@ -203,6 +206,7 @@ class Connection:
         request = None
         try:
             request = self.read_request()
+            request.is_gone = self.is_gone
             response = self.server.answer(request)
         except Refuse as refuse:
             response = as_json(refuse.members, refuse.status)
@@ -213,6 +217,15 @@ class Connection:
         if not keeps:
             self.linger()
         return keeps
+
+    def is_gone(self):
+        """Whether the client closed the connection."""
+        poll = select.poll()
+        poll.register(self.socket, select.POLLIN)
+        try:
+            return bool(poll.poll(0)) and self.socket.recv(1, socket.MSG_PEEK) == b""
+        except OSError:
+            return True
 
     def respond(self, response, keeps, is_head):
         head = [f"HTTP/1.1 {response.status} {REASONS[response.status]}"]

@@ -9,7 +9,7 @@ import time
 from typing import Any, Callable, ContextManager, Iterable, Iterator, NamedTuple, Optional, Union
 
 from . import checks, named
-from ..tools import exports, files, muxing, programs
+from ..tools import exports, files, muxing, programs, rooms
 from ..tools.progress import say
 from .edits import EditList
 from .errors import Ended, Refused, Unexported
@@ -88,6 +88,8 @@ class Session:
         self._explain = explain
         self._lines = 0
         self._edits = None
+        # The new file of a save, while the program runs.
+        self._unfinished = None
         # "library" or "program".
         self.engine: str = engine_of(engine, program)
         if edits is not None and resume is None:
@@ -106,6 +108,9 @@ class Session:
         try:
             # The reply comes once the files were read, so a file that is missing, or not IVF, is reported here.
             self.request("stats")
+            if save is not None and self.engine == "program":
+                rooms.sweep()
+                self._unfinished = rooms.Unfinished(self._pipes.process.pid, save)
             self._inputs.check()
             self._edits.load() if resume is None else self._edits.resume(resume)
         except BaseException:
@@ -210,6 +215,8 @@ class Session:
     def _over(self, status, text):
         self._ended = (status, text)
         self._pending = None
+        if self._unfinished is not None:
+            self._unfinished.clear()
         self._close_files()
 
     def _error(self):

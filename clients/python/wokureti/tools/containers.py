@@ -9,14 +9,20 @@ import re
 import shutil
 import statistics
 import subprocess
+import time
 from array import array
 from typing import NamedTuple
 
 from . import ivf, times
+from .progress import Watch
 from ..session import checks
 
 MOST_TIME = 3600
+# Seconds between two looks at how much a program wrote; packets between two looks at how far reading is.
+OFTEN, MANY = 0.2, 256
 NANO = 10**9
+# Nobody is told how far it is.
+NOBODY = Watch()
 # A rate that a container names is believed if its frames are as far apart as those of the file, to the millisecond to which WebM rounds.
 ROUNDED = 0.001
 # Tags that a program that writes a container makes itself.
@@ -100,9 +106,10 @@ def can_read():
     return has_av() or bool(shutil.which("ffmpeg") and shutil.which("ffprobe"))
 
 
-def read(path, out):
-    """Writes the packets of the first track of video as an IVF file, and returns the name of the program that did it. `media_of` has the rest."""
-    tool, found = ("Python's av", read_by_av(path, out)) if has_av() else ("ffmpeg", read_by_ffmpeg(path, out))
+def read(path, out, watch=NOBODY):
+    """Writes the packets of the first track of video as an IVF file, and returns the name of the program that did it. `media_of` has the rest. `watch` hears
+    how many of the bytes were read."""
+    tool, found = ("Python's av", read_by_av(path, out, watch)) if has_av() else ("ffmpeg", read_by_ffmpeg(path, out, watch))
     known[os.fspath(out)] = found
     return tool
 
@@ -128,12 +135,12 @@ def rate_of(path, named):
 # By ffmpeg
 
 
-def read_by_ffmpeg(path, out):
+def read_by_ffmpeg(path, out, watch=NOBODY):
     """The same by the programs ffmpeg and ffprobe."""
     facts = probe(path)
     video = next((one for one in facts["streams"] if one.get("codec_type") == "video" and not one.get("disposition", {}).get("attached_pic")), None)
     check_video(path, video and video.get("codec_name"))
-    [pictures, *sounds], said = copy_tracks(path, facts["streams"], [video["index"]], out)
+    [pictures, *sounds], said = copy_tracks(path, facts["streams"], [video["index"]], out, watch)
     write_ivf(out, video, pictures)
     rate = rate_of(out, fraction(video.get("avg_frame_rate", "0/0")))
     tags = video.get("tags", {})
@@ -151,7 +158,7 @@ def probe(path):
     return {"streams": [], **found}
 
 
-def copy_tracks(path, streams, more, out):
+def copy_tracks(path, streams, more, out, watch=NOBODY):
     """Writes the packets of tracks to files, those with the indexes `more` and all of sound. Returns the tracks, and what ffmpeg complains of. (Its IVF
     files are not used: where two packets have one time, it gives the second one a later one.)"""
     wanted = [one for one in streams if one["index"] in more] + [one for one in streams if one.get("codec_type") == "audio"]
@@ -160,7 +167,8 @@ def copy_tracks(path, streams, more, out):
         track = ["-map", f"0:{one['index']}", "-c", "copy", "-copyinkf", "-f"]
         words += [*track, "data", f"{out}.track{number}", *track, "framecrc", f"{out}.times{number}"]
     # What the writers of these lists say is not of the file: they are given hidden packets with the time of the next one.
-    said = [line for line in run(words)[1].splitlines() if not line.startswith(("[data @", "[framecrc @"))] if wanted else []
+    look = part_of(path, [f"{out}.track{number}" for number in range(len(wanted))], watch)
+    said = [line for line in run(words, look)[1].splitlines() if not line.startswith(("[data @", "[framecrc @"))] if wanted else []
     return [sound_of(one, f"{out}.track{number}", f"{out}.times{number}") for number, one in enumerate(wanted)], "\n".join(said)
 
 
@@ -229,25 +237,47 @@ def count_packets(path):
         file.write(len(index).to_bytes(4, "little"))
 
 
-def run(words):
-    """The text that a program writes, and what it complains of. `Failed` if it fails."""
-    try:
-        done = subprocess.run(words, capture_output=True, stdin=subprocess.DEVNULL, timeout=MOST_TIME, check=False)
-    except subprocess.TimeoutExpired:
-        raise Failed(f"{words[0]} took longer than {MOST_TIME} seconds") from None
-    said = done.stderr.decode(errors="replace").strip()
-    if done.returncode != 0:
+def part_of(path, outs, watch):
+    """A function that tells how much of a file is in these files by now."""
+    total = os.path.getsize(path)
+
+    def look():
+        written = sum(os.path.getsize(out) for out in outs if os.path.exists(out))
+        watch.part(min(written, total), total)
+
+    return look
+
+
+def run(words, look=lambda: None):
+    """The text that a program writes, and what it complains of. `Failed` if it fails. `look` is called now and then until it ends."""
+    limit = time.monotonic() + MOST_TIME
+    with subprocess.Popen(words, stdin=subprocess.DEVNULL, stdout=subprocess.PIPE, stderr=subprocess.PIPE) as process:
+        try:
+            while True:
+                try:
+                    out, errors = process.communicate(timeout=OFTEN)
+                    break
+                except subprocess.TimeoutExpired:
+                    look()
+                    if time.monotonic() > limit:
+                        raise Failed(f"{words[0]} took longer than {MOST_TIME} seconds") from None
+        except BaseException:
+            process.kill()
+            raise
+    said = errors.decode(errors="replace").strip()
+    if process.returncode != 0:
         raise Failed(f"{words[0]} could not read it: {said[-500:]}")
-    return done.stdout, said
+    return out, said
 
 
 # By Python's av
 
 
-def read_by_av(path, out):
+def read_by_av(path, out, watch=NOBODY):
     """The same by Python's av."""
     import av
 
+    total = os.path.getsize(path)
     try:
         with av.open(checks.path(path)) as container:
             video = next(iter(container.streams.video), None)
@@ -258,7 +288,9 @@ def read_by_av(path, out):
             head = ivf.Head(video.codec_context.width, video.codec_context.height, base.denominator, base.numerator)
             with open(out, "wb") as file:
                 file.write(head.text(0))
-                for packet in container.demux([video, *tracks]):
+                for number, packet in enumerate(container.demux([video, *tracks])):
+                    if number % MANY == 0:
+                        watch.part(min(packet.pos or 0, total), total)
                     if packet.pts is None or packet.size == 0:
                         continue
                     if packet.stream.index == video.index:

@@ -1,5 +1,6 @@
 """Streams in other containers: their packets are taken out into an IVF file, without coding them again and with their time stamps."""
 
+import contextlib
 import mmap
 import os
 import shutil
@@ -7,7 +8,7 @@ import stat
 
 from . import blocks, containers, ivf, looks
 from ..session import checks
-from .progress import say
+from .progress import Stages, say
 
 
 class Container(ValueError):
@@ -53,9 +54,10 @@ def new_name(folder, ending):
     return os.path.join(folder, f"{len(os.listdir(folder))}.{ending}")
 
 
-def as_ivf(path, folder, is_quiet=False, is_checked=True):
+def as_ivf(path, folder, is_quiet=False, is_checked=True, watch=None):
     """The path of the stream as IVF: the file itself, or a file in the folder. `-` is standard input, and /dev/null an empty stream, for which a
-    session has the path `-`. With `is_checked` a file that does not begin as one raises `ivf.NotIvf`, which says what it looks like."""
+    session has the path `-`. With `is_checked` a file that does not begin as one raises `ivf.NotIvf`, which says what it looks like. `watch` hears how far a
+    container is; a terminal shows it if there is none."""
     given, name, is_file = as_file(path, folder)
     if not is_file:
         return given
@@ -69,7 +71,7 @@ def as_ivf(path, folder, is_quiet=False, is_checked=True):
             if is_checked:
                 raise ivf.NotIvf(looks.sentence(given, name, error)) from None
         return given
-    out = taken_out(given, folder, name, kind, is_quiet)
+    out = taken_out(given, folder, name, kind, is_quiet, watch)
     containers.origins[out] = path if given == path else "/dev/stdin"
     return out
 
@@ -90,7 +92,7 @@ def as_file(path, folder):
     return given if stat.S_ISREG(found.st_mode) else spooled(given, folder), name, True
 
 
-def searched(path, folder):
+def searched(path, folder, watch=None):
     """The path of a stream as IVF, as `as_ivf` has it. A WebM or Matroska file that is damaged is searched for its packets, and then also the head, the
     packets, the gaps, and the length of the file, else None."""
     given, name, is_file = as_file(path, folder)
@@ -99,13 +101,13 @@ def searched(path, folder):
     with open(given, "rb") as file:
         head = file.read(12)
         if head[:4] == b"DKIF" or (kind_of(head) or "WebM or Matroska") != "WebM or Matroska":
-            return as_ivf(given, folder), None
+            return as_ivf(given, folder, watch=watch), None
         file.seek(0)
         data = file.read()
     found = blocks.find(data)
     is_matroska = kind_of(head) is not None or blocks.video_track(found) is not None
     if not is_matroska or not (found.gaps or blocks.damage(data)):
-        return (taken_out(given, folder, name, "WebM or Matroska", False) if is_matroska else given), None
+        return (taken_out(given, folder, name, "WebM or Matroska", False, watch) if is_matroska else given), None
     if not found.gaps:
         # It ends between two blocks, and before its end.
         found.gaps.append((len(data), len(data), len(found.blocks)))
@@ -116,29 +118,36 @@ def searched(path, folder):
     return out, (*sought, len(data))
 
 
-def taken_out(path, folder, name, kind, is_quiet):
+def taken_out(path, folder, name, kind, is_quiet, watch=None):
     """The packets of a container as an IVF file in the folder."""
     out = new_name(folder, "ivf")
-    if containers.can_read():
-        try:
-            tool = containers.read(path, out)
-        except containers.Failed as error:
-            raise Container(str(error)) from None
-    elif shutil.which("mkvextract") and kind == "WebM or Matroska":
-        tool = "mkvextract"
-        containers.run(["mkvextract", checks.path(path), "tracks", f"0:{out}"])
-        containers.count_packets(out)
-    else:
-        raise Container(f"{name} is a {kind} file: to take its packets out, install python3-av, ffmpeg or mkvtoolnix")
+    with Stages() if watch is None else contextlib.nullcontext(watch) as stages:
+        stages.stage(f"taking the packets out of {name}")
+        tool = read(path, out, name, kind, stages)
+        stages.stage(f"looking for damage of {name}")
+        containers.damaged[out] = damage_of(path, name, kind)
     media = containers.media_of(out)
     if not is_quiet:
         say(f"{name} is a {kind} file; {tool} took its packets out without coding them again{sound_text(media)}")
-    containers.damaged[out] = damage_of(path, name, kind)
     if media is not None and media.said and not containers.damaged[out]:
         containers.damaged[out] = [f"{tool} complains of {name}: {'; '.join(media.said.splitlines()[:3])}"]
     for text in containers.damaged[out]:
         say(f"{text}. `wokureti repair` searches a damaged file for all its packets")
     return out
+
+
+def read(path, out, name, kind, watch):
+    """Takes the packets of a container out, and returns the name of the program that did it."""
+    if containers.can_read():
+        try:
+            return containers.read(path, out, watch)
+        except containers.Failed as error:
+            raise Container(str(error)) from None
+    if not shutil.which("mkvextract") or kind != "WebM or Matroska":
+        raise Container(f"{name} is a {kind} file: to take its packets out, install python3-av, ffmpeg or mkvtoolnix")
+    containers.run(["mkvextract", checks.path(path), "tracks", f"0:{out}"], containers.part_of(path, [out], watch))
+    containers.count_packets(out)
+    return "mkvextract"
 
 
 def damage_of(path, name, kind):

@@ -11,7 +11,7 @@ import time
 import xml.etree.ElementTree as xml
 from typing import NamedTuple
 
-from . import compare, rooms, y4m
+from . import compare, containers, convert, rooms, y4m
 from ..session.errors import Ended, sentence
 from ..session.frames import size_of
 
@@ -21,10 +21,11 @@ ENDINGS = (".ivf", ".webm", ".mkv")
 
 
 class Result(NamedTuple):
-    """A stream: its name, what differs, as lines, and the seconds that it took."""
+    """A stream: its name, what differs, as lines, sentences about the damage of its file, and the seconds that it took."""
 
     name: str
     lines: list
+    damage: list
     seconds: float
 
     @property
@@ -78,13 +79,17 @@ def decoded(words, path, folder):
 
 
 def differences(words, path, tables):
-    """How the frames of a decoder differ from those of a stream, as lines. Frames that are refused are left out: a decoder shows none there."""
+    """How the frames of a decoder differ from those of a stream, as lines, and sentences about the damage of its file. Frames that are refused are left
+    out: a decoder shows none there."""
+    damage = []
     with rooms.Room() as folder:
         try:
             out, said = decoded(words, path, folder)
-            ours = [picture for picture in compare.of_stream(str(path), tables) if not isinstance(picture, compare.Missing)]
+            taken = convert.as_ivf(str(path), folder, is_quiet=True, is_checked=False, watch=containers.NOBODY)
+            ours = [picture for picture in compare.of_stream(taken, tables) if not isinstance(picture, compare.Missing)]
+            damage = compare.damage_in(taken)
             if not os.path.exists(out):
-                return ["it wrote no frames", *said[-1:]]
+                return ["it wrote no frames", *said[-1:]], damage
             with open(out, "rb") as file:
                 is_text = file.read(9) == b"YUV4MPEG2"
                 file.seek(0)
@@ -93,12 +98,12 @@ def differences(words, path, tables):
                 for number, pair in enumerate(compare.itertools.zip_longest(ours, theirs)):
                     found.add(number, *pair)
         except subprocess.TimeoutExpired:
-            return [f"it took longer than {MOST_TIME} seconds"]
+            return [f"it took longer than {MOST_TIME} seconds"], damage
         except y4m.NotY4m as error:
-            return [f"its frames cannot be read: {error}", *said[-1:]]
-        except (Ended, OSError) as error:
-            return [sentence(error)]
-    return [] if found.is_same else [*found.lines(), *said[-1:]]
+            return [f"its frames cannot be read: {error}", *said[-1:]], damage
+        except (Ended, OSError, convert.Container) as error:
+            return [sentence(error)], damage
+    return [] if found.is_same else [*found.lines(), *said[-1:]], damage
 
 
 def results(path, command, jobs, tables=None):
@@ -110,17 +115,21 @@ def results(path, command, jobs, tables=None):
     def result(stream):
         name, where = stream
         start = time.monotonic()
-        return Result(name, differences(words, where, tables), time.monotonic() - start)
+        return Result(name, *differences(words, where, tables), time.monotonic() - start)
 
     with concurrent.futures.ThreadPoolExecutor(jobs) as pool:
         yield from pool.map(result, streams)
 
 
-def write_junit(path, command, found):
-    """The results as JUnit has them."""
-    suite = xml.Element("testsuite", name=command, tests=str(len(found)), failures=str(sum(not one.is_same for one in found)), time=f"{sum(one.seconds for one in found):.3f}")
+def write_junit(path, command, found, is_anyway=False):
+    """The results as JUnit has them: a file that is damaged is an error, unless it is compared anyway."""
+    errors = [] if is_anyway else [one for one in found if one.damage]
+    numbers = {"tests": len(found), "failures": sum(not one.is_same for one in found), "errors": len(errors)}
+    suite = xml.Element("testsuite", name=command, **{name: str(count) for name, count in numbers.items()}, time=f"{sum(one.seconds for one in found):.3f}")
     for one in found:
         case = xml.SubElement(suite, "testcase", classname=command, name=one.name, time=f"{one.seconds:.3f}")
         if not one.is_same:
             xml.SubElement(case, "failure", message=one.lines[0]).text = "\n".join(one.lines)
+        if one in errors:
+            xml.SubElement(case, "error", message=one.damage[0]).text = "\n".join(one.damage)
     xml.ElementTree(suite).write(path, encoding="utf-8", xml_declaration=True)

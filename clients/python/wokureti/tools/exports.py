@@ -5,9 +5,10 @@ import os
 import re
 import subprocess
 import tempfile
+import time
 from typing import NamedTuple
 
-from . import excerpts, files, ivf, muxing, opus, programs, rooms, times
+from . import excerpts, files, ivf, muxing, opus, programs, progress, rooms, times
 from ..session import checks
 from ..session.errors import Ended, Unexported
 from ..session.origins import joined, runs_of
@@ -15,6 +16,8 @@ from ..session.origins import joined, runs_of
 # A script has 16 nodes: a part is a trim, and all but the first one are spliced.
 MOST_PARTS, MOST_STREAMS = 8, 8
 MOST_TIME = 3600
+# Seconds between two looks at whether the program is done, or is to be ended; bytes that are written at a time.
+OFTEN, PIECE = 0.1, 1 << 20
 # What the program says if it does not export the frames.
 UNEXPORTED = re.compile(r"frame \d+ is |too many packets|no packet repeats")
 # Programs that write a container put the picture so much later than the sound, for what a decoder of Opus drops: that is no delay.
@@ -161,12 +164,14 @@ def spliced(nodes, pieces):
 
 
 class Output(NamedTuple):
-    """How a file is written: the path; whether packets that hold the picture are padded; what is done with sound; and what a sentence is given to."""
+    """How a file is written: the path; whether packets that hold the picture are padded; what is done with sound; what a sentence is given to; and who
+    hears how far it is."""
 
     path: str
     pad: bool
     sound: object
     say: object
+    watch: progress.Watch = progress.Watch()
 
 
 def export(contents, lines, out, room):
@@ -175,7 +180,7 @@ def export(contents, lines, out, room):
     check_program(contents.program)
     between = os.path.join(room, "exported.ivf")
     try:
-        run(contents.program, contents.inputs, lines, between, out.pad, contents.tables)
+        run(contents.program, contents.inputs, lines, between, out.pad, contents.tables, watch=out.watch)
     except Ended as ended:
         # The file on the way has a name that says nothing.
         text = ended.text.replace(f"--export {between}", os.path.basename(os.fsdecode(out.path))).removeprefix("vp8serve: ")
@@ -185,12 +190,14 @@ def export(contents, lines, out, room):
         head, index = ivf.read_index(file.fileno())
         spans = excerpts.of_frames(contents, served)
         told = told_of(index, spans)
+        out.watch.stage(f"writing {os.path.basename(os.fsdecode(out.path))}")
         if muxing.ending_of(out.path) is None:
-            files.write_whole(out.path, iter(lambda: file.read(1 << 20), b""))
+            files.write_whole(out.path, watched(iter(lambda: file.read(PIECE), b""), len, os.fstat(file.fileno()).st_size, out.watch))
             return told
         size = excerpts.first_size(file, index) or (head.width, head.height)
         rate = contents.rate if excerpts.is_constant([span.length for span in spans], contents.rate) else None
-        video = muxing.Video(timed(file, index, spans), told.length, size, rate, contents.inputs.all[0].media)
+        packets = watched(timed(file, index, spans), lambda packet: len(packet[1]), told.bytes, out.watch)
+        video = muxing.Video(packets, told.length, size, rate, contents.inputs.all[0].media)
         muxing.write(out.path, video, spans, out.sound, out.say)
     return told
 
@@ -208,24 +215,48 @@ def export_plain(contents, lines, out, pad):
                 raise Unexported(text) from None
             raise
         with open(between, "rb") as file:
-            files.write_whole(out, iter(lambda: file.read(1 << 20), b""))
+            files.write_whole(out, iter(lambda: file.read(PIECE), b""))
 
 
-def run(program, inputs, lines, out, pad, tables, explains=True):
-    """Runs the program on the edits of a session. `Ended` with what it says if it refuses."""
+def watched(pieces, size, total, watch):
+    """The pieces, and who watches hears how many bytes of all they were."""
+    done = 0
+    for piece in pieces:
+        yield piece
+        done += size(piece)
+        watch.part(done, total)
+
+
+def run(program, inputs, lines, out, pad, tables, explains=True, watch=progress.Watch()):
+    """Runs the program on the edits of a session. `Ended` with what it says if it refuses; it says nothing of how far it is."""
     words = [program, inputs.words[0], "-", "-", "--export", out, *(["--explain"] if explains else []), *(["--pad"] if pad else [])]
     words += ["--sources", ":".join(inputs.words[1:])] if len(inputs.words) > 1 else []
     words += ["--tables", checks.path(tables)] if tables is not None else []
     with tempfile.TemporaryFile() as given, tempfile.TemporaryFile() as errors:
         given.write("".join(f"{line}\n" for line in lines).encode())
         given.seek(0)
-        try:
-            done = subprocess.run(words, stdin=given, stdout=subprocess.DEVNULL, stderr=errors, timeout=MOST_TIME, check=False, pass_fds=inputs.shared)
-        except subprocess.TimeoutExpired:
-            raise Ended(None, f"{program} took longer than {MOST_TIME} seconds") from None
-        if done.returncode != 0:
+        with subprocess.Popen(words, stdin=given, stdout=subprocess.DEVNULL, stderr=errors, pass_fds=inputs.shared) as process:
+            await_end(process, program, watch)
+        if process.returncode != 0:
             errors.seek(0)
-            raise Ended(done.returncode, errors.read().decode(errors="replace").strip())
+            raise Ended(process.returncode, errors.read().decode(errors="replace").strip())
+
+
+def await_end(process, program, watch):
+    """Waits until a program ends. It is ended if that takes too long, or is stopped."""
+    limit = time.monotonic() + MOST_TIME
+    try:
+        while True:
+            try:
+                process.wait(OFTEN)
+                return
+            except subprocess.TimeoutExpired:
+                watch.check()
+                if time.monotonic() > limit:
+                    raise Ended(None, f"{program} took longer than {MOST_TIME} seconds") from None
+    except BaseException:
+        process.kill()
+        raise
 
 
 def told_of(index, spans):

@@ -17,6 +17,28 @@ def say(text):
         print(f"wokureti: {plain(text)}", file=sys.stderr, flush=True)
 
 
+# Seconds between two looks at what is done, and after which it is shown.
+TICK, SOON = 1, 1
+
+
+class Stopped(Exception):
+    """Nobody waits for it any more."""
+
+
+class Watch:
+    """Hears how far something is that takes long, and may stop it. Nobody looks at this one."""
+
+    def stage(self, text):
+        """Another part of it begins."""
+
+    def part(self, done, total):
+        """So much of the part is done. `Stopped` if it is to end."""
+        self.check()
+
+    def check(self):
+        """`Stopped` if it is to end."""
+
+
 class Progress:
     """Shows how much is done on standard error, if that is a terminal, after the first second."""
 
@@ -41,23 +63,26 @@ class Progress:
             print("\r\x1b[K", end="", file=sys.stderr, flush=True)
 
 
-class Stages:
-    """Shows on a terminal what is done, and for how long, once that takes more than a second."""
+class Stages(Watch):
+    """Shows on a terminal what is done, how much of it in per cent if that is known, and for how long, once that takes more than a second."""
 
     def __init__(self):
-        self.text, self.start = None, time.monotonic()
+        self.text, self.share, self.start = None, "", time.monotonic()
         self.ended, self.is_shown = threading.Event(), False
         self.thread = threading.Thread(target=self.tick, daemon=True)
 
     def stage(self, text):
-        self.text, self.start = text, time.monotonic()
+        self.text, self.share, self.start = text, "", time.monotonic()
+
+    def part(self, done, total):
+        self.share = f"{100 * done // total} %, " if total else ""
 
     def tick(self):
-        while not self.ended.wait(1):
+        while not self.ended.wait(TICK):
             text, passed = self.text, time.monotonic() - self.start
-            if text is not None and passed >= 1:
+            if text is not None and passed >= SOON:
                 self.is_shown = True
-                print(f"\r{text}: {passed:.0f} s\x1b[K", end="", file=sys.stderr, flush=True)
+                print(f"\r{text}: {self.share}{passed:.0f} s\x1b[K", end="", file=sys.stderr, flush=True)
 
     def __enter__(self):
         if sys.stderr.isatty():

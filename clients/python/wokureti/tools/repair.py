@@ -6,6 +6,7 @@ import concurrent.futures
 import fractions
 import json
 import os
+import statistics
 from typing import NamedTuple
 
 from . import facts, ivf, runs, salvage, times
@@ -22,7 +23,9 @@ CONSTANT = 0.8
 # Guesses at packets with a wrong size that are tried one after the other.
 MOST_GUESSES = 30
 # A long stream is listed and checked in parts of so many bytes and packets, each with some packets of the next one, so many at a time.
-PART, LEAST_PART, OVERLAP, AT_A_TIME = 64 << 20, 100, 8, 4
+PART, LEAST_PART, OVERLAP, AT_A_TIME = 16 << 20, 100, 8, 4
+# Steps between shown packets that are constant, and those in a row that may be others, for vp8list to call what is around one damage.
+MANY_STEPS, ODD_STEPS = 16, 3
 # What a kind of finding means.
 DAMAGE = {"past_end": "read past its end", "unread": "not read to its end"}
 # What a kind of finding says of the packets around one.
@@ -61,10 +64,8 @@ class Repair:
         self.forged = {}
         # The packets as they are in a file, and its path.
         self.in_file = (None, None)
-        # Packets, and what vp8list says of them.
-        self.outlined, self.checked = (None, []), (None, [])
-        # Whether a part of a long stream had damage.
-        self.was_damaged = False
+        # Packets, and what vp8list says of them; and of parts of a long stream, by the first packet and what was asked.
+        self.outlined, self.checked, self.of_parts = (None, []), (None, []), {}
         # Called with what is done next.
         self.stage = lambda text: None
 
@@ -98,23 +99,31 @@ class Repair:
         parts = self.parts()
         if len(parts) == 1:
             return self.list_of(self.lister_run())
-        return [outline for found in self.by_parts(parts, 0, what) for outline in self.list_of(iter(found))]
+        return [outline for found in self.by_parts(parts, 0, what, self.list_of) for outline in found]
 
     def parts(self):
-        """Ranges of packets that begin at key packets, each to be listed or checked by itself."""
+        """Ranges of packets that begin at key packets, each to be listed or checked by itself. Those that were there before begin where they did."""
+        begins = {id(packets[0].data) for packets, _ in self.of_parts.values()}
         found, start, size = [], 0, 0
-        for place, packet in enumerate(self.packets):
-            if size >= PART and place - start >= LEAST_PART and ivf.is_key(packet.data):
+        for place, packet in enumerate(self.packets[: -LEAST_PART or None]):
+            if place - start >= LEAST_PART and (id(packet.data) in begins or (size >= PART and not begins)) and ivf.is_key(packet.data):
                 found.append((start, place))
                 start, size = place, 0
             size += len(packet.data)
         return [*found, (start, len(self.packets))]
 
-    def by_parts(self, parts, overlap, what, *options, statuses=(0,)):
-        """What vp8list prints of each part, with so many packets of the next one, in order."""
+    def by_parts(self, parts, overlap, what, read, *options, statuses=(0,)):
+        """What `read` makes of what vp8list prints of each part, with so many packets of the next one, in order. A part whose packets are those that
+        they were is not read again."""
         def run(part):
-            given = ((packet.stamp, packet.data) for packet in self.packets[part[0] : part[1] + overlap])
-            return list(facts.run_on(self.lister, given, *options, statuses=statuses))
+            packets = self.packets[part[0] : part[1] + overlap]
+            key = (id(packets[0].data), options)
+            known = self.of_parts.get(key)
+            if known is not None and are_same(known[0], packets):
+                return known[1]
+            found = read(facts.run_on(self.lister, ((packet.stamp, packet.data) for packet in packets), *options, statuses=statuses))
+            self.of_parts[key] = (packets, found)
+            return found
 
         pool = concurrent.futures.ThreadPoolExecutor(min(AT_A_TIME, len(os.sched_getaffinity(0))))
         try:
@@ -145,27 +154,27 @@ class Repair:
         return found
 
     def findings(self):
-        """What vp8list --check says of the packets. They are checked once, as long as they stay."""
+        """The damage of packets, as vp8list --check has it. They are checked once, as long as they stay."""
         if self.checked[0] is not self.packets:
             what = f"checking {len(self.packets):,} packets"
             self.stage(what)
             parts = self.parts()
-            # Once damage was seen, the whole is checked at once: most of it stays, and the parts would be checked for nothing.
-            if len(parts) > 1 and not self.was_damaged and not self.is_damaged(parts, what):
-                self.checked = (self.packets, [])
-                return []
-            self.was_damaged = True
-            lines = self.lister_run(*self.check_words(), statuses=(0, 1))
-            self.checked = (self.packets, list(map(json.loads, lines)))
+            if len(parts) > 1:
+                self.checked = (self.packets, self.findings_of_parts(parts, what))
+            else:
+                self.checked = (self.packets, damage_in(self.lister_run(*self.check_words(), statuses=(0, 1))))
         return self.checked[1]
 
-    def is_damaged(self, parts, what):
-        """Whether a part has damage. If none has, the whole stream has none: what depends on packets before a key packet, a break in constant steps
-        or a packet that comes twice, is seen in the part that has both."""
-        for lines in self.by_parts(parts, OVERLAP, what, *self.check_words(), statuses=(0, 1)):
-            if any(finding["severity"] == "damage" and finding["packet"] is not None for finding in map(json.loads, lines)):
-                return True
-        return False
+    def findings_of_parts(self, parts, what):
+        """The same of a long stream. A key packet begins anew, so a part has the damage that the whole has there; but what vp8list says of the packets around
+        one is damage only if the steps of the whole are constant, and may be said by the part before, which has some packets more."""
+        found, is_constant = {}, has_constant_steps(self.packets)
+        for (start, end), damage in zip(parts, self.by_parts(parts, OVERLAP, what, damage_in, *self.check_words(), statuses=(0, 1))):
+            for number, finding in enumerate(damage):
+                place, is_around = start + finding["packet"], finding["kind"] in AROUND
+                if is_constant if is_around else place < end:
+                    found[place, finding["kind"] if is_around else number] = {**finding, "packet": place}
+        return [finding for _, finding in sorted(found.items(), key=lambda item: item[0][0])]
 
     def check_words(self):
         return ["--check", "--json"] + (["--tables", self.tables] if self.tables else [])
@@ -484,6 +493,28 @@ class Repair:
             return
         more = "; a second recording of the same packets (--second) may have one" if second is None else ", and none is in the second recording either"
         raise NoKeyFrame(f"no key frame survives, so no frame can be decoded and there is nothing to mend from{more}. Nothing was written")
+
+
+def damage_in(lines):
+    """The damage of packets among the findings that vp8list prints."""
+    return [finding for finding in map(json.loads, lines) if finding["severity"] == "damage" and finding["packet"] is not None]
+
+
+def are_same(packets, others):
+    """Whether two lists have the same packets of the file, with the same time stamps."""
+    return len(packets) == len(others) and all(one.data is other.data and one.stamp == other.stamp for one, other in zip(packets, others))
+
+
+def has_constant_steps(packets):
+    """Whether the steps between the time stamps of shown packets are many, and all the same but for a few in a row."""
+    stamps = [packet.stamp for packet in packets if ivf.is_shown(packet.data)]
+    steps = [after - before for before, after in zip(stamps, stamps[1:])]
+    forward = [step for step in steps if step > 0]
+    if len(steps) < MANY_STEPS or not forward:
+        return False
+    step = statistics.median_low(forward)
+    odd = [place for place, one in enumerate(steps) if one != step]
+    return not odd or odd[-1] - odd[0] < ODD_STEPS
 
 
 def steps_between(before, after, step):

@@ -209,7 +209,8 @@ impl Session {
         }
     }
 
-    /// The frames of the current script as an IVF file, without coding again: decoding it gives exactly these frames. With `pads` as by `save`.
+    /// The frames of the current script as an IVF file, without coding again: decoding it gives exactly these frames. It is padded,
+    /// whatever `pads` is.
     pub fn export(&mut self, pads: bool) -> Result<Vec<u8>, Fault> {
         let mut length = 0;
         let mut found = sys::wk_unexported::default();

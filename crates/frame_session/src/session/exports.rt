@@ -1,11 +1,15 @@
 // The frames of a session as packets.
-ghost use Rattle.std.specs.Prelude.{◌≡◌, ◌≤◌, [], Err, None, IfErr, IfOk, IfSome, length, map, slice_get};
+ghost use Rattle.std.specs.Prelude.{◌≡◌, ◌≢◌, ◌<◌, ◌≤◌, [], Err, None, IfErr, IfOk, IfSome, OnOk, Some, length, map, slice_get};
 ghost use Rattle.lossless_cuts.specs.Laws.{ExportsShowTheirFrames};
-ghost use Rattle.lossless_cuts.specs.Limits.{IsTooLarge};
+ghost use Rattle.lossless_cuts.specs.Limits.{IsTooLarge, file_size};
+ghost use Rattle.lossless_cuts.specs.Faults.{export_fault};
 ghost use Rattle.lossless_cuts.specs.Plans.{exported};
-ghost use Rattle.frame_session.specs.Exported.{HasTarget, HaveTargets, IsChanged, IsExportFile, IsFrameFault, IsNotExported, IsPackingFault, export_head, streams_in, duration_at, unsized};
-ghost use Rattle.frame_session.specs.IsOrNoMemory.{IsOrNoMemory};
-ghost use Rattle.frame_session.specs.Sessions.{frame_count, frame_of};
+ghost use Rattle.frame_session.specs.Exported.{HasPicture, HasTarget, HaveTargets, IsChanged, IsExportFile, IsFrameFault, IsNotExported, IsPackingFault, export_head, index_in, streams_in, duration_at, unsized};
+ghost use Rattle.frame_session.specs.Cached.{store_at};
+ghost use Rattle.frame_session.specs.Edits.{list_at};
+ghost use Rattle.frame_session.specs.Sessions.{frame_count, frame_of, picture_from};
+ghost use Rattle.packet_edits.specs.Shown.{stream_of};
+ghost use Rattle.stream_steps.specs.Decoding.{outcomes};
 ghost use Rattle.packet_times.specs.Durations.{one_frame};
 ghost use Rattle.packet_times.specs.Heads.{IsHeadFor};
 ghost use Rattle.packet_times.specs.Stamps.{stamped};
@@ -16,7 +20,7 @@ use super::Session;
 use crate::export::Export;
 use crate::refusal::Refusal;
 use lossless_cuts::laws::exports_show_their_frames;
-use lossless_cuts::{CutFault, Target, export_packets, prove_bytes};
+use lossless_cuts::{CutFault, Target, break_at, export_packets, run_size};
 use packet_edits::Store;
 use packet_times::{Duration, head_for, stamped, stamps_of};
 use pixel_planes::NoMemory;
@@ -70,15 +74,51 @@ fn first_of(numbers: &[u64]) -> Option<u64>
     }
 }
 
+/// The index of the packet of the frame before, if it is of this source.
+fn index_in(before: Option<Target>, source: usize) -> Option<usize>
+    ensures { result ≡ index_in before source }
+{
+    match before {
+        Some(target) if target.source == source => Some(target.place),
+        _ => None,
+    }
+}
+
 impl Session {
-    /// The packet of frame `n`, and the number of the first node that changes samples of it.
-    fn origin_of(&mut self, n: u64) -> Result<Origin, Refusal>
-        ensures target { IfOk result (λ found. found.changed ≡ None → HasTarget self.old.state n found.target) }
-        ensures changed { IfOk result (λ found. IfSome found.changed (IsChanged self.old.state n)) }
-        ensures refused { IfErr result (λ refusal. IsOrNoMemory (frame_of (unsized self.old.state) n) (Err refusal)) }
-        ensures after { self.new.state ≡ record self.old.state { decoded = self.new.state.decoded } }
-        ensures rises { self.old.state.decoded ≤ self.new.state.decoded }
-        ensures capacity { self.new.cache.capacity ≡ self.old.cache.capacity }
+    /// The size of the picture of the packet at index `place` of a source, if decoding accepts it. Only outlines are read, from
+    /// the packet of the frame before or from the last key packet on, and nothing is decoded.
+    fn size_of_packet(
+        &self,
+        before: Option<Target>,
+        source: usize,
+        place: usize,
+    ) -> Result<(u16, u16), Refusal>
+        requires source { source < length self.now.stores }
+        requires place { place < length (store_at self.now.stores source).list.entries }
+        requires before { IfSome before (λ target. HasPicture self.now.state target.source target.place (target.width, target.height)) }
+        ensures accepted { IfOk result (HasPicture self.now.state source place) }
+        ensures refused { IfErr result (λ refusal. picture_from source (slice_get (outcomes self.now.state.tables (stream_of (list_at self.now.state.lists source))) place) ≡ Err refusal) }
+    {
+        stream_refusals::laws::refusals_are_by_bytes();
+        stream_refusals::laws::pictures_are_of_runs();
+        let list = &self.stores[source];
+        match break_at(list, index_in(before, source), place) {
+            Some(broken) => Err(Refusal::Packet {
+                source,
+                place: broken.place,
+                cause: broken.cause,
+            }),
+            None => Ok(run_size(list, place).unwrap_or((0, 0))),
+        }
+    }
+
+    /// The packet of frame `n`, and the number of the first node that changes samples of it. `before` is the packet of an
+    /// earlier frame that is exported.
+    fn origin_of(&self, before: Option<Target>, n: u64) -> Result<Origin, Refusal>
+        requires { IfSome before (λ target. HasPicture self.now.state target.source target.place (target.width, target.height)) }
+        ensures target { IfOk result (λ found. found.changed ≡ None → HasTarget self.now.state n found.target) }
+        ensures changed { IfOk result (λ found. IfSome found.changed (IsChanged self.now.state n)) }
+        ensures refused { IfErr result (λ refusal. frame_of (unsized self.now.state) n ≡ Err refusal) }
     {
         let counts = self.shown_counts();
         let Some((source, frame, trace)) = self.script.trace(&counts, n) else {
@@ -91,12 +131,10 @@ impl Session {
         let Some(place) = self.shown_place(source, frame) else {
             return Err(Refusal::NoSuchFrame);
         };
-        let picture = self.decoded_at(source, place)?;
+        let sides = self.size_of_packet(before, source, place)?;
+        let (width, height) = sides;
         packet_edits::laws::shown_list_is_of_shown_packets();
         script_nodes::laws::steps_are_of_nodes();
-        prove_bytes(&picture);
-        let width = picture.width();
-        let height = picture.height();
         if trace.size(width, height).is_err() {
             return Err(Refusal::CropOutside);
         }
@@ -111,15 +149,13 @@ impl Session {
         Ok(Origin { target, changed })
     }
 
-    /// The packet of frame `n`, if the script changes no sample of it.
-    fn export_target(&mut self, n: u64) -> Result<Target, ExportFault>
-        ensures target { IfOk result (HasTarget self.old.state n) }
-        ensures fault { IfErr result (IsFrameFault self.old.state n) }
-        ensures after { self.new.state ≡ record self.old.state { decoded = self.new.state.decoded } }
-        ensures rises { self.old.state.decoded ≤ self.new.state.decoded }
-        ensures capacity { self.new.cache.capacity ≡ self.old.cache.capacity }
+    /// The packet of frame `n`, if the script changes no sample of it. `before` is the packet of an earlier frame that is exported.
+    fn export_target(&self, before: Option<Target>, n: u64) -> Result<Target, ExportFault>
+        requires { IfSome before (λ target. HasPicture self.now.state target.source target.place (target.width, target.height)) }
+        ensures target { IfOk result (HasTarget self.now.state n) }
+        ensures fault { IfErr result (IsFrameFault self.now.state n) }
     {
-        match self.origin_of(n) {
+        match self.origin_of(before, n) {
             Ok(found) => match found.changed {
                 Some(node) => Err(ExportFault::Changed { frame: n, node }),
                 None => Ok(found.target),
@@ -136,22 +172,20 @@ impl Session {
     }
 
     /// The packets of the first frames, this many.
-    #[tactic(auto, using(crate::proofs::ExportedFrames::steps_only))]
-    fn export_targets(&mut self, count: u64) -> Result<Vec<Target>, ExportFault>
-        requires { count ≤ frame_count self.old.state }
-        ensures targets { IfOk result (λ targets. HaveTargets self.old.state 0 targets.items) }
+    fn export_targets(&self, count: u64) -> Result<Vec<Target>, ExportFault>
+        requires { count ≤ frame_count self.now.state }
+        ensures targets { IfOk result (λ targets. HaveTargets self.now.state 0 targets.items) }
         ensures count { IfOk result (λ targets. length targets.items ≡ count) }
-        ensures fault { IfErr result (IsNotExported self.old.state) }
-        ensures after { self.new.state ≡ record self.old.state { decoded = self.new.state.decoded } }
-        ensures rises { self.old.state.decoded ≤ self.new.state.decoded }
-        ensures capacity { self.new.cache.capacity ≡ self.old.cache.capacity }
+        ensures fault { IfErr result (IsNotExported self.now.state) }
     {
         let mut targets = self.no_targets();
+        let mut before = None;
         'frames: for n in 0..count {
-            let target = self.export_target(n)?;
+            let target = self.export_target(before, n)?;
             let Ok(()) = targets.push(target) else {
                 return Err(ExportFault::Packets(CutFault::NoMemory));
             };
+            before = Some(target);
         }
         Ok(targets)
     }
@@ -160,6 +194,9 @@ impl Session {
     fn packets_of(&self, targets: &[Target]) -> Result<Vec<Bytes>, CutFault>
         ensures value { IfOk result (λ packets. packets.items ≡ exported self.now.state.tables (streams_in self.now.state) None targets.now) }
         ensures few { IfOk result (λ packets. length packets.items ≤ 1048576) }
+        ensures small { IfOk result (λ packets. file_size packets.items ≤ 1073741824) }
+        ensures allowed { OnOk result (export_fault self.now.state.tables (streams_in self.now.state) targets.now ≡ None) }
+        ensures refused { IfErr result (λ fault. fault ≢ CutFault.NoMemory → export_fault self.now.state.tables (streams_in self.now.state) targets.now ≡ Some fault) }
         ensures full { IfErr result (λ fault. fault ≡ CutFault.Full → IsTooLarge (exported self.now.state.tables (streams_in self.now.state) None targets.now)) }
     {
         export_packets(self.alloc, &self.tables, &self.stores, targets)
@@ -169,6 +206,8 @@ impl Session {
     fn export_packed(&self, targets: &[Target]) -> Result<Vec<Bytes>, ExportFault>
         ensures value { IfOk result (λ packets. packets.items ≡ exported self.now.state.tables (streams_in self.now.state) None targets.now) }
         ensures few { IfOk result (λ packets. length packets.items ≤ 1048576) }
+        ensures small { IfOk result (λ packets. file_size packets.items ≤ 1073741824) }
+        ensures allowed { OnOk result (export_fault self.now.state.tables (streams_in self.now.state) targets.now ≡ None) }
         ensures fault { IfErr result (IsPackingFault self.now.state targets.now) }
     {
         match self.packets_of(targets) {
@@ -266,24 +305,24 @@ impl Session {
         self.count().1
     }
 
-    /// Packets that show the frames of the current script over the current packets, without coding: copies of
-    /// packets of the sources, in which nothing but the show bit changes, and hold packets. Decoding them refuses
-    /// none, and their shown frames are exactly the frames of the session, whatever size was served before. The first
+    /// Packets that show the frames of the current script over the current packets. Nothing is coded and nothing is decoded: only
+    /// headers are read, and the session stays as it is. They are packets of the sources, in which nothing but the show bit changes,
+    /// and hold packets; those that do not change share the bytes of the source. As the file is written, with a byte 00 after each
+    /// packet that ends empty, decoding refuses none of them, and their shown frames are exactly the frames of the session, whatever
+    /// size was served before. The first
     /// frame has time stamp 0, and each other one the time after the frames before it, each as long as its packet is shown: the
     /// units of their durations are summed for each time base, and each sum is rounded half up. The head has the time base of
     /// source 0, or, if a duration is not a whole number of its units, the greatest unit of which all are, if it fits 32 bits. A
     /// hidden packet has the time stamp of the next frame.
     ///
-    /// The first frame that cannot be exported is reported: as `Frame` if a request for it would be refused, not for its size, or as
-    /// `Changed` with the first node of the script that changes samples of it. `Packets` with `Full` if there would be more than
-    /// 1,048,576 packets, or more than 1,073,741,824 bytes as an IVF file, with `Size` or `TooLarge` if a hold packet cannot be forged, and with
-    /// `NoMemory`.
-    pub fn export(&mut self) -> Result<Export, ExportFault>
-        ensures file { IfOk result (IsExportFile self.old.state) }
-        ensures fault { IfErr result (IsNotExported self.old.state) }
-        ensures after { self.new.state ≡ record self.old.state { decoded = self.new.state.decoded } }
-        ensures rises { self.old.state.decoded ≤ self.new.state.decoded }
-        ensures capacity { self.new.cache.capacity ≡ self.old.cache.capacity }
+    /// Errors, in this order: `Packets` with `Full` if there are more than 1,048,576 frames; for the first frame that cannot be
+    /// exported, `Frame` if a request for it would be refused, not for its size, or `Changed` with the first node of the script that
+    /// changes samples of it; for the first frame that has no packets, `Packets` with `Size` or `TooLarge` if its hold packet cannot be
+    /// forged, or with `Full` if with its own there would be more than 1,048,576 packets, or more than 1,073,741,824 bytes as the file is
+    /// written. `Packets` with `NoMemory` may come in place of the others.
+    pub fn export(&self) -> Result<Export, ExportFault>
+        ensures file { IfOk result (IsExportFile self.now.state) }
+        ensures fault { IfErr result (IsNotExported self.now.state) }
     {
         self.prove_exports();
         let count = self.frames();

@@ -3,4 +3,4 @@ use Rattle.frame_session.specs.ExportSizes.{saved_bytes}
 use Rattle.frame_session.proofs.export.saved_bytes.Given as goal
 
 abbrev pub invariant-loop-packet : goal.invariant-loop-packet
-invariant-loop-packet l = l.size ≡ saved_bytes l.pads (take l.packet-index l.packets)
+invariant-loop-packet l = l.size ≡ saved_bytes (take l.packet-index l.packets)

@@ -16,4 +16,4 @@ returns c =
     } in
     let count : length c.args.tables.now.updates ≡ 1056 = rw c.updates.ensures at c.prove_length.ensures in
     let small : (place : ℕ) → slice_index c.args.tables.now.updates place < 256 = rw c.updates-2.ensures at c.prove_entries.ensures in
-    exports_show_their_frames laws c.outlines_are_headers.ensures c.args.tables.now (count, small)
+    exports_show_their_frames laws c.outlines_are_headers.ensures c.zeros_keep_steps.ensures.padding c.zeros_keep_headers.ensures.shown c.args.tables.now (count, small)

@@ -1,6 +1,5 @@
-use Rattle.std.proofs.Common.{◌≡◌, ℕ, List, Err, length, map, rules, subst, sym, ◌∙◌}
+use Rattle.std.proofs.Common.{◌≡◌, ℕ, List, Err, length, rules, subst, sym, ◌∙◌}
 use Rattle.std.proofs.lemmas.List.{length-map}
-use Rattle.packet_edits.specs.Edits.{Listing}
 use Rattle.packet_edits.specs.Marks.{StoreValue}
 use Rattle.script_nodes.specs.Nodes.{script_of}
 use Rattle.frame_session.specs.Cached.{SessionValue, lists_of}
