@@ -1,7 +1,6 @@
 -- Why the program exits with requests that are answered as they come.
 use Rattle.std.proofs.Common.{◌≡◌, ◌⊎◌, inl, inr, ℕ, List, Option, None, refl, subst, sym}
 use Rattle.std.specs.Borrow.{Bor}
-use Rattle.std.specs.Io.KnownBytes.{Keeps}
 use Rattle.std.proofs.KnownBytes.{Keeps-refl}
 use Rattle.vp8_tables.specs.Tables.{TableEntries}
 use Rattle.command_lines.specs.declared.fault.FileFault.{FileFault}

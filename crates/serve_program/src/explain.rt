@@ -1,5 +1,5 @@
 // Explains the errors that end the program.
-ghost use Rattle.std.specs.Prelude.{◌≡◌, ◌≤◌, ◌==◌, ◌||◌, [], IfOk, OnOk, codes, if◌then◌else◌, length, nat_eq, nat_lt};
+ghost use Rattle.std.specs.Prelude.{◌≡◌, ◌≤◌, ◌==◌, ◌||◌, [], IfOk, OnOk, codes, if◌then◌else◌, length, nat_lt};
 ghost use Rattle.std.specs.Io.KnownBytes.{Appends};
 ghost use Rattle.frame_session.specs.Sessions.{frame_count};
 ghost use Rattle.serve_program.specs.Done.{names_option};

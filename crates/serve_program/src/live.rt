@@ -1,10 +1,8 @@
 // Requests that are answered as they come.
 ghost use Rattle.std.specs.Prelude.{◌≡◌, ◌≤◌, ◌⊎◌, IfErr, IfOk, is_some, length, map};
-ghost use Rattle.std.specs.Io.KnownBytes.{Keeps};
 ghost use Rattle.std.specs.Rc.{rc_slice_items};
-ghost use Rattle.frame_session.specs.Sessions.{SessionState};
 ghost use Rattle.serve_arguments.specs.Capacities.{IsGiven};
-ghost use Rattle.serve_program.specs.Endings.{AreLiveReplied, IsExportFault, IsLiveEnded, IsLiveFault, IsLiveRefused, IsLiveReplied, IsOut, IsSaveFault, IsServed, OverSources, cached_by};
+ghost use Rattle.serve_program.specs.Endings.{AreLiveReplied, IsExportFault, IsLiveEnded, IsLiveFault, IsLiveFinished, IsLiveRefused, IsLiveReplied, IsOut, IsSaveFault, IsServed, IsUnfinished, OverSources, cached_by};
 ghost use Rattle.serve_program.specs.Noted.{AreLiveNoted, IsLiveNoted};
 ghost use Rattle.serve_program.specs.Saved.{AreSaved};
 

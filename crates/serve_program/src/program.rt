@@ -1,16 +1,14 @@
 // The program over a reader and two writers.
-ghost use Rattle.std.specs.Prelude.{◌≡◌, ◌≤◌, ◌⊎◌, ℕ, [], false, true, IfOk, IfErr, IfSome, List, OnOk, Option, codes, is_some, length, map, nat_eq};
+ghost use Rattle.std.specs.Prelude.{◌≡◌, ◌≤◌, ◌⊎◌, [], false, true, IfOk, IfErr, IfSome, OnOk, codes, is_some, length, map};
 ghost use Rattle.std.specs.Io.Buffered.{writer_buffer, writer_contents};
 ghost use Rattle.std.specs.Io.KnownBytes.{Appends, Keeps};
 ghost use Rattle.std.specs.Rc.{rc_slice_items};
 ghost use Rattle.frame_session.specs.Answers.{Means};
 ghost use Rattle.frame_session.specs.Noted.{MeansNoted};
-ghost use Rattle.frame_session.specs.Sessions.{SessionState};
 ghost use Rattle.command_lines.specs.Endings.{IsHelp};
 ghost use Rattle.serve_arguments.specs.Capacities.{IsGiven};
-ghost use Rattle.serve_arguments.specs.Readings.{AreRequests, contents_of};
 ghost use Rattle.serve_program.specs.Done.{IsDone, IsExitStatus, IsServedAs, names_option};
-ghost use Rattle.serve_program.specs.Endings.{AreReplied, AreStopped, IsEnded, IsExportFault, IsOut, IsOver, IsRefused, IsReplied, IsSaveFault, IsServed, IsStopped, IsUnreplied, OverSources, spare_text, cached_by};
+ghost use Rattle.serve_program.specs.Endings.{AreReplied, IsBatchEnded, IsEndedOver, IsExportFault, IsFinished, IsOut, IsOver, IsRefused, IsReplied, IsSaveFault, IsServed, IsStopped, IsUnreplied, OverSources, spare_text, cached_by};
 ghost use Rattle.serve_program.specs.Noted.{AreNoted, IsNoted, IsNotedAs, status_after};
 ghost use Rattle.serve_program.specs.Saved.{ArePacketsSaved, AreSaved, IsExportSaved};
 
@@ -31,7 +29,7 @@ use std::alloc::Global;
 use std::convert::AsStr;
 use std::io::{self, BufWriter, Read, Write};
 use std::rc::RcSlice;
-use stream_files::{EMPTY, FileBytes};
+use stream_files::FileBytes;
 
 /// The number of bytes of frames that are buffered.
 pub const BYTES_AT_ONCE: usize = 65_536;
