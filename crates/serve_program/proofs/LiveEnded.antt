@@ -1,7 +1,6 @@
 -- Why the program exits with requests that are answered as they come.
 use Rattle.std.proofs.Common.{◌≡◌, ◌⊎◌, inl, inr, ℕ, List, Option, None, refl, subst, sym}
 use Rattle.std.specs.Borrow.{Bor}
-use Rattle.std.specs.Io.KnownBytes.{Keeps}
 use Rattle.std.proofs.KnownBytes.{Keeps-refl}
 use Rattle.vp8_tables.specs.Tables.{TableEntries}
 use Rattle.command_lines.specs.declared.fault.FileFault.{FileFault}
@@ -15,7 +14,7 @@ use Rattle.frame_session.specs.declared.live.LiveFault.{LiveFault}
 use Rattle.frame_session.specs.declared.live.LiveFault.TheVariants as lives
 use Rattle.frame_session.specs.Live.{LiveMeans, LiveStops}
 use Rattle.frame_session.specs.Sessions.{SessionState}
-use Rattle.serve_program.specs.Endings.{AreLiveReplied, AreLiveStopped, IsEnded, IsExportFault, IsInput, IsInterrupted, IsLiveEnded, IsLiveFault, IsLiveRefused, IsOver, IsSaveFault, IsUnopened, RunFiles, fault_by_live}
+use Rattle.serve_program.specs.Endings.{AreLiveReplied, AreLiveStopped, IsEnded, IsExportFault, IsInput, IsInterrupted, IsLiveEnded, IsLiveFault, IsLiveRefused, IsOver, IsSaveFault, IsUnfinished, IsUnopened, RunFiles, fault_by_live}
 use Rattle.serve_program.proofs.Ended.{after_ended, save_ended, unread_ended, unreplied_ended}
 
 -- a live run's error, if it is not known where the frames went
@@ -66,8 +65,7 @@ module _ (run : RunFiles) (line : Accepted) where
       inl (unread_ended run line left left replies replies (AreLiveStopped run line left replies replies) (AreLiveReplied run line left replies replies) fault refl (Keeps-refl replies) (why left))
 
   -- all lines were answered, and the packets were not saved, or the frames not exported
-  pub live_unfinished : (left replies replies' : Option (List ℕ)) (tables tables' : TableEntries) (sources sources' : List (List ℕ)) (end : SessionState) (fault : Fault) → tables' ≡ tables → sources' ≡ sources → AreLiveReplied run line left replies replies' end tables' sources' → IsSaveFault fault ⊎ IsExportFault end fault
-      → IsLiveRefused run line tables sources left replies replies' fault ⊎ (IsSaveFault fault × Keeps replies replies') ⊎ ((end : SessionState) × AreLiveReplied run line left replies replies' end tables sources × (IsSaveFault fault ⊎ IsExportFault end fault))
+  pub live_unfinished : (left replies replies' : Option (List ℕ)) (tables tables' : TableEntries) (sources sources' : List (List ℕ)) (end : SessionState) (fault : Fault) → tables' ≡ tables → sources' ≡ sources → AreLiveReplied run line left replies replies' end tables' sources' → IsSaveFault fault ⊎ IsExportFault end fault → IsUnfinished run line tables sources left replies replies' fault
   live_unfinished left replies replies' tables tables' sources sources' end fault same same' replied why =
       inr (inr (end, subst (λ (s : List (List ℕ)). AreLiveReplied run line left replies replies' end tables s) same' (subst (λ (t : TableEntries). AreLiveReplied run line left replies replies' end t sources') same replied), why))
 
@@ -84,7 +82,7 @@ module _ (run : RunFiles) (line : Accepted) where
     unopened_ended NoMemory why = absurd why
 
     -- the requests were not answered, the packets not saved, or the frames not exported
-    pub live_ended : (fault : Fault) (tables : TableEntries) (sources : List (List ℕ)) → IsOver run line tables sources → IsLiveRefused run line tables sources left replies replies' fault ⊎ (IsSaveFault fault × Keeps replies replies') ⊎ ((end : SessionState) × AreLiveReplied run line left replies replies' end tables sources × (IsSaveFault fault ⊎ IsExportFault end fault)) → IsLiveEnded run line left left' replies replies' fault
+    pub live_ended : (fault : Fault) (tables : TableEntries) (sources : List (List ℕ)) → IsOver run line tables sources → IsUnfinished run line tables sources left replies replies' fault → IsLiveEnded run line left left' replies replies' fault
     live_ended fault tables sources over (inl (inl refused)) =
         inl (unreplied_ended run line left left' replies replies' (AreLiveStopped run line left replies replies') (AreLiveReplied run line left replies replies') tables sources over (AreLiveStopped run line left replies replies' tables sources) fault (λ stopped. inr (tables, sources, over, stopped)) refused)
     live_ended fault tables sources over (inl (inr (inl shut))) = inl (unopened_ended fault shut)

@@ -1,5 +1,7 @@
 -- What the program did when it exits with status 0 or 3.
-use Rattle.std.specs.Prelude.{◌≡◌, ℕ, Bool, false, ◌&&◌, List, Option, Result, Ok, Err, MatchBool}
+use Rattle.std.specs.Prelude.{◌≡◌, ℕ, Bool, false, ◌&&◌, List, Option, Result, Ok, Err, MatchBool, nat_eq}
+use Rattle.std.specs.Cmp.Lexicographic.{pointwise}
+use Rattle.std.specs.List.{list_any}
 use Rattle.clap.specs.declared.error.Error.{Error}
 use Rattle.frame_session.specs.Cached.{Capacity as Cached}
 use Rattle.frame_session.specs.Sessions.{SessionState}
@@ -34,3 +36,7 @@ abbrev pub IsExitStatus : RunFiles → Result Words Error → (is_named : Bool) 
 IsExitStatus files (Ok words) is_named left replies replies' status =
     (has_refused : Bool) × IsDone files words left replies replies' has_refused × (status ≡ status_after (is_named && words.fails_refused) has_refused)
 IsExitStatus files (Err error) is_named left replies replies' status = IsHelp error × (status ≡ 0)
+
+-- whether an option is among the arguments, whose texts `text` gives
+abbrev pub names_option : {S : Type 0} → (text : S → List ℕ) → (option : List ℕ) → List S → Bool
+names_option {S} text option words = list_any (λ word. pointwise nat_eq (text word) option) words

@@ -197,6 +197,20 @@ IsEnded files line left left' replies replies' Stopped Replied CannotWrite = IsB
 IsEnded files line left left' replies replies' Stopped Replied NoMemory = IsBeforeOrAfter files line replies replies' Replied
 IsEnded files line left left' replies replies' Stopped Replied _ = ⊥
 
+-- why the program exits with requests in a list
+abbrev pub IsBatchEnded : RunFiles → Accepted → (left left' replies replies' : Option (List ℕ)) → Fault → Type 0
+IsBatchEnded files line left left' replies replies' fault = IsEnded files line left left' replies replies' (AreStopped files line left replies replies') (AreReplied files line left replies replies') fault
+
+-- why it exits after these requests were read, whatever was left of the input before and after that
+abbrev pub IsEndedOver : RunFiles → Accepted → (requests : List ℕ) → (replies replies' : Option (List ℕ)) → Fault → Type 0
+IsEndedOver files line requests replies replies' fault =
+    (left : Option (List ℕ)) → (left' : Option (List ℕ)) → AreRequests files.contents line.words.requests.now left requests → IsBatchEnded files line left left' replies replies' fault
+
+-- these requests were answered over the files of these bytes, and then what a command line asks for was saved
+abbrev pub IsFinished : RunFiles → Accepted → (tables : TableEntries) → (sources : List (List ℕ)) → (requests : List ℕ) → (replies replies' : Option (List ℕ)) → (new : SessionState) → Type 0
+IsFinished files line tables sources requests replies replies' new =
+    (end : SessionState) × IsReplied (files.out line.words.frames.now) tables sources requests replies replies' end × AreSaved files.saved line.words end new
+
 -- Requests that are answered as they come. `given` is what their reader gives, if it is known.
 
 -- the reader of the requests with this name: the input if they are not named
@@ -279,6 +293,19 @@ IsLiveRefused files line tables sources left replies replies' fault =
     IsUnreplied sources (AreLiveStopped files line left replies replies' tables sources) replies replies' fault
     ⊎ IsUnopened files line replies replies' fault
     ⊎ IsCutShort files line tables sources left replies replies' fault
+
+-- the lines of the requests of a command line were answered over the files of these bytes, and then what it asks for was saved
+abbrev pub IsLiveFinished : RunFiles → Accepted → (tables : TableEntries) → (sources : List (List ℕ)) → (left replies replies' : Option (List ℕ)) → (new : SessionState) → Type 0
+IsLiveFinished files line tables sources left replies replies' new =
+    (end : SessionState) × AreLiveReplied files line left replies replies' end tables sources × AreSaved files.saved line.words end new
+
+-- why that was not done: the lines were not all answered; or no reply was written, and nothing can be saved; or all lines were answered, and then nothing
+-- was saved, or the frames were not exported
+abbrev pub IsUnfinished : RunFiles → Accepted → (tables : TableEntries) → (sources : List (List ℕ)) → (left replies replies' : Option (List ℕ)) → Fault → Type 0
+IsUnfinished files line tables sources left replies replies' fault =
+    IsLiveRefused files line tables sources left replies replies' fault
+    ⊎ (IsSaveFault fault × Keeps replies replies')
+    ⊎ ((end : SessionState) × AreLiveReplied files line left replies replies' end tables sources × (IsSaveFault fault ⊎ IsExportFault end fault))
 
 -- why the program exits with requests that come one after another: as for requests in a list, or the requests were interrupted, and the lines before
 -- that were answered

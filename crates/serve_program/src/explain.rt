@@ -1,9 +1,8 @@
 // Explains the errors that end the program.
-ghost use Rattle.std.specs.Prelude.{◌≡◌, ◌≤◌, ◌==◌, ◌||◌, [], IfOk, OnOk, codes, if◌then◌else◌, length, nat_eq, nat_lt};
+ghost use Rattle.std.specs.Prelude.{◌≡◌, ◌≤◌, ◌==◌, ◌||◌, [], IfOk, OnOk, codes, if◌then◌else◌, length, nat_lt};
 ghost use Rattle.std.specs.Io.KnownBytes.{Appends};
-ghost use Rattle.std.specs.Cmp.Lexicographic.{pointwise};
-ghost use Rattle.std.specs.List.{list_any};
 ghost use Rattle.frame_session.specs.Sessions.{frame_count};
+ghost use Rattle.serve_program.specs.Done.{names_option};
 ghost use Rattle.serve_program.specs.Reports.{export_line, export_report, numbers_line};
 
 use crate::exports::Answered;
@@ -23,14 +22,14 @@ use stream_files::{IvfFault, read_all};
 
 /// Whether the option `--explain` is among the arguments.
 pub fn is_asked<S: AsStr>(words: &[S]) -> bool
-    ensures { result ≡ list_any (λ word. pointwise nat_eq (S.text word) (codes "--explain")) words.now }
+    ensures { result ≡ names_option S.text (codes "--explain") words.now }
 {
     words.iter().any(|word| word.as_str() == "--explain")
 }
 
 /// Names the option `--explain` after a run that ended with an error, unless it was given. A refused frame is no error.
 pub fn name_explain<S: AsStr, E: Write>(words: &[S], status: u8, errors: &mut E) -> io::Result<()>
-    ensures { OnOk result (Appends (E.contents errors.old) (E.contents errors.new) (if status == 0 || status == 3 || list_any (λ word. pointwise nat_eq (S.text word) (codes "--explain")) words.now then [] else codes "with --explain the next line says why, and what to do\n")) }
+    ensures { OnOk result (Appends (E.contents errors.old) (E.contents errors.new) (if status == 0 || status == 3 || names_option S.text (codes "--explain") words.now then [] else codes "with --explain the next line says why, and what to do\n")) }
 {
     if status == 0 || status == 3 || is_asked(words) {
         return Ok(());

@@ -4,6 +4,7 @@
 
 mod explain;
 mod exports;
+mod host;
 mod live;
 mod messages;
 mod program;
@@ -11,5 +12,7 @@ mod runs;
 mod saving;
 
 pub use explain::{name_explain, name_help};
+pub use host::RunHost;
 pub use program::{run_to, serve};
+pub use runs::Over;
 pub use serve_arguments::{Argument, Fault, Mistake, NotExported, SameFile, parse};

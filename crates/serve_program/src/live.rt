@@ -1,20 +1,19 @@
 // Requests that are answered as they come.
 ghost use Rattle.std.specs.Prelude.{◌≡◌, ◌≤◌, ◌⊎◌, IfErr, IfOk, is_some, length, map};
-ghost use Rattle.std.specs.Io.KnownBytes.{Keeps};
 ghost use Rattle.std.specs.Rc.{rc_slice_items};
-ghost use Rattle.frame_session.specs.Sessions.{SessionState};
 ghost use Rattle.serve_arguments.specs.Capacities.{IsGiven};
-ghost use Rattle.serve_program.specs.Endings.{AreLiveReplied, IsExportFault, IsLiveEnded, IsLiveFault, IsLiveRefused, IsLiveReplied, IsOut, IsSaveFault, IsServed, OverSources, run_files, cached_by};
+ghost use Rattle.serve_program.specs.Endings.{AreLiveReplied, IsExportFault, IsLiveEnded, IsLiveFault, IsLiveFinished, IsLiveRefused, IsLiveReplied, IsOut, IsSaveFault, IsServed, IsUnfinished, OverSources, cached_by};
 ghost use Rattle.serve_program.specs.Noted.{AreLiveNoted, IsLiveNoted};
 ghost use Rattle.serve_program.specs.Saved.{AreSaved};
 
 use crate::exports::with_export;
+use crate::host::RunHost;
 use crate::messages::Messages;
 use crate::program::{BYTES_AT_ONCE, Served, finish, flush_buffer, taken_by};
-use crate::runs::{live_fault, settings_with, shared};
+use crate::runs::{Over, live_fault, settings_with, shared};
 use crate::saving::{Saves, abandon_saves, begin_saves};
 use command_lines::{NO_FILE, NamedFiles};
-use frame_session::{LiveFault, Session, Settings, run_live_over};
+use frame_session::{LiveFault, Session, run_live_over};
 use output_files::{Counted, SavedFiles};
 use serve_arguments::{Accepted, Fault, FilesRead, read_files};
 use std::io::{self, BufRead, BufReader, BufWriter, Read, Write};
@@ -24,21 +23,21 @@ use std::rc::RcSlice;
 #[tactic(auto, using(crate::proofs::LiveEnded::live_stopped, crate::proofs::LiveEnded::live_unmade, crate::proofs::LiveEnded::live_unheld, crate::proofs::LiveEnded::live_unflushed, crate::proofs::Finished::live_dropped, crate::proofs::Finished::live_gained))]
 fn run_to_path<R: NamedFiles + AllocGlobal, I: BufRead, P: Write, E: Write>(
     rt: &R,
-    settings: Settings,
-    sources: &[RcSlice<u8>],
+    over: Over<'_, RcSlice<u8>>,
     requests: &mut I,
     path: &str,
     replies: &mut P,
     messages: &mut Messages<'_, E>,
 ) -> Result<Session, LiveFault>
-    requires capacity { (1 ≤ settings.capacity.states) × (settings.capacity.states ≤ 4096) }
-    requires sources { (1 ≤ length sources.now) × (length sources.now ≤ 8) }
-    ensures replied { IfOk result (λ session. IsLiveReplied (IsOut R.Made.contents (R.is_made_at rt.now) path.now) settings.tables (map rc_slice_items sources.now) (I.remaining requests.old) (P.contents replies.old) (P.contents replies.new) session.state) }
-    ensures noted { IfOk result (λ session. IsLiveNoted settings.tables (map rc_slice_items sources.now) (I.remaining requests.old) (P.contents replies.old) (P.contents replies.new) messages.old.has_refused messages.new.has_refused) }
-    ensures capacity { IfOk result (λ session. session.cache.capacity ≡ settings.capacity) }
-    ensures fault { IfErr result (IsLiveFault settings.tables (map rc_slice_items sources.now) (I.remaining requests.old) (P.contents replies.old) (P.contents replies.new)) }
+    requires capacity { (1 ≤ over.settings.capacity.states) × (over.settings.capacity.states ≤ 4096) }
+    requires sources { (1 ≤ length over.sources.now) × (length over.sources.now ≤ 8) }
+    ensures replied { IfOk result (λ session. IsLiveReplied (IsOut R.Made.contents (R.is_made_at rt.now) path.now) over.entry.settings.tables (map rc_slice_items over.entry.sources.now) (I.remaining requests.old) (P.contents replies.old) (P.contents replies.new) session.state) }
+    ensures noted { IfOk result (λ session. IsLiveNoted over.entry.settings.tables (map rc_slice_items over.entry.sources.now) (I.remaining requests.old) (P.contents replies.old) (P.contents replies.new) messages.old.has_refused messages.new.has_refused) }
+    ensures capacity { IfOk result (λ session. session.cache.capacity ≡ over.entry.settings.capacity) }
+    ensures fault { IfErr result (IsLiveFault over.entry.settings.tables (map rc_slice_items over.entry.sources.now) (I.remaining requests.old) (P.contents replies.old) (P.contents replies.new)) }
 {
     let alloc = rt.alloc();
+    let Over { settings, sources } = over;
     if path == NO_FILE {
         return run_live_over(
             alloc,
@@ -86,30 +85,21 @@ fn run_to_path<R: NamedFiles + AllocGlobal, I: BufRead, P: Write, E: Write>(
 /// Answers the lines of a reader that is not buffered, through a buffer.
 fn run_over<R: NamedFiles + AllocGlobal, I: Read, P: Write, E: Write>(
     rt: &R,
-    settings: Settings,
-    sources: &[RcSlice<u8>],
+    over: Over<'_, RcSlice<u8>>,
     reader: &mut I,
     path: &str,
     replies: &mut P,
     messages: &mut Messages<'_, E>,
 ) -> Result<Session, LiveFault>
-    requires capacity { (1 ≤ settings.capacity.states) × (settings.capacity.states ≤ 4096) }
-    requires sources { (1 ≤ length sources.now) × (length sources.now ≤ 8) }
-    ensures replied { IfOk result (λ session. IsLiveReplied (IsOut R.Made.contents (R.is_made_at rt.now) path.now) settings.tables (map rc_slice_items sources.now) (I.remaining reader.old) (P.contents replies.old) (P.contents replies.new) session.state) }
-    ensures noted { IfOk result (λ session. IsLiveNoted settings.tables (map rc_slice_items sources.now) (I.remaining reader.old) (P.contents replies.old) (P.contents replies.new) messages.old.has_refused messages.new.has_refused) }
-    ensures capacity { IfOk result (λ session. session.cache.capacity ≡ settings.capacity) }
-    ensures fault { IfErr result (IsLiveFault settings.tables (map rc_slice_items sources.now) (I.remaining reader.old) (P.contents replies.old) (P.contents replies.new)) }
+    requires capacity { (1 ≤ over.settings.capacity.states) × (over.settings.capacity.states ≤ 4096) }
+    requires sources { (1 ≤ length over.sources.now) × (length over.sources.now ≤ 8) }
+    ensures replied { IfOk result (λ session. IsLiveReplied (IsOut R.Made.contents (R.is_made_at rt.now) path.now) over.entry.settings.tables (map rc_slice_items over.entry.sources.now) (I.remaining reader.old) (P.contents replies.old) (P.contents replies.new) session.state) }
+    ensures noted { IfOk result (λ session. IsLiveNoted over.entry.settings.tables (map rc_slice_items over.entry.sources.now) (I.remaining reader.old) (P.contents replies.old) (P.contents replies.new) messages.old.has_refused messages.new.has_refused) }
+    ensures capacity { IfOk result (λ session. session.cache.capacity ≡ over.entry.settings.capacity) }
+    ensures fault { IfErr result (IsLiveFault over.entry.settings.tables (map rc_slice_items over.entry.sources.now) (I.remaining reader.old) (P.contents replies.old) (P.contents replies.new)) }
 {
     let mut requests = BufReader::new(rt.alloc(), reader).map_err(|_| LiveFault::NoMemory)?;
-    run_to_path(
-        rt,
-        settings,
-        sources,
-        &mut requests,
-        path,
-        replies,
-        messages,
-    )
+    run_to_path(rt, over, &mut requests, path, replies, messages)
 }
 
 /// Answers the request lines as they come: those of `input` if no file is given.
@@ -117,23 +107,22 @@ fn run_over<R: NamedFiles + AllocGlobal, I: Read, P: Write, E: Write>(
 fn run_requests<'a, R: NamedFiles + SavedFiles + AllocGlobal, I: Read, P: Write, E: Write>(
     rt: &R,
     line: &Accepted<'a>,
-    settings: Settings,
-    sources: &[RcSlice<u8>],
+    over: Over<'_, RcSlice<u8>>,
     input: &mut I,
     replies: &mut P,
     messages: &mut Messages<'_, E>,
 ) -> Result<Session, Fault<'a>>
-    requires capacity { (1 ≤ settings.capacity.states) × (settings.capacity.states ≤ 4096) }
-    requires sources { (1 ≤ length sources.now) × (length sources.now ≤ 8) }
-    ensures replied { IfOk result (λ session. AreLiveReplied (run_files (R.bytes_at rt.now) R.Made.contents (R.is_made_at rt.now) (R.is_saved_at rt.now)) line.now (I.remaining input.old) (P.contents replies.old) (P.contents replies.new) session.state settings.tables (map rc_slice_items sources.now)) }
-    ensures noted { IfOk result (λ session. AreLiveNoted (run_files (R.bytes_at rt.now) R.Made.contents (R.is_made_at rt.now) (R.is_saved_at rt.now)) line.now (I.remaining input.old) (P.contents replies.old) (P.contents replies.new) messages.old.has_refused messages.new.has_refused settings.tables (map rc_slice_items sources.now)) }
-    ensures capacity { IfOk result (λ session. session.cache.capacity ≡ settings.capacity) }
-    ensures refused { IfErr result (IsLiveRefused (run_files (R.bytes_at rt.now) R.Made.contents (R.is_made_at rt.now) (R.is_saved_at rt.now)) line.now settings.tables (map rc_slice_items sources.now) (I.remaining input.old) (P.contents replies.old) (P.contents replies.new)) }
+    requires capacity { (1 ≤ over.settings.capacity.states) × (over.settings.capacity.states ≤ 4096) }
+    requires sources { (1 ≤ length over.sources.now) × (length over.sources.now ≤ 8) }
+    ensures replied { IfOk result (λ session. AreLiveReplied (⟦<R as RunHost>⟧.files rt.now) line.now (I.remaining input.old) (P.contents replies.old) (P.contents replies.new) session.state over.entry.settings.tables (map rc_slice_items over.entry.sources.now)) }
+    ensures noted { IfOk result (λ session. AreLiveNoted (⟦<R as RunHost>⟧.files rt.now) line.now (I.remaining input.old) (P.contents replies.old) (P.contents replies.new) messages.old.has_refused messages.new.has_refused over.entry.settings.tables (map rc_slice_items over.entry.sources.now)) }
+    ensures capacity { IfOk result (λ session. session.cache.capacity ≡ over.entry.settings.capacity) }
+    ensures refused { IfErr result (IsLiveRefused (⟦<R as RunHost>⟧.files rt.now) line.now over.entry.settings.tables (map rc_slice_items over.entry.sources.now) (I.remaining input.old) (P.contents replies.old) (P.contents replies.new)) }
 {
     let path = line.words.requests;
     let frames = line.words.frames;
     if path == NO_FILE {
-        return match run_over(rt, settings, sources, input, frames, replies, messages) {
+        return match run_over(rt, over, input, frames, replies, messages) {
             Ok(session) => Ok(session),
             Err(fault) => Err(live_fault(fault, path)),
         };
@@ -142,7 +131,7 @@ fn run_requests<'a, R: NamedFiles + SavedFiles + AllocGlobal, I: Read, P: Write,
         Ok(file) => file,
         Err(_) => return Err(Fault::CannotRead(path)),
     };
-    match run_over(rt, settings, sources, &mut file, frames, replies, messages) {
+    match run_over(rt, over, &mut file, frames, replies, messages) {
         Ok(session) => Ok(session),
         Err(fault) => Err(live_fault(fault, path)),
     }
@@ -187,24 +176,20 @@ fn answer_files<'a, R: NamedFiles + SavedFiles + AllocGlobal, I: Read, O: Write,
 ) -> Result<Served, Fault<'a>>
     requires capacity { IsGiven line.now.capacity }
     requires sources { (1 ≤ length files.sources.items) × (length files.sources.items ≤ 8) }
-    ensures replied { IfOk result (λ served. (end : SessionState) × AreLiveReplied (run_files (R.bytes_at rt.now) R.Made.contents (R.is_made_at rt.now) (R.is_saved_at rt.now)) line.now (I.remaining input.old) (O.contents output.old) (O.contents output.new) end files.tables (map (λ bytes. bytes.items) files.sources.items) × AreSaved (R.is_saved_at rt.now) line.now.words end served.session.state) }
-    ensures noted { IfOk result (λ served. AreLiveNoted (run_files (R.bytes_at rt.now) R.Made.contents (R.is_made_at rt.now) (R.is_saved_at rt.now)) line.now (I.remaining input.old) (O.contents output.old) (O.contents output.new) messages.old.has_refused served.has_refused files.tables (map (λ bytes. bytes.items) files.sources.items)) }
+    ensures replied { IfOk result (λ served. IsLiveFinished (⟦<R as RunHost>⟧.files rt.now) line.now files.tables (map (λ bytes. bytes.items) files.sources.items) (I.remaining input.old) (O.contents output.old) (O.contents output.new) served.session.state) }
+    ensures noted { IfOk result (λ served. AreLiveNoted (⟦<R as RunHost>⟧.files rt.now) line.now (I.remaining input.old) (O.contents output.old) (O.contents output.new) messages.old.has_refused served.has_refused files.tables (map (λ bytes. bytes.items) files.sources.items)) }
     ensures capacity { IfOk result (λ served. served.session.cache.capacity ≡ cached_by line.now.capacity) }
-    ensures refused { IfErr result (λ fault. IsLiveRefused (run_files (R.bytes_at rt.now) R.Made.contents (R.is_made_at rt.now) (R.is_saved_at rt.now)) line.now files.tables (map (λ bytes. bytes.items) files.sources.items) (I.remaining input.old) (O.contents output.old) (O.contents output.new) fault ⊎ (IsSaveFault fault × Keeps (O.contents output.old) (O.contents output.new)) ⊎ ((end : SessionState) × AreLiveReplied (run_files (R.bytes_at rt.now) R.Made.contents (R.is_made_at rt.now) (R.is_saved_at rt.now)) line.now (I.remaining input.old) (O.contents output.old) (O.contents output.new) end files.tables (map (λ bytes. bytes.items) files.sources.items) × (IsSaveFault fault ⊎ IsExportFault end fault))) }
+    ensures refused { IfErr result (IsUnfinished (⟦<R as RunHost>⟧.files rt.now) line.now files.tables (map (λ bytes. bytes.items) files.sources.items) (I.remaining input.old) (O.contents output.old) (O.contents output.new)) }
 {
     let FilesRead { tables, sources } = files;
     let sources = shared(rt.alloc(), sources)?;
     let settings = settings_with(tables, line.capacity);
     let saves = begin_saves(rt, line.words, messages)?;
-    let answered = run_requests(
-        rt,
-        line,
+    let over = Over {
         settings,
-        sources.as_slice(),
-        input,
-        output,
-        messages,
-    );
+        sources: sources.as_slice(),
+    };
+    let answered = run_requests(rt, line, over, input, output, messages);
     let has_refused = messages.has_refused();
     match answered {
         Ok(session) => {
@@ -231,9 +216,9 @@ pub fn answer_live<'a, R: NamedFiles + SavedFiles + AllocGlobal, I: Read, O: Wri
 ) -> Result<Served, Fault<'a>>
     requires capacity { IsGiven line.now.capacity }
     requires paths { length line.now.more.items ≤ 7 }
-    ensures served { IfOk result (λ served. IsServed (run_files (R.bytes_at rt.now) R.Made.contents (R.is_made_at rt.now) (R.is_saved_at rt.now)) line.now served.session.cache.capacity (AreLiveReplied (run_files (R.bytes_at rt.now) R.Made.contents (R.is_made_at rt.now) (R.is_saved_at rt.now)) line.now (I.remaining input.old) (O.contents output.old) (O.contents output.new)) served.session.state) }
-    ensures noted { IfOk result (λ served. OverSources (run_files (R.bytes_at rt.now) R.Made.contents (R.is_made_at rt.now) (R.is_saved_at rt.now)) line.now (AreLiveNoted (run_files (R.bytes_at rt.now) R.Made.contents (R.is_made_at rt.now) (R.is_saved_at rt.now)) line.now (I.remaining input.old) (O.contents output.old) (O.contents output.new) messages.old.has_refused served.has_refused)) }
-    ensures ended { IfErr result (IsLiveEnded (run_files (R.bytes_at rt.now) R.Made.contents (R.is_made_at rt.now) (R.is_saved_at rt.now)) line.now (I.remaining input.old) (I.remaining input.new) (O.contents output.old) (O.contents output.new)) }
+    ensures served { IfOk result (λ served. IsServed (⟦<R as RunHost>⟧.files rt.now) line.now served.session.cache.capacity (AreLiveReplied (⟦<R as RunHost>⟧.files rt.now) line.now (I.remaining input.old) (O.contents output.old) (O.contents output.new)) served.session.state) }
+    ensures noted { IfOk result (λ served. OverSources (⟦<R as RunHost>⟧.files rt.now) line.now (AreLiveNoted (⟦<R as RunHost>⟧.files rt.now) line.now (I.remaining input.old) (O.contents output.old) (O.contents output.new) messages.old.has_refused served.has_refused)) }
+    ensures ended { IfErr result (IsLiveEnded (⟦<R as RunHost>⟧.files rt.now) line.now (I.remaining input.old) (I.remaining input.new) (O.contents output.old) (O.contents output.new)) }
 {
     let files = read_files(rt, line)?;
     answer_files(rt, line, files, input, output, messages)

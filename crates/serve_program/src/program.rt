@@ -1,29 +1,26 @@
 // The program over a reader and two writers.
-ghost use Rattle.std.specs.Prelude.{◌≡◌, ◌≤◌, ◌⊎◌, ℕ, [], false, true, IfOk, IfErr, IfSome, List, OnOk, Option, codes, is_some, length, map, nat_eq};
-ghost use Rattle.std.specs.Cmp.Lexicographic.{pointwise};
-ghost use Rattle.std.specs.List.{list_any};
+ghost use Rattle.std.specs.Prelude.{◌≡◌, ◌≤◌, ◌⊎◌, [], false, true, IfOk, IfErr, IfSome, OnOk, codes, is_some, length, map};
 ghost use Rattle.std.specs.Io.Buffered.{writer_buffer, writer_contents};
 ghost use Rattle.std.specs.Io.KnownBytes.{Appends, Keeps};
 ghost use Rattle.std.specs.Rc.{rc_slice_items};
 ghost use Rattle.frame_session.specs.Answers.{Means};
 ghost use Rattle.frame_session.specs.Noted.{MeansNoted};
-ghost use Rattle.frame_session.specs.Sessions.{SessionState};
 ghost use Rattle.command_lines.specs.Endings.{IsHelp};
 ghost use Rattle.serve_arguments.specs.Capacities.{IsGiven};
-ghost use Rattle.serve_arguments.specs.Readings.{AreRequests, contents_of};
-ghost use Rattle.serve_program.specs.Done.{IsDone, IsExitStatus, IsServedAs};
-ghost use Rattle.serve_program.specs.Endings.{AreReplied, AreStopped, IsEnded, IsExportFault, IsOut, IsOver, IsRefused, IsReplied, IsSaveFault, IsServed, IsStopped, IsUnreplied, OverSources, run_files, spare_text, cached_by};
+ghost use Rattle.serve_program.specs.Done.{IsDone, IsExitStatus, IsServedAs, names_option};
+ghost use Rattle.serve_program.specs.Endings.{AreReplied, IsBatchEnded, IsEndedOver, IsExportFault, IsFinished, IsOut, IsOver, IsRefused, IsReplied, IsSaveFault, IsServed, IsStopped, IsUnreplied, OverSources, spare_text, cached_by};
 ghost use Rattle.serve_program.specs.Noted.{AreNoted, IsNoted, IsNotedAs, status_after};
 ghost use Rattle.serve_program.specs.Saved.{ArePacketsSaved, AreSaved, IsExportSaved};
 
 use crate::explain::{explain_end, explain_export, explain_fault, is_asked};
 use crate::exports::{Answered, with_export};
+use crate::host::RunHost;
 use crate::live::answer_live;
 use crate::messages::Messages;
-use crate::runs::{run_fault, settings_with, shared};
+use crate::runs::{Over, run_fault, settings_with, shared};
 use crate::saving::{Saves, begin_saves, finish_saves};
 use command_lines::{NO_FILE, NamedFiles, exit_status, help_or_mistake};
-use frame_session::{Observer, Session, Settings, run_over};
+use frame_session::{Observer, Session, run_over};
 use output_files::{Counted, SavedFiles, Taken};
 use serve_arguments::{
     Accepted, Fault, FilesRead, Inputs, Words, check_places, read_inputs, report_cache,
@@ -32,7 +29,7 @@ use std::alloc::Global;
 use std::convert::AsStr;
 use std::io::{self, BufWriter, Read, Write};
 use std::rc::RcSlice;
-use stream_files::{EMPTY, FileBytes};
+use stream_files::FileBytes;
 
 /// The number of bytes of frames that are buffered.
 pub const BYTES_AT_ONCE: usize = 65_536;
@@ -42,20 +39,20 @@ pub const BYTES_AT_ONCE: usize = 65_536;
 #[tactic(auto, using(crate::proofs::Ended::run_refused, crate::proofs::Flushed::unflushed))]
 pub fn run_to<B: FileBytes, F: Write, P: Write, V: Observer>(
     alloc: Global,
-    settings: Settings,
-    sources: &[B],
+    over: Over<'_, B>,
     requests: &[u8],
     frames: &mut F,
     replies: &mut P,
     observer: &mut V,
 ) -> Result<Session, Fault<'static>>
-    requires capacity { (1 ≤ settings.capacity.states) × (settings.capacity.states ≤ 4096) }
-    requires sources { (1 ≤ length sources.now) × (length sources.now ≤ 8) }
-    ensures answered { IfOk result (λ session. Means settings.tables (map B.bytes sources.now) requests.now (F.contents frames.old) (F.contents frames.new) (P.contents replies.old) (P.contents replies.new) session.state) }
-    ensures noted { IfOk result (λ session. MeansNoted settings.tables (map B.bytes sources.now) requests.now (F.contents frames.old) (F.contents frames.new) (P.contents replies.old) (P.contents replies.new) session.state (V.has_refused observer.old) (V.has_refused observer.new)) }
-    ensures capacity { IfOk result (λ session. session.cache.capacity ≡ settings.capacity) }
-    ensures refused { IfErr result (IsRefused settings.tables (map B.bytes sources.now) requests.now (F.contents frames.old) (F.contents frames.new) (P.contents replies.old) (P.contents replies.new)) }
+    requires capacity { (1 ≤ over.settings.capacity.states) × (over.settings.capacity.states ≤ 4096) }
+    requires sources { (1 ≤ length over.sources.now) × (length over.sources.now ≤ 8) }
+    ensures answered { IfOk result (λ end. Means over.entry.settings.tables (map B.bytes over.entry.sources.now) requests.now (F.contents frames.old) (F.contents frames.new) (P.contents replies.old) (P.contents replies.new) end.state) }
+    ensures noted { IfOk result (λ end. MeansNoted over.entry.settings.tables (map B.bytes over.entry.sources.now) requests.now (F.contents frames.old) (F.contents frames.new) (P.contents replies.old) (P.contents replies.new) end.state (V.has_refused observer.old) (V.has_refused observer.new)) }
+    ensures capacity { IfOk result (λ session. session.cache.capacity ≡ over.entry.settings.capacity) }
+    ensures refused { IfErr result (IsRefused over.entry.settings.tables (map B.bytes over.entry.sources.now) requests.now (F.contents frames.old) (F.contents frames.new) (P.contents replies.old) (P.contents replies.new)) }
 {
+    let Over { settings, sources } = over;
     let session = match run_over(
         alloc, settings, sources, requests, frames, replies, observer,
     ) {
@@ -75,31 +72,22 @@ pub fn run_to<B: FileBytes, F: Write, P: Write, V: Observer>(
 #[tactic(auto, using(crate::proofs::Ended::unreplied, crate::proofs::Ended::unmade, crate::proofs::Ended::unheld, crate::proofs::Ended::unflushed_out, crate::proofs::Finished::dropped, crate::proofs::Finished::gained))]
 fn run_to_path<R: NamedFiles + AllocGlobal, P: Write, E: Write>(
     rt: &R,
-    settings: Settings,
-    sources: &[RcSlice<u8>],
+    over: Over<'_, RcSlice<u8>>,
     requests: &[u8],
     path: &str,
     replies: &mut P,
     messages: &mut Messages<'_, E>,
 ) -> Result<Session, Fault<'static>>
-    requires capacity { (1 ≤ settings.capacity.states) × (settings.capacity.states ≤ 4096) }
-    requires sources { (1 ≤ length sources.now) × (length sources.now ≤ 8) }
-    ensures replied { IfOk result (λ session. IsReplied (IsOut R.Made.contents (R.is_made_at rt.now) path.now) settings.tables (map rc_slice_items sources.now) requests.now (P.contents replies.old) (P.contents replies.new) session.state) }
-    ensures noted { IfOk result (λ session. IsNoted settings.tables (map rc_slice_items sources.now) requests.now (P.contents replies.old) (P.contents replies.new) messages.old.has_refused messages.new.has_refused) }
-    ensures capacity { IfOk result (λ session. session.cache.capacity ≡ settings.capacity) }
-    ensures refused { IfErr result (IsUnreplied (map rc_slice_items sources.now) (IsStopped settings.tables (map rc_slice_items sources.now) requests.now (P.contents replies.old) (P.contents replies.new)) (P.contents replies.old) (P.contents replies.new)) }
+    requires capacity { (1 ≤ over.settings.capacity.states) × (over.settings.capacity.states ≤ 4096) }
+    requires sources { (1 ≤ length over.sources.now) × (length over.sources.now ≤ 8) }
+    ensures replied { IfOk result (λ session. IsReplied (IsOut R.Made.contents (R.is_made_at rt.now) path.now) over.entry.settings.tables (map rc_slice_items over.entry.sources.now) requests.now (P.contents replies.old) (P.contents replies.new) session.state) }
+    ensures noted { IfOk result (λ session. IsNoted over.entry.settings.tables (map rc_slice_items over.entry.sources.now) requests.now (P.contents replies.old) (P.contents replies.new) messages.old.has_refused messages.new.has_refused) }
+    ensures capacity { IfOk result (λ session. session.cache.capacity ≡ over.entry.settings.capacity) }
+    ensures refused { IfErr result (IsUnreplied (map rc_slice_items over.entry.sources.now) (IsStopped over.entry.settings.tables (map rc_slice_items over.entry.sources.now) requests.now (P.contents replies.old) (P.contents replies.new)) (P.contents replies.old) (P.contents replies.new)) }
 {
     let alloc = rt.alloc();
     if path == NO_FILE {
-        return run_to(
-            alloc,
-            settings,
-            sources,
-            requests,
-            &mut io::sink(),
-            replies,
-            messages,
-        );
+        return run_to(alloc, over, requests, &mut io::sink(), replies, messages);
     }
     let file = match rt.make_named(path) {
         Ok(file) => file,
@@ -108,15 +96,7 @@ fn run_to_path<R: NamedFiles + AllocGlobal, P: Write, E: Write>(
     let mut frames = BufWriter::with_capacity(alloc, BYTES_AT_ONCE, Counted::new(file)).map_err(
         |_| Fault::NoMemory,
     )?;
-    let answered = run_to(
-        alloc,
-        settings,
-        sources,
-        requests,
-        &mut frames,
-        replies,
-        messages,
-    );
+    let answered = run_to(alloc, over, requests, &mut frames, replies, messages);
     match answered {
         Ok(session) => {
             flush_buffer(&mut frames)?;
@@ -237,20 +217,23 @@ fn answer_inputs<R: NamedFiles + SavedFiles + AllocGlobal, O: Write, E: Write>(
 ) -> Result<Served, Fault<'static>>
     requires capacity { IsGiven line.now.capacity }
     requires paths { length line.now.more.items ≤ 7 }
-    requires read { IsOver (run_files (R.bytes_at rt.now) R.Made.contents (R.is_made_at rt.now) (R.is_saved_at rt.now)) line.now inputs.files.tables (map (λ bytes. bytes.items) inputs.files.sources.items) }
-    ensures replied { IfOk result (λ served. (end : SessionState) × IsReplied (IsOut R.Made.contents (R.is_made_at rt.now) line.now.words.frames.now) inputs.files.tables (map (λ bytes. bytes.items) inputs.files.sources.items) inputs.requests.items (O.contents output.old) (O.contents output.new) end × AreSaved (R.is_saved_at rt.now) line.now.words end served.session.state) }
+    requires read { IsOver (⟦<R as RunHost>⟧.files rt.now) line.now inputs.files.tables (map (λ bytes. bytes.items) inputs.files.sources.items) }
+    ensures replied { IfOk result (λ served. IsFinished (⟦<R as RunHost>⟧.files rt.now) line.now inputs.files.tables (map (λ bytes. bytes.items) inputs.files.sources.items) inputs.requests.items (O.contents output.old) (O.contents output.new) served.session.state) }
     ensures noted { IfOk result (λ served. IsNoted inputs.files.tables (map (λ bytes. bytes.items) inputs.files.sources.items) inputs.requests.items (O.contents output.old) (O.contents output.new) messages.old.has_refused served.has_refused) }
     ensures capacity { IfOk result (λ served. served.session.cache.capacity ≡ cached_by line.now.capacity) }
-    ensures ended { IfErr result (λ fault. (left : Option (List ℕ)) → (left' : Option (List ℕ)) → AreRequests (contents_of (R.bytes_at rt.now) EMPTY) line.now.words.requests.now left inputs.requests.items → IsEnded (run_files (R.bytes_at rt.now) R.Made.contents (R.is_made_at rt.now) (R.is_saved_at rt.now)) line.now left left' (O.contents output.old) (O.contents output.new) (AreStopped (run_files (R.bytes_at rt.now) R.Made.contents (R.is_made_at rt.now) (R.is_saved_at rt.now)) line.now left (O.contents output.old) (O.contents output.new)) (AreReplied (run_files (R.bytes_at rt.now) R.Made.contents (R.is_made_at rt.now) (R.is_saved_at rt.now)) line.now left (O.contents output.old) (O.contents output.new)) fault) }
+    ensures ended { IfErr result (IsEndedOver (⟦<R as RunHost>⟧.files rt.now) line.now inputs.requests.items (O.contents output.old) (O.contents output.new)) }
 {
     let Inputs { files, requests } = inputs;
     let FilesRead { tables, sources } = files;
     let sources = shared(rt.alloc(), sources)?;
     let settings = settings_with(tables, line.capacity);
+    let over = Over {
+        settings,
+        sources: sources.as_slice(),
+    };
     let session = run_to_path(
         rt,
-        settings,
-        sources.as_slice(),
+        over,
         requests.as_slice(),
         line.words.frames,
         output,
@@ -274,9 +257,9 @@ fn answer<'a, R: NamedFiles + SavedFiles + AllocGlobal, I: Read, O: Write, E: Wr
 ) -> Result<Served, Fault<'a>>
     requires capacity { IsGiven line.now.capacity }
     requires paths { length line.now.more.items ≤ 7 }
-    ensures served { IfOk result (λ served. IsServed (run_files (R.bytes_at rt.now) R.Made.contents (R.is_made_at rt.now) (R.is_saved_at rt.now)) line.now served.session.cache.capacity (AreReplied (run_files (R.bytes_at rt.now) R.Made.contents (R.is_made_at rt.now) (R.is_saved_at rt.now)) line.now (I.remaining input.old) (O.contents output.old) (O.contents output.new)) served.session.state) }
-    ensures noted { IfOk result (λ served. OverSources (run_files (R.bytes_at rt.now) R.Made.contents (R.is_made_at rt.now) (R.is_saved_at rt.now)) line.now (AreNoted (run_files (R.bytes_at rt.now) R.Made.contents (R.is_made_at rt.now) (R.is_saved_at rt.now)) line.now (I.remaining input.old) (O.contents output.old) (O.contents output.new) messages.old.has_refused served.has_refused)) }
-    ensures ended { IfErr result (IsEnded (run_files (R.bytes_at rt.now) R.Made.contents (R.is_made_at rt.now) (R.is_saved_at rt.now)) line.now (I.remaining input.old) (I.remaining input.new) (O.contents output.old) (O.contents output.new) (AreStopped (run_files (R.bytes_at rt.now) R.Made.contents (R.is_made_at rt.now) (R.is_saved_at rt.now)) line.now (I.remaining input.old) (O.contents output.old) (O.contents output.new)) (AreReplied (run_files (R.bytes_at rt.now) R.Made.contents (R.is_made_at rt.now) (R.is_saved_at rt.now)) line.now (I.remaining input.old) (O.contents output.old) (O.contents output.new))) }
+    ensures served { IfOk result (λ served. IsServed (⟦<R as RunHost>⟧.files rt.now) line.now served.session.cache.capacity (AreReplied (⟦<R as RunHost>⟧.files rt.now) line.now (I.remaining input.old) (O.contents output.old) (O.contents output.new)) served.session.state) }
+    ensures noted { IfOk result (λ served. OverSources (⟦<R as RunHost>⟧.files rt.now) line.now (AreNoted (⟦<R as RunHost>⟧.files rt.now) line.now (I.remaining input.old) (O.contents output.old) (O.contents output.new) messages.old.has_refused served.has_refused)) }
+    ensures ended { IfErr result (IsBatchEnded (⟦<R as RunHost>⟧.files rt.now) line.now (I.remaining input.old) (I.remaining input.new) (O.contents output.old) (O.contents output.new)) }
 {
     let inputs = read_inputs(rt, line, input)?;
     answer_inputs(rt, line, inputs, output, messages)
@@ -292,8 +275,8 @@ fn answer_accepted<'a, R: NamedFiles + SavedFiles + AllocGlobal, I: Read, O: Wri
 ) -> Result<Served, Fault<'a>>
     requires capacity { IsGiven line.now.capacity }
     requires paths { length line.now.more.items ≤ 7 }
-    ensures served { IfOk result (λ served. IsServedAs (run_files (R.bytes_at rt.now) R.Made.contents (R.is_made_at rt.now) (R.is_saved_at rt.now)) line.now served.session.cache.capacity (I.remaining input.old) (O.contents output.old) (O.contents output.new) served.session.state) }
-    ensures noted { IfOk result (λ served. IsNotedAs (run_files (R.bytes_at rt.now) R.Made.contents (R.is_made_at rt.now) (R.is_saved_at rt.now)) line.now (I.remaining input.old) (O.contents output.old) (O.contents output.new) messages.old.has_refused served.has_refused) }
+    ensures served { IfOk result (λ served. IsServedAs (⟦<R as RunHost>⟧.files rt.now) line.now served.session.cache.capacity (I.remaining input.old) (O.contents output.old) (O.contents output.new) served.session.state) }
+    ensures noted { IfOk result (λ served. IsNotedAs (⟦<R as RunHost>⟧.files rt.now) line.now (I.remaining input.old) (O.contents output.old) (O.contents output.new) messages.old.has_refused served.has_refused) }
 {
     if line.words.is_live {
         answer_live(rt, line, input, output, messages)
@@ -311,7 +294,7 @@ fn answer_words<'a, R: NamedFiles + SavedFiles + AllocGlobal, I: Read, O: Write 
     messages: &mut Messages<'_, E>,
 ) -> Result<bool, Fault<'a>>
     requires fresh { messages.now.has_refused ≡ false }
-    ensures done { IfOk result (IsDone (run_files (R.bytes_at rt.now) R.Made.contents (R.is_made_at rt.now) (R.is_saved_at rt.now)) words.entry (I.remaining input.old) (writer_contents O.contents output.old) (writer_contents O.contents output.new)) }
+    ensures done { IfOk result (IsDone (⟦<R as RunHost>⟧.files rt.now) words.entry (I.remaining input.old) (writer_contents O.contents output.old) (writer_contents O.contents output.new)) }
     ensures flushed { OnOk result (writer_buffer output.new ≡ []) }
 {
     let line = words.accept(rt.alloc())?;
@@ -323,7 +306,7 @@ fn answer_words<'a, R: NamedFiles + SavedFiles + AllocGlobal, I: Read, O: Write 
 
 /// Whether the option `--fail-refused` is among the arguments.
 fn names_fail_refused<S: AsStr>(words: &[S]) -> bool
-    ensures { result ≡ list_any (λ word. pointwise nat_eq (S.text word) (codes "--fail-refused")) words.now }
+    ensures { result ≡ names_option S.text (codes "--fail-refused") words.now }
 {
     words.iter().any(|word| word.as_str() == "--fail-refused")
 }
@@ -349,7 +332,7 @@ fn answer_line<'a, R: NamedFiles + SavedFiles + AllocGlobal, I: Read, O: Write +
     requires fresh { messages.now.has_refused ≡ false }
     ensures status { IfOk result (λ status. (status ≡ 0) ⊎ (status ≡ 3)) }
     ensures asked { IfOk result (λ status. status ≡ 3 → is_named ≡ true) }
-    ensures done { IfOk result (IsExitStatus (run_files (R.bytes_at rt.now) R.Made.contents (R.is_made_at rt.now) (R.is_saved_at rt.now)) parsed.now is_named (I.remaining input.old) (writer_contents O.contents output.old) (writer_contents O.contents output.new)) }
+    ensures done { IfOk result (IsExitStatus (⟦<R as RunHost>⟧.files rt.now) parsed.now is_named (I.remaining input.old) (writer_contents O.contents output.old) (writer_contents O.contents output.new)) }
     ensures flushed { OnOk result (writer_buffer output.new ≡ []) }
 {
     match parsed {
@@ -395,10 +378,10 @@ pub fn serve<
     errors: &mut E,
 ) -> u8
     ensures status { result ≤ 3 }
-    ensures done { (result ≡ 0) ⊎ (result ≡ 3) → IsExitStatus (run_files (R.bytes_at rt.now) R.Made.contents (R.is_made_at rt.now) (R.is_saved_at rt.now)) parsed.entry (list_any (λ word. pointwise nat_eq (S.text word) (codes "--fail-refused")) words.now) (I.remaining input.old) (writer_contents O.contents output.old) (writer_contents O.contents output.new) result }
+    ensures done { (result ≡ 0) ⊎ (result ≡ 3) → IsExitStatus (⟦<R as RunHost>⟧.files rt.now) parsed.entry (names_option S.text (codes "--fail-refused") words.now) (I.remaining input.old) (writer_contents O.contents output.old) (writer_contents O.contents output.new) result }
     ensures flushed { result ≡ 0 → writer_buffer output.new ≡ [] }
     ensures failed { result ≡ 3 → writer_buffer output.new ≡ [] }
-    ensures asked { result ≡ 3 → list_any (λ word. pointwise nat_eq (S.text word) (codes "--fail-refused")) words.now ≡ true }
+    ensures asked { result ≡ 3 → names_option S.text (codes "--fail-refused") words.now ≡ true }
 {
     let mut messages = Messages::new(errors, is_asked(words));
     let is_named = names_fail_refused(words);

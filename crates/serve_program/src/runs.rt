@@ -10,6 +10,13 @@ use std::alloc::Global;
 use std::rc::RcSlice;
 use vp8_tables::Tables;
 
+/// What requests are answered over: the settings of the session, and the files of its sources, 1 to 8.
+#[derive(Drop)]
+pub struct Over<'a, B> {
+    pub settings: Settings,
+    pub sources: &'a [B],
+}
+
 /// The bytes of each of these, to be shared.
 pub fn shared(alloc: Global, all: Vec<Vec<u8>>) -> Result<Vec<RcSlice<u8>>, Fault<'static>>
     ensures shared { IfOk result (λ files. map rc_slice_items files.items ≡ map (λ bytes. bytes.items) all.items) }

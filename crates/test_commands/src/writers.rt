@@ -3,7 +3,7 @@ use crate::expected::{Broken, ONE, OPENING, run_line};
 use command_lines::NamedFiles;
 use frame_session::{Capacity, LiveFault, Settings, Unobserved, run_live_over};
 use output_files::SavedFiles;
-use serve_program::{Fault, run_to};
+use serve_program::{Fault, Over, run_to};
 use std::cell::Cell;
 use std::io::{self, BufWriter, Read, Write};
 use std::process::Abort;
@@ -63,16 +63,11 @@ fn fault_of<R: Abort + Files + AllocGlobal, F: Write, P: Write>(
         capacity: Capacity::of_states(1),
     };
     let nobody = &mut Unobserved {};
-    run_to(
-        rt.alloc(),
+    let over = Over {
         settings,
-        &[ONE],
-        b"frame 0\n",
-        frames,
-        replies,
-        nobody,
-    )
-    .err()
+        sources: &[ONE],
+    };
+    run_to(rt.alloc(), over, b"frame 0\n", frames, replies, nobody).err()
 }
 
 /// An error that a buffered writer meets only when it is flushed is reported.

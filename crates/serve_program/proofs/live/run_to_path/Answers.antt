@@ -16,6 +16,6 @@ returns-in-Ok-answered-clause-replied g c =
     let same : frames.inner.inner ≡ c.in-Ok.file = search rules in
     let before : writer_buffer frames ≡ [] = search rules in
     let after : writer_buffer flushed ≡ [] = search rules in
-    live_gained contents is_made path c.args.settings.tables (map rc_slice_items c.args.sources.now) (replies c.args.replies.now) (replies c.run_live_over-answered.new.replies) c.in-Ok-answered.session.state
+    live_gained contents is_made path c.args.over.settings.tables (map rc_slice_items c.args.over.sources.now) (replies c.args.replies.now) (replies c.run_live_over-answered.new.replies) c.in-Ok-answered.session.state
     frames.inner.inner flushed.inner.inner (subst (λ file. is_made path file) (sym same) c.in-Ok.ensures.made) (subst (λ file. IsAtEnd (contents file)) (sym same) c.in-Ok.ensures.empty)
     (writer_buffer frames) (writer_buffer flushed) _ before c.flush_buffer.ensures.kept after _ _ c.in-Ok-answered.ensures.means
