@@ -25,6 +25,8 @@ from library.traced import Program, traced  # noqa: E402
 SERVE = pathlib.Path(os.environ["VP8SERVE"]).resolve()
 KEY = bytes.fromhex("1000009D012A10001000")
 STREAM, SHORTER = ivf(16, 16, [KEY, KEY]), ivf(16, 16, [KEY])
+# The packet ends empty, so an export has a byte 00 after it.
+EXPORTED = ivf(16, 16, [KEY + bytes(1)])
 FRESH = "vp8serve-unfinished-save-1"
 REPLIES = "vp8serve: command line: {} {} is standard output, so replies would be among the {}: name /dev/fd/3 3>&1 >replies\n"
 ERRORS = "vp8serve: command line: {} {} is standard error, so messages would be among the {}: name another file for {}\n"
@@ -201,7 +203,7 @@ def both_or_neither():
             expect(f"call {at}, {calls[-1]}, refused: both files", now, old)
         expect(f"call {at} refused: status and new files", (ended.status, left), (1, []))
     expect("calls of two saves", kinds_of_both(kinds)[0], ["write", "fsync", "write", "fsync", "rename", "rename"])
-    expect("two saves", (ended.status, now, left), (0, {"saved.ivf": SHORTER, "exported.ivf": SHORTER}, []))
+    expect("two saves", (ended.status, now, left), (0, {"saved.ivf": SHORTER, "exported.ivf": EXPORTED}, []))
 
 
 def kinds_of_both(calls):
