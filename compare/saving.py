@@ -27,6 +27,8 @@ KEY = bytes.fromhex("1000009D012A40003000")
 INTER = bytes.fromhex("110000")
 STREAM = ivf(64, 48, [KEY, INTER, INTER])
 SHORTER = ivf(64, 48, [KEY, INTER])
+# The packets end empty, so in an export a byte 00 follows each.
+EXPORTED = {False: ivf(64, 48, [KEY + bytes(1), INTER + bytes(1), INTER + bytes(1)]), True: ivf(64, 48, [KEY + bytes(1), INTER + bytes(1)])}
 FRESH = "vp8serve-unfinished-save-"
 FRAME = 6 + 64 * 48 * 3 // 2
 OPENING = b"YUV4MPEG2 W64 H48 F30:1 Ip C420jpeg\n"
@@ -211,7 +213,8 @@ def memory(option, more):
     known = program_of("vp8serve")
     for number in range(1, saved_without(known, None, option, more)[0].requests + 1):
         ended, saved, replies = saved_without(known, number, option, more)
-        whole = SHORTER if b"ok 2" in replies else STREAM
+        is_shorter = b"ok 2" in replies
+        whole = EXPORTED[is_shorter] if option == "--export" else SHORTER if is_shorter else STREAM
         differs(f"request {number} {option} {more}", saved == (whole if ended.status == 0 else b"old"), True)
         differs(f"request {number} {option} {more} left", fresh(), [])
         TOLD["requests for memory"] += 1
