@@ -3,15 +3,16 @@ use Rattle.std.specs.Prelude.{◌≡◌, ◌+◌, ◌==◌, ◌||◌, not, ℕ, 
 use Rattle.std.specs.List.{list_all, starts_with}
 use Rattle.byteorder.specs.Endian.{little_number}
 use Rattle.stream_files.specs.Ivf.{HasRecord, Records, body, header_length}
-use Rattle.stream_files.specs.declared.ivf.IvfFault.{IvfFault}
-use Rattle.stream_files.specs.declared.ivf.IvfFault.TheVariants as faults
+use Rattle.stream_sources.specs.declared.faults.StreamFault.{StreamFault}
+use Rattle.stream_sources.specs.declared.faults.StreamFault.TheVariants as faults
+use Rattle.webm_files.specs.Files.{is_marked}
 use Rattle.stream_files.specs.declared.packets.Packet.{Packet}
 use Rattle.command_lines.specs.Formats.{format_of}
 use Rattle.command_lines.specs.declared.formats.Format.{Format}
 use Rattle.explanations.specs.Lines.{is_binary}
 use Rattle.explanations.specs.declared.files.CutRecord.{CutRecord}
 use Rattle.explanations.specs.declared.files.StreamReason.{StreamReason}
-use Rattle.explanations.specs.declared.files.StreamReason.TheVariants.{Short, Other, Gzip, Zeros, Text, NoIvf, Codec, HeaderLength, TooMany, NoMemory}
+use Rattle.explanations.specs.declared.files.StreamReason.TheVariants.{Short, Other, Gzip, Zeros, Text, NoIvf, Codec, NoHeader, OtherKind, NoTracks, NoVideo, Encoded, Scale, HeaderLength, TooMany, TooManyParts, NoMemory}
 
 -- gzip's magic number
 abbrev pub is_gzip : List ℕ → Bool
@@ -46,12 +47,17 @@ abbrev pub given_length : List ℕ → ℕ
 given_length bytes = if nat_le 8 (length bytes) then header_length bytes else 0
 
 -- the reason of an error in a file's bytes: the name of another codec is the four bytes at byte 8
-abbrev pub stream_reason : List ℕ → IvfFault → StreamReason
-stream_reason bytes faults.Header = unwrap_or (kind_of bytes) Short
+abbrev pub stream_reason : List ℕ → StreamFault → StreamReason
+stream_reason bytes faults.Header = if is_marked bytes then NoHeader else unwrap_or (kind_of bytes) Short
 stream_reason bytes faults.Magic = unwrap_or (kind_of bytes) NoIvf
 stream_reason bytes faults.FourCc = Codec
 stream_reason bytes faults.HeaderLength = HeaderLength (given_length bytes)
-stream_reason bytes faults.TooMany = TooMany
+stream_reason bytes faults.DocType = OtherKind
+stream_reason bytes faults.NoTracks = NoTracks
+stream_reason bytes faults.NoVideo = NoVideo
+stream_reason bytes faults.Encoded = Encoded
+stream_reason bytes faults.Scale = Scale
+stream_reason bytes faults.TooMany = if is_marked bytes then TooManyParts else TooMany
 stream_reason bytes faults.NoMemory = NoMemory
 
 -- after its whole records a file has bytes, which begin with no whole record

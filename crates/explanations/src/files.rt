@@ -8,7 +8,8 @@ ghost use Rattle.explanations.specs.Files.{EndsWhole, IsCutRecord, given_length,
 use crate::lines::is_binary;
 use byteorder::{ByteOrder, LittleEndian};
 use command_lines::{Format, format_of};
-use stream_files::IvfFault;
+use stream_sources::StreamFault;
+use webm_files::is_marked;
 
 /// Why the bytes of a file are not read as a stream.
 #[derive(Clone, Copy, Debug, PartialEq, Eq)]
@@ -27,10 +28,24 @@ pub enum StreamReason {
     NoIvf,
     /// An IVF file of another codec.
     Codec,
+    /// It begins with EBML's mark, and its EBML header is not whole.
+    NoHeader,
+    /// An EBML file that is neither WebM nor Matroska.
+    OtherKind,
+    /// A WebM file without Tracks.
+    NoTracks,
+    /// A WebM file without a track of VP8.
+    NoVideo,
+    /// A WebM file whose packets are compressed or encrypted once more.
+    Encoded,
+    /// A WebM file whose unit of time is not allowed.
+    Scale,
     /// The header gives itself this length, which is under 32 or past the end of the file.
     HeaderLength(u16),
     /// More packets than are allowed.
     TooMany,
+    /// A WebM file with more packets, elements or tracks than are allowed.
+    TooManyParts,
     /// Out of memory for the packets.
     NoMemory,
 }
@@ -92,16 +107,23 @@ fn kind_of(bytes: &[u8]) -> Option<StreamReason>
 }
 
 /// The reason of an error in the bytes of a file, which begins with these.
-pub fn stream_reason(bytes: &[u8], fault: IvfFault) -> StreamReason
+pub fn stream_reason(bytes: &[u8], fault: StreamFault) -> StreamReason
     ensures { result ≡ stream_reason bytes.now fault }
 {
     match fault {
-        IvfFault::Header => kind_of(bytes).unwrap_or(StreamReason::Short),
-        IvfFault::Magic => kind_of(bytes).unwrap_or(StreamReason::NoIvf),
-        IvfFault::FourCc => StreamReason::Codec,
-        IvfFault::HeaderLength => StreamReason::HeaderLength(header_length(bytes)),
-        IvfFault::TooMany => StreamReason::TooMany,
-        IvfFault::NoMemory => StreamReason::NoMemory,
+        StreamFault::Header if is_marked(bytes) => StreamReason::NoHeader,
+        StreamFault::Header => kind_of(bytes).unwrap_or(StreamReason::Short),
+        StreamFault::Magic => kind_of(bytes).unwrap_or(StreamReason::NoIvf),
+        StreamFault::FourCc => StreamReason::Codec,
+        StreamFault::HeaderLength => StreamReason::HeaderLength(header_length(bytes)),
+        StreamFault::DocType => StreamReason::OtherKind,
+        StreamFault::NoTracks => StreamReason::NoTracks,
+        StreamFault::NoVideo => StreamReason::NoVideo,
+        StreamFault::Encoded => StreamReason::Encoded,
+        StreamFault::Scale => StreamReason::Scale,
+        StreamFault::TooMany if is_marked(bytes) => StreamReason::TooManyParts,
+        StreamFault::TooMany => StreamReason::TooMany,
+        StreamFault::NoMemory => StreamReason::NoMemory,
     }
 }
 

@@ -24,7 +24,7 @@ use Rattle.frame_session.specs.Questions.{GainsAnswer, answer_to}
 use Rattle.frame_session.specs.Replies.{refused_line, edit_line, served_line}
 use Rattle.frame_session.specs.Sessions.{IsAfterFrame, choice_answer, current_list, now_after_choice, now_after_edit, now_after_script, frame_of, rate_due, script_answer, size_given}
 use Rattle.frame_session.specs.Cached.{FrameCosts, SessionValue, begun, needs_picture, packet_of_frame}
-use Rattle.frame_session.specs.Answers.{Answer, Answers, AreIvfs, WritesAnswers, WritesAnswer, answer_to_frame, opening, reply_only, requests_of}
+use Rattle.frame_session.specs.Answers.{Answer, Answers, AreStreams, WritesAnswers, WritesAnswer, answer_to_frame, opening, reply_only, requests_of}
 use Rattle.frame_session.specs.LineCosts.{AnswersAtCost, EditCosts, LineCosts, MeansAtCost, RunCosts, RunsAtCost}
 use Rattle.frame_session.proofs.Served.{frame_same, size_same}
 
@@ -151,7 +151,7 @@ all_at_cost old new done left all f f' r r' none whole ran costs =
     subst (λ (ls : List Line). RunsAtCost old ls f f' r r' new) same (record { runs = ran; costs = costs })
 
 -- a run from its first session
-pub means_at_cost : (tables : Tables) (capacity : Capacity) (sources : List (List ℕ)) (requests : List ℕ) (f f' r r' : Option (List ℕ)) (files : List Stream) (first end : SessionValue) → AreIvfs sources files → first ≡ begun tables capacity files → RunsAtCost first (requests_of requests) f f' r r' end → MeansAtCost tables capacity sources requests f f' r r' end
+pub means_at_cost : (tables : Tables) (capacity : Capacity) (sources : List (List ℕ)) (requests : List ℕ) (f f' r r' : Option (List ℕ)) (files : List Stream) (first end : SessionValue) → AreStreams sources files → first ≡ begun tables capacity files → RunsAtCost first (requests_of requests) f f' r r' end → MeansAtCost tables capacity sources requests f f' r r' end
 means_at_cost tables capacity sources requests f f' r r' files first end are is ran =
     let so : RunsAtCost (begun tables capacity files) (requests_of requests) f f' r r' end = subst (λ (v : SessionValue). RunsAtCost v (requests_of requests) f f' r r' end) is ran in
     record { means = record { files = files; are = are; runs = so.runs }; costs = so.costs }

@@ -17,7 +17,7 @@ use Rattle.frame_session.specs.Sessions.{SessionState}
 use Rattle.frame_session.specs.Cached.{SessionValue, begun}
 use Rattle.frame_session.specs.LineCosts.{LineCosts, LiveMeansAtCost}
 use Rattle.frame_session.proofs.AtCost.{costs_append}
-use Rattle.frame_session.specs.Answers.{Answer, AreIvfs, AnswersEach, WritesAnswers, WritesAnswer, WritesUntilError, WritesFrameFirst, frames_of, replies_of}
+use Rattle.frame_session.specs.Answers.{Answer, AreStreams, AnswersEach, WritesAnswers, WritesAnswer, WritesUntilError, WritesFrameFirst, frames_of, replies_of}
 use Rattle.frame_session.specs.Live.{AnswersText, AreAsked, CutsOff, IsAsked, IsCutOff, LiveEnds, LiveMeans, LiveRefuses, longest_line}
 use Rattle.frame_session.specs.declared.live.LineRead.{LineRead}
 use Rattle.frame_session.specs.Noted.{LiveMeansNoted, refuses_some}
@@ -175,7 +175,7 @@ text_none old a f r seen = record {
 
 -- a line that is cut off after more lines
 cut_off_later : (before text part : List ℕ) (fault : LiveFault) → IsEmptyOrEndsWith before 10 → IsCutOff text part fault → IsCutOff (before ++ text) part fault
-cut_off_later before text part (faults.Ivf source why) ends cut = cut
+cut_off_later before text part (faults.Source source why) ends cut = cut
 cut_off_later before text part faults.Read ends cut = cut
 cut_off_later before text part faults.TooLong ends cut = cut
 cut_off_later before text part faults.Endless ends cut = (cut.0, omega (arith, cut.1, count-append before text ends))
@@ -223,7 +223,7 @@ module _ (least : ℕ) (old mid new : SessionValue) (a b c f f' f'' r r' r'' : O
   }
 
   pub ends_more : (fault : LiveFault) → LiveEnds mid.state b c f' f'' r' r'' fault → LiveEnds old.state a c f f'' r r'' fault
-  ends_more (faults.Ivf source why) y = cut_more (faults.Ivf source why) y
+  ends_more (faults.Source source why) y = cut_more (faults.Source source why) y
   ends_more faults.Read y = cut_more faults.Read y
   ends_more faults.TooLong y = cut_more faults.TooLong y
   ends_more faults.Endless y = cut_more faults.Endless y
@@ -260,7 +260,7 @@ module _ (old : SessionState) (a b f r : Option (List ℕ)) (part : List ℕ) (t
 
   -- the first line was not read
   pub ends_first : (fault : LiveFault) → IsCutOff [] part fault → LiveEnds old a b f f r r fault
-  ends_first (faults.Ivf source why) cut = absurd cut
+  ends_first (faults.Source source why) cut = absurd cut
   ends_first faults.Read cut = cut_first faults.Read cut
   ends_first faults.TooLong cut = cut_first faults.TooLong cut
   ends_first faults.Endless cut = cut_first faults.Endless cut
@@ -274,7 +274,7 @@ read_all (Some xs) None text taken end = absurd taken
 read_all (Some xs) (Some ys) text taken end = sym (taken ∙ ap (λ rest. text ++ rest) end ∙ append-nil text)
 
 -- a run of live lines from its first session
-module _ (tables : Tables) (capacity : Capacity) (sources : List (List ℕ)) (a b f f' r r' : Option (List ℕ)) (seen seen' : Bool) (files : List Stream) (first end : SessionValue) (are : AreIvfs sources files) (is : first ≡ begun tables capacity files) (ran : RunsText 0 first end a b f f' r r' false seen seen') where
+module _ (tables : Tables) (capacity : Capacity) (sources : List (List ℕ)) (a b f f' r r' : Option (List ℕ)) (seen seen' : Bool) (files : List Stream) (first end : SessionValue) (are : AreStreams sources files) (is : first ≡ begun tables capacity files) (ran : RunsText 0 first end a b f f' r r' false seen seen') where
   so : RunsText 0 (begun tables capacity files) end a b f f' r r' false seen seen'
   so = subst (λ (v : SessionValue). RunsText 0 v end a b f f' r r' false seen seen') is ran
 

@@ -7,7 +7,7 @@ use Rattle.request_lines.specs.declared.lines.Line.{Line}
 use Rattle.request_lines.specs.declared.lines.Line.TheVariants as requests
 use Rattle.state_cache.specs.declared.capacity.Capacity.{Capacity}
 use Rattle.frame_session.specs.declared.refusal.Refusal.{Refusal}
-use Rattle.frame_session.specs.Answers.{Answer, AreIvfs, AnswersEach, WritesAnswers, requests_of}
+use Rattle.frame_session.specs.Answers.{Answer, AreStreams, AnswersEach, WritesAnswers, requests_of}
 use Rattle.frame_session.specs.Cached.{SessionValue, begun}
 use Rattle.frame_session.specs.Noted.{MeansNoted, Notes, RunsNoted, is_frame, refuses_frame, refuses_some}
 use Rattle.frame_session.specs.Sessions.{SessionState, start}
@@ -61,7 +61,7 @@ all_noted old new done left all f f' r r' seen seen' none whole ran noted =
     subst (λ (ls : List Line). RunsNoted old ls f f' r r' new seen seen') same (record { runs = ran; noted = noted })
 
 -- a run from its first session
-pub means_noted : (tables : Tables) (capacity : Capacity) (sources : List (List ℕ)) (requests : List ℕ) (f f' r r' : Option (List ℕ)) (files : List Stream) (first : SessionValue) (end : SessionState) (seen seen' : Bool) → AreIvfs sources files → first ≡ begun tables capacity files → RunsNoted first.state (requests_of requests) f f' r r' end seen seen' → MeansNoted tables sources requests f f' r r' end seen seen'
+pub means_noted : (tables : Tables) (capacity : Capacity) (sources : List (List ℕ)) (requests : List ℕ) (f f' r r' : Option (List ℕ)) (files : List Stream) (first : SessionValue) (end : SessionState) (seen seen' : Bool) → AreStreams sources files → first ≡ begun tables capacity files → RunsNoted first.state (requests_of requests) f f' r r' end seen seen' → MeansNoted tables sources requests f f' r r' end seen seen'
 means_noted tables capacity sources requests f f' r r' files first end seen seen' are is ran =
     let so : RunsNoted (start tables files) (requests_of requests) f f' r r' end seen seen' = subst (λ (v : SessionValue). RunsNoted v.state (requests_of requests) f f' r r' end seen seen') is ran in
     record { means = record { files = files; are = are; runs = so.runs }; noted = so.noted }

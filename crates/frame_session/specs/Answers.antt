@@ -8,8 +8,9 @@ use Rattle.vp8_tables.specs.declared.tables.Tables.{Tables}
 use Rattle.script_nodes.specs.Shown.{Shown}
 use Rattle.stream_files.specs.declared.streams.FrameRate.{FrameRate}
 use Rattle.stream_files.specs.declared.streams.Stream.{Stream}
-use Rattle.stream_files.specs.declared.ivf.IvfFault.{IvfFault}
-use Rattle.stream_files.specs.Ivf.{IsIvf, IvfRefuses}
+use Rattle.stream_sources.specs.declared.faults.StreamFault.{StreamFault}
+use Rattle.stream_sources.specs.Sources.{IsStream}
+use Rattle.stream_sources.specs.Faults.{StreamRefuses}
 use Rattle.stream_files.specs.Y4m.{y4m_line}
 use Rattle.request_lines.specs.declared.lines.Line.{Line}
 use Rattle.request_lines.specs.declared.lines.Line.TheVariants as requests
@@ -126,31 +127,36 @@ abbrev pub texts_of : List (Bor (List ℕ)) → List (List ℕ)
 texts_of sources = map (λ bytes. bytes.now) sources
 
 -- files are read from these bytes, one for each
-abbrev pub AreIvfs : List (List ℕ) → List Stream → Type 0
-AreIvfs [] [] = Unit {0}
-AreIvfs (bytes ∷ more) (file ∷ files) = IsIvf bytes file × AreIvfs more files
-AreIvfs [] (file ∷ files) = ⊥
-AreIvfs (bytes ∷ more) [] = ⊥
+abbrev pub AreStreams : List (List ℕ) → List Stream → Type 0
+AreStreams [] [] = Unit {0}
+AreStreams (bytes ∷ more) (file ∷ files) = IsStream bytes file × AreStreams more files
+AreStreams [] (file ∷ files) = ⊥
+AreStreams (bytes ∷ more) [] = ⊥
 
 -- the requests of this text were answered over the files of these bytes
 pub record Means (tables : Tables) (sources : List (List ℕ)) (requests : List ℕ) (frames frames' replies replies' : Option (List ℕ)) (end : SessionState) : Type 0 where
   pub files : List Stream
-  pub are : AreIvfs sources files
+  pub are : AreStreams sources files
   pub runs : WritesAnswers (start tables files) (requests_of requests) frames frames' replies replies' end
 
 -- the error of reading a source is exactly the error of reading its bytes, and each source before it is a file
-pub record SourceRefuses (sources : List (List ℕ)) (source : ℕ) (fault : IvfFault) : Type 0 where
+pub record SourceRefuses (sources : List (List ℕ)) (source : ℕ) (fault : StreamFault) : Type 0 where
   pub bytes : List ℕ
   pub is_its : slice_get sources source ≡ Some bytes
-  pub refuses : IvfRefuses bytes fault
+  pub refuses : StreamRefuses bytes fault
   pub files : List Stream
-  pub earlier : AreIvfs (take source sources) files
+  pub earlier : AreStreams (take source sources) files
+
+-- reading the sources ends at an error of one of them, and at no other
+abbrev pub IsSourceRefused : List (List ℕ) → RunFault → Type 0
+IsSourceRefused sources (faults.Source source fault) = SourceRefuses sources source fault
+IsSourceRefused sources other = ⊥
 
 -- how a run ends without a session. If a source is not a file, the error is the first one's; otherwise all are files. Nothing is
 -- written before the first line, and a writer's error stops the run within its request list: no reply begins before its whole
 -- frame is written
 abbrev pub RunStops : Tables → (sources : List (List ℕ)) → (requests : List ℕ) → (frames frames' replies replies' : Option (List ℕ)) → RunFault → Type 0
-RunStops tables sources requests frames frames' replies replies' (faults.Ivf source fault) = SourceRefuses sources source fault × Keeps frames frames' × Keeps replies replies'
-RunStops tables sources requests frames frames' replies replies' faults.NoMemory = (files : List Stream) × AreIvfs sources files × Keeps frames frames' × Keeps replies replies'
+RunStops tables sources requests frames frames' replies replies' (faults.Source source fault) = SourceRefuses sources source fault × Keeps frames frames' × Keeps replies replies'
+RunStops tables sources requests frames frames' replies replies' faults.NoMemory = (files : List Stream) × AreStreams sources files × Keeps frames frames' × Keeps replies replies'
 RunStops tables sources requests frames frames' replies replies' faults.Write =
-    (files : List Stream) × AreIvfs sources files × WritesUntilError (start tables files) (requests_of requests) frames frames' replies replies'
+    (files : List Stream) × AreStreams sources files × WritesUntilError (start tables files) (requests_of requests) frames frames' replies replies'

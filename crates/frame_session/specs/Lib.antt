@@ -8,7 +8,6 @@ pub mod Origins
 pub mod Questions
 pub mod Cached
 pub mod Answers
-pub mod ProofsOnly
 pub mod Laws
 pub mod LineCosts
 pub mod Live

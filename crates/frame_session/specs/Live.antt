@@ -14,7 +14,7 @@ use Rattle.frame_session.specs.declared.live.LiveFault.{LiveFault}
 use Rattle.frame_session.specs.declared.live.LiveFault.TheVariants as faults
 use Rattle.frame_session.specs.declared.serving.RunFault.{RunFault}
 use Rattle.frame_session.specs.declared.serving.RunFault.TheVariants as runs
-use Rattle.frame_session.specs.Answers.{AreIvfs, WritesAnswers, SourceRefuses, WritesUntilError}
+use Rattle.frame_session.specs.Answers.{AreStreams, WritesAnswers, SourceRefuses, WritesUntilError}
 use Rattle.frame_session.specs.Sessions.{SessionState, start}
 
 -- the most bytes of a line, its newline not counted
@@ -50,7 +50,7 @@ pub record LiveMeans (tables : Tables) (sources : List (List ℕ)) (left left' f
   pub taken : Consumes left left' text
   pub all : IfSome left (λ bytes. text ≡ bytes)
   pub files : List Stream
-  pub are : AreIvfs sources files
+  pub are : AreStreams sources files
   pub answers : AnswersText (start tables files) text frames frames' replies replies' end
 
 -- why reading ended after the lines of `text`, within a line or before one: `part` is its begin, in which there is no newline
@@ -91,13 +91,13 @@ LeavesAll left left' frames frames' replies replies' = (left' ≡ left) × Keeps
 -- why a live run returns no session: an error of a source is the first one; otherwise all sources are files, and either there was no memory
 -- at the start, or lines were not answered
 abbrev pub LiveStops : Tables → (sources : List (List ℕ)) → (left left' frames frames' replies replies' : Option (List ℕ)) → LiveFault → Type 0
-LiveStops tables sources left left' frames frames' replies replies' (faults.Ivf source fault) = SourceRefuses sources source fault × LeavesAll left left' frames frames' replies replies'
-LiveStops tables sources left left' frames frames' replies replies' faults.NoMemory = (files : List Stream) × AreIvfs sources files × LeavesAll left left' frames frames' replies replies'
+LiveStops tables sources left left' frames frames' replies replies' (faults.Source source fault) = SourceRefuses sources source fault × LeavesAll left left' frames frames' replies replies'
+LiveStops tables sources left left' frames frames' replies replies' faults.NoMemory = (files : List Stream) × AreStreams sources files × LeavesAll left left' frames frames' replies replies'
 LiveStops tables sources left left' frames frames' replies replies' fault =
-    (files : List Stream) × AreIvfs sources files × LiveEnds (start tables files) left left' frames frames' replies replies' fault
+    (files : List Stream) × AreStreams sources files × LiveEnds (start tables files) left left' frames frames' replies replies' fault
 
 -- a run's error as that of a live run
 abbrev pub live_fault_by : RunFault → LiveFault
-live_fault_by (runs.Ivf source fault) = faults.Ivf source fault
+live_fault_by (runs.Source source fault) = faults.Source source fault
 live_fault_by runs.Write = faults.Write
 live_fault_by runs.NoMemory = faults.NoMemory

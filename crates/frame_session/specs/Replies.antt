@@ -100,13 +100,13 @@ text_reply text = lines_line (newlines text) ++ text
 
 -- the name of a run's error
 abbrev pub run_fault_word : RunFault → List ℕ
-run_fault_word (faults.Ivf source fault) = codes "Ivf"
+run_fault_word (faults.Source source fault) = codes "Source"
 run_fault_word faults.Write = codes "Write"
 run_fault_word faults.NoMemory = codes "NoMemory"
 
 -- the name of a live run's error
 abbrev pub live_fault_word : LiveFault → List ℕ
-live_fault_word (lives.Ivf source fault) = codes "Ivf"
+live_fault_word (lives.Source source fault) = codes "Source"
 live_fault_word lives.Read = codes "Read"
 live_fault_word lives.TooLong = codes "TooLong"
 live_fault_word lives.Endless = codes "Endless"

@@ -15,7 +15,8 @@ use crate::settings::Settings;
 use request_lines::{Beginning, Line, read_line, without_carriage_return};
 use std::alloc::Global;
 use std::io::{self, BufRead, ErrorKind, Write};
-use stream_files::{FileBytes, IvfFault};
+use stream_files::FileBytes;
+use stream_sources::StreamFault;
 use text_words::length_before;
 use thiserror::Error;
 use vp8_tables::Tables;
@@ -26,10 +27,10 @@ const LONGEST_LINE: usize = 1_073_741_824;
 /// Why a live run returns no session.
 #[derive(Clone, Copy, Debug, PartialEq, Eq, Error)]
 pub enum LiveFault {
-    /// The bytes of a source are not an IVF file, or out of memory for its packets. It is the first such
+    /// The bytes of a source are not a stream, or out of memory for its packets. It is the first such
     /// source. Nothing was read or written.
     #[error("source {source} cannot be read: {fault}")]
-    Ivf { source: usize, fault: IvfFault },
+    Source { source: usize, fault: StreamFault },
     /// The reader returned an error, or 2^64 - 1 times within a line that it was interrupted. The lines before it were
     /// answered.
     #[error("the reader returned an error")]
@@ -49,12 +50,12 @@ pub enum LiveFault {
 }
 
 impl LiveFault {
-    /// The error's name; that of a file error is `Ivf`.
+    /// The error's name; that of a source that is not read is `Source`.
     pub fn word(self) -> &'static str
         ensures { result.now ≡ live_fault_word self }
     {
         match self {
-            LiveFault::Ivf { .. } => "Ivf",
+            LiveFault::Source { .. } => "Source",
             LiveFault::Read => "Read",
             LiveFault::TooLong => "TooLong",
             LiveFault::Endless => "Endless",
@@ -69,7 +70,7 @@ impl From<RunFault> for LiveFault {
 
     fn from(fault: RunFault) -> Self {
         match fault {
-            RunFault::Ivf { source, fault } => LiveFault::Ivf { source, fault },
+            RunFault::Source { source, fault } => LiveFault::Source { source, fault },
             RunFault::Write => LiveFault::Write,
             RunFault::NoMemory => LiveFault::NoMemory,
         }
@@ -251,14 +252,14 @@ fn serve_live<I: BufRead, F: Write, P: Write, V: Observer>(
     Err(LiveFault::Endless)
 }
 
-/// Runs requests over IVF files, 1 to 8, as `run_over` does, but answers each line of `input` when its newline is read:
+/// Runs requests over files, 1 to 8, as `run_over` does, but answers each line of `input` when its newline is read:
 /// its frame is written and flushed, then its reply is written and flushed, the observer is called, and only then the next line is read.
 ///
 /// The last line may be unterminated. A line has at most 1,073,741,824 bytes, its newline not counted. The memory
 /// is that of the session and of one line, however many lines there are. A line for which there is no memory is refused as
 /// NoMemory, its bytes are dropped, and the next line is answered.
 ///
-/// `LiveFault::Ivf` with the first source whose bytes are not an IVF file, or for whose packets there is no
+/// `LiveFault::Source` with the first source whose bytes are no stream, or for whose packets there is no
 /// memory, and `LiveFault::NoMemory` if out of memory for the session: nothing is read or written then. `LiveFault::Read` if the
 /// reader fails, `LiveFault::TooLong` if a line is too long, and `LiveFault::Endless` after 2^64 - 1 lines: the lines
 /// before that were answered. `LiveFault::Write` if a writer fails: nothing was read after the line whose answer could not be
@@ -266,23 +267,23 @@ fn serve_live<I: BufRead, F: Write, P: Write, V: Observer>(
 pub fn run_live_over<B: FileBytes, I: BufRead, F: Write, P: Write, V: Observer>(
     alloc: Global,
     settings: Settings,
-    ivfs: &[B],
+    files: &[B],
     input: &mut I,
     frames: &mut F,
     replies: &mut P,
     observer: &mut V,
 ) -> Result<Session, LiveFault>
     requires capacity { (1 ≤ settings.capacity.states) × (settings.capacity.states ≤ 4096) }
-    requires sources { (1 ≤ length ivfs.now) × (length ivfs.now ≤ 8) }
-    ensures means { IfOk result (λ session. LiveMeans settings.tables (map B.bytes ivfs.now) (I.remaining input.old) (I.remaining input.new) (F.contents frames.old) (F.contents frames.new) (P.contents replies.old) (P.contents replies.new) session.state) }
-    ensures costs { IfOk result (LiveMeansAtCost settings.tables settings.capacity (map B.bytes ivfs.now) (I.remaining input.old) (I.remaining input.new) (F.contents frames.old) (F.contents frames.new) (P.contents replies.old) (P.contents replies.new)) }
-    ensures noted { IfOk result (λ session. LiveMeansNoted settings.tables (map B.bytes ivfs.now) (I.remaining input.old) (I.remaining input.new) (F.contents frames.old) (F.contents frames.new) (P.contents replies.old) (P.contents replies.new) session.state (V.has_refused observer.old) (V.has_refused observer.new)) }
+    requires sources { (1 ≤ length files.now) × (length files.now ≤ 8) }
+    ensures means { IfOk result (λ session. LiveMeans settings.tables (map B.bytes files.now) (I.remaining input.old) (I.remaining input.new) (F.contents frames.old) (F.contents frames.new) (P.contents replies.old) (P.contents replies.new) session.state) }
+    ensures costs { IfOk result (LiveMeansAtCost settings.tables settings.capacity (map B.bytes files.now) (I.remaining input.old) (I.remaining input.new) (F.contents frames.old) (F.contents frames.new) (P.contents replies.old) (P.contents replies.new)) }
+    ensures noted { IfOk result (λ session. LiveMeansNoted settings.tables (map B.bytes files.now) (I.remaining input.old) (I.remaining input.new) (F.contents frames.old) (F.contents frames.new) (P.contents replies.old) (P.contents replies.new) session.state (V.has_refused observer.old) (V.has_refused observer.new)) }
     ensures capacity { IfOk result (λ session. session.cache.capacity ≡ settings.capacity) }
-    ensures stops { IfErr result (LiveStops settings.tables (map B.bytes ivfs.now) (I.remaining input.old) (I.remaining input.new) (F.contents frames.old) (F.contents frames.new) (P.contents replies.old) (P.contents replies.new)) }
+    ensures stops { IfErr result (LiveStops settings.tables (map B.bytes files.now) (I.remaining input.old) (I.remaining input.new) (F.contents frames.old) (F.contents frames.new) (P.contents replies.old) (P.contents replies.new)) }
 {
     let Settings { tables, capacity } = settings;
-    let files = read_sources(alloc, ivfs)?;
-    let mut session = match Session::within(alloc, tables, capacity, files) {
+    let streams = read_sources(alloc, files)?;
+    let mut session = match Session::within(alloc, tables, capacity, streams) {
         Ok(session) => session,
         Err(_) => return Err(LiveFault::NoMemory),
     };

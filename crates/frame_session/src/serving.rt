@@ -1,4 +1,5 @@
 ghost use Rattle.std.specs.Prelude.{◌≡◌, ◌⊎◌, ℕ, ◌≤◌, ◌++◌, true, IfOk, OnOk, IfErr, OnErr, Result, length, map};
+ghost use Rattle.std.specs.List.{All};
 ghost use Rattle.std.specs.Io.KnownBytes.{Appends, Keeps};
 ghost use Rattle.stream_files.specs.Y4m.{frame_text};
 ghost use Rattle.frame_session.specs.declared.refusal.Refusal.{Refusal};
@@ -7,10 +8,9 @@ ghost use Rattle.frame_session.specs.Replies.{count_line, served_line};
 ghost use Rattle.frame_session.specs.Sessions.{frame_count, packet_count};
 ghost use Rattle.request_lines.specs.Requests.{asked_by};
 ghost use Rattle.state_cache.specs.Reaching.{of_states};
-ghost use Rattle.frame_session.specs.ProofsOnly.{IsSourceRefused};
 ghost use Rattle.frame_session.specs.Noted.{MeansNoted, RunsNoted};
 ghost use Rattle.frame_session.specs.Told.{Tells};
-ghost use Rattle.frame_session.specs.Answers.{AreIvfs, Means, RunStops, WritesAnswers, WritesAnswer, WritesUntilError, WritesFrameFirst, opening, requests_of, texts_of};
+ghost use Rattle.frame_session.specs.Answers.{AreStreams, IsSourceRefused, Means, RunStops, WritesAnswers, WritesAnswer, WritesUntilError, WritesFrameFirst, opening, requests_of, texts_of};
 ghost use Rattle.frame_session.specs.LineCosts.{AnswersAtCost, MeansAtCost, RunsAtCost};
 
 use crate::observer::{Observer, Unobserved};
@@ -23,19 +23,18 @@ use request_lines::{Line, next_line, read_line};
 use state_cache::Capacity;
 use std::alloc::Global;
 use std::io::Write;
-use stream_files::{
-    FileBytes, FrameRate, IvfFault, Stream, WriteFault, ivf_read_from, y4m_frame, y4m_header,
-};
+use stream_files::{FileBytes, FrameRate, Stream, WriteFault, y4m_frame, y4m_header};
+use stream_sources::{StreamFault, stream_read_from};
 use thiserror::Error;
 use vp8_tables::Tables;
 
 /// Why a run returns no session.
 #[derive(Clone, Copy, Debug, PartialEq, Eq, Error)]
 pub enum RunFault {
-    /// The bytes of a source are not an IVF file, or out of memory for its packets. It is the first such
+    /// The bytes of a source are not a stream, or out of memory for its packets. It is the first such
     /// source.
     #[error("source {source} cannot be read: {fault}")]
-    Ivf { source: usize, fault: IvfFault },
+    Source { source: usize, fault: StreamFault },
     /// A writer returned an error. How much was written is left open.
     #[error("a writer returned an error")]
     Write,
@@ -47,12 +46,12 @@ pub enum RunFault {
 impl RunFault {
     ghost use Rattle.frame_session.specs.Replies.{run_fault_word};
 
-    /// The error's name; that of a file error is `Ivf`.
+    /// The error's name; that of a source that is not read is `Source`.
     pub fn word(self) -> &'static str
         ensures { result.now ≡ run_fault_word self }
     {
         match self {
-            RunFault::Ivf { .. } => "Ivf",
+            RunFault::Source { .. } => "Source",
             RunFault::Write => "Write",
             RunFault::NoMemory => "NoMemory",
         }
@@ -271,25 +270,28 @@ pub(crate) fn serve_all<F: Write, P: Write, V: Observer>(
     }
 }
 
-/// Reads the file of each source.
+/// Reads the file of each source: an IVF file, or the video of a WebM or Matroska file.
 ///
-/// `RunFault::Ivf` with the first source whose bytes are not an IVF file, or for whose packets there is no
+/// `RunFault::Source` with the first source whose bytes are no stream, or for whose packets there is no
 /// memory.
-pub(crate) fn read_sources<B: FileBytes>(alloc: Global, ivfs: &[B]) -> Result<Vec<Stream>, RunFault>
-    ensures are { IfOk result (λ files. AreIvfs (map B.bytes ivfs.now) files.items) }
-    ensures refused { IfErr result (IsSourceRefused (map B.bytes ivfs.now)) }
+pub fn read_sources<B: FileBytes>(alloc: Global, sources: &[B]) -> Result<Vec<Stream>, RunFault>
+    ensures are { IfOk result (λ files. AreStreams (map B.bytes sources.now) files.items) }
+    ensures count { IfOk result (λ files. length files.items ≡ length sources.now) }
+    ensures few { IfOk result (λ files. All (λ file. length file.packets ≤ 1048576) files.items) }
+    ensures refused { IfErr result (IsSourceRefused (map B.bytes sources.now)) }
 {
+    stream_sources::laws::streams_are_few();
     let mut files = Vec::new(alloc);
-    for bytes in ivfs {
+    for bytes in sources {
         let source = files.len();
-        let file = match ivf_read_from(alloc, bytes) {
+        let file = match stream_read_from(alloc, bytes) {
             Ok(file) => file,
-            Err(fault) => return Err(RunFault::Ivf { source, fault }),
+            Err(fault) => return Err(RunFault::Source { source, fault }),
         };
         let Ok(()) = files.push(file) else {
-            return Err(RunFault::Ivf {
+            return Err(RunFault::Source {
                 source,
-                fault: IvfFault::NoMemory,
+                fault: StreamFault::NoMemory,
             });
         };
     }
@@ -301,23 +303,23 @@ pub(crate) fn read_sources<B: FileBytes>(alloc: Global, ivfs: &[B]) -> Result<Ve
 pub fn run_over<B: FileBytes, F: Write, P: Write, V: Observer>(
     alloc: Global,
     settings: Settings,
-    ivfs: &[B],
+    files: &[B],
     requests: &[u8],
     frames: &mut F,
     replies: &mut P,
     observer: &mut V,
 ) -> Result<Session, RunFault>
     requires capacity { (1 ≤ settings.capacity.states) × (settings.capacity.states ≤ 4096) }
-    requires sources { (1 ≤ length ivfs.now) × (length ivfs.now ≤ 8) }
-    ensures means { IfOk result (λ session. Means settings.tables (map B.bytes ivfs.now) requests.now (F.contents frames.old) (F.contents frames.new) (P.contents replies.old) (P.contents replies.new) session.state) }
-    ensures costs { IfOk result (MeansAtCost settings.tables settings.capacity (map B.bytes ivfs.now) requests.now (F.contents frames.old) (F.contents frames.new) (P.contents replies.old) (P.contents replies.new)) }
-    ensures noted { IfOk result (λ session. MeansNoted settings.tables (map B.bytes ivfs.now) requests.now (F.contents frames.old) (F.contents frames.new) (P.contents replies.old) (P.contents replies.new) session.state (V.has_refused observer.old) (V.has_refused observer.new)) }
+    requires sources { (1 ≤ length files.now) × (length files.now ≤ 8) }
+    ensures means { IfOk result (λ session. Means settings.tables (map B.bytes files.now) requests.now (F.contents frames.old) (F.contents frames.new) (P.contents replies.old) (P.contents replies.new) session.state) }
+    ensures costs { IfOk result (MeansAtCost settings.tables settings.capacity (map B.bytes files.now) requests.now (F.contents frames.old) (F.contents frames.new) (P.contents replies.old) (P.contents replies.new)) }
+    ensures noted { IfOk result (λ session. MeansNoted settings.tables (map B.bytes files.now) requests.now (F.contents frames.old) (F.contents frames.new) (P.contents replies.old) (P.contents replies.new) session.state (V.has_refused observer.old) (V.has_refused observer.new)) }
     ensures capacity { IfOk result (λ session. session.cache.capacity ≡ settings.capacity) }
-    ensures stops { IfErr result (RunStops settings.tables (map B.bytes ivfs.now) requests.now (F.contents frames.old) (F.contents frames.new) (P.contents replies.old) (P.contents replies.new)) }
+    ensures stops { IfErr result (RunStops settings.tables (map B.bytes files.now) requests.now (F.contents frames.old) (F.contents frames.new) (P.contents replies.old) (P.contents replies.new)) }
 {
     let Settings { tables, capacity } = settings;
-    let files = read_sources(alloc, ivfs)?;
-    let mut session = match Session::within(alloc, tables, capacity, files) {
+    let streams = read_sources(alloc, files)?;
+    let mut session = match Session::within(alloc, tables, capacity, streams) {
         Ok(session) => session,
         Err(_) => return Err(RunFault::NoMemory),
     };
@@ -334,31 +336,31 @@ pub fn run_over<B: FileBytes, F: Write, P: Write, V: Observer>(
     }
 }
 
-/// Runs a request list over IVF files, 1 to 8: one source for each, numbered from 0.
+/// Runs a request list over files, 1 to 8: one source for each, numbered from 0. Each is an IVF, WebM or Matroska file.
 ///
 /// `capacity`, 1 to 4,096, is the most decoded states that are cached. Served frames go to
 /// `frames` as a YUV4MPEG2 text, whose first line is written with the first frame; a reply for each line
 /// that is neither empty nor a comment goes to `replies`. The session is returned as it is after the last
 /// line.
 ///
-/// `RunFault::Ivf` with the first source whose bytes are not an IVF file, or for whose packets there is no
+/// `RunFault::Source` with the first source whose bytes are no stream, or for whose packets there is no
 /// memory; `RunFault::NoMemory` if out of memory for the session: nothing is written then.
 /// `RunFault::Write` if a writer fails; the run ends there.
 pub fn run<F: Write, P: Write>(
     alloc: Global,
     tables: Tables,
     capacity: u16,
-    ivfs: &[&[u8]],
+    files: &[&[u8]],
     requests: &[u8],
     frames: &mut F,
     replies: &mut P,
 ) -> Result<Session, RunFault>
     requires capacity { (1 ≤ capacity) × (capacity ≤ 4096) }
-    requires sources { (1 ≤ length ivfs.now) × (length ivfs.now ≤ 8) }
-    ensures means { IfOk result (λ session. Means tables (texts_of ivfs.now) requests.now (F.contents frames.old) (F.contents frames.new) (P.contents replies.old) (P.contents replies.new) session.state) }
-    ensures costs { IfOk result (MeansAtCost tables (of_states capacity) (texts_of ivfs.now) requests.now (F.contents frames.old) (F.contents frames.new) (P.contents replies.old) (P.contents replies.new)) }
+    requires sources { (1 ≤ length files.now) × (length files.now ≤ 8) }
+    ensures means { IfOk result (λ session. Means tables (texts_of files.now) requests.now (F.contents frames.old) (F.contents frames.new) (P.contents replies.old) (P.contents replies.new) session.state) }
+    ensures costs { IfOk result (MeansAtCost tables (of_states capacity) (texts_of files.now) requests.now (F.contents frames.old) (F.contents frames.new) (P.contents replies.old) (P.contents replies.new)) }
     ensures capacity { IfOk result (λ session. session.cache.capacity ≡ of_states capacity) }
-    ensures stops { IfErr result (RunStops tables (texts_of ivfs.now) requests.now (F.contents frames.old) (F.contents frames.new) (P.contents replies.old) (P.contents replies.new)) }
+    ensures stops { IfErr result (RunStops tables (texts_of files.now) requests.now (F.contents frames.old) (F.contents frames.new) (P.contents replies.old) (P.contents replies.new)) }
 {
     let settings = Settings {
         tables,
@@ -367,7 +369,7 @@ pub fn run<F: Write, P: Write>(
     run_over(
         alloc,
         settings,
-        ivfs,
+        files,
         requests,
         frames,
         replies,

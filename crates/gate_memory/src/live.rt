@@ -39,7 +39,7 @@ fn try_answer(alloc: Global, replies: &mut Vec<u8>) -> Result<(), LiveFault> {
 
 /// Whether an error is out of memory.
 fn is_refused(fault: LiveFault) -> bool {
-    matches!(fault, LiveFault::NoMemory | LiveFault::Ivf { .. })
+    matches!(fault, LiveFault::NoMemory | LiveFault::Source { .. })
 }
 
 /// Whether these are the replies, of which one is `refused NoMemory`.

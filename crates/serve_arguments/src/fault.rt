@@ -7,7 +7,7 @@ use crate::files::SameFile;
 use command_lines::{ArgumentFault, Ending, FileFault, InLine};
 use output_files::Unsaved;
 use std::fmt;
-use stream_files::IvfFault;
+use stream_sources::StreamFault;
 use thiserror::Error;
 
 /// A source as the text of an error names it: `input` for source 0, which is IN.
@@ -57,10 +57,10 @@ pub enum Fault<'a> {
     /// The file of the tables does not have 3012 bytes.
     #[error("tables are not 3012 bytes")]
     Tables,
-    /// The bytes of a source are not an IVF file, or out of memory for its packets. It is the first such
+    /// The bytes of a source are not a stream, or out of memory for its packets. It is the first such
     /// source.
     #[error("{name} {word}", name = SourceName(*.source), word = .fault.word())]
-    Input { source: usize, fault: IvfFault },
+    Input { source: usize, fault: StreamFault },
     /// The frames of the script are not exported.
     #[error("{0}")]
     NotExported(NotExported),

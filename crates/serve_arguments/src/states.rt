@@ -1,7 +1,7 @@
 // What a cached picture takes.
 ghost use Rattle.std.specs.Prelude.{◌≡◌, ◌<◌, ◌≤◌, ◌^◌, IfErr, IfOk, OnOk};
 ghost use Rattle.std.specs.Io.KnownBytes.{Appends};
-ghost use Rattle.stream_files.specs.Ivf.{IsIvf};
+ghost use Rattle.stream_sources.specs.Sources.{IsStream};
 ghost use Rattle.stream_files.specs.declared.streams.Stream.{Stream};
 ghost use Rattle.stream_facts.specs.Facts.{first_key_size};
 ghost use Rattle.serve_arguments.specs.CachedStates.{cache_report, cache_text, picture_bytes, planes_bytes};
@@ -13,7 +13,8 @@ use pixel_planes::macroblocks;
 use std::alloc::Global;
 use std::io::{self, ErrorKind, Write};
 use stream_facts::first_key_size;
-use stream_files::{FileBytes, IvfFault, ivf_read_from};
+use stream_files::FileBytes;
+use stream_sources::{StreamFault, stream_read_from};
 
 /// The number of samples around a plane at each side.
 const BORDER: u64 = 32;
@@ -45,18 +46,18 @@ fn picture_bytes(size: (u16, u16)) -> u64
     planes_bytes(macroblocks(size.0) as u64, macroblocks(size.1) as u64)
 }
 
-/// The size of the first key packet of a file that has one. `None` too if the bytes are not an IVF file; `NoMemory`.
+/// The size of the first key packet of a file that has one. `None` too if the bytes are no stream; `NoMemory`.
 fn key_size_in<B: FileBytes>(
     alloc: Global,
     stream: &B,
 ) -> Result<Option<(u16, u16)>, Fault<'static>>
-    ensures size { IfOk result (λ size. (file : Stream) → IsIvf (B.bytes stream.now) file → size ≡ first_key_size file.packets) }
+    ensures size { IfOk result (λ size. (file : Stream) → IsStream (B.bytes stream.now) file → size ≡ first_key_size file.packets) }
     ensures fault { IfErr result (λ fault. fault ≡ Fault.NoMemory) }
 {
-    match ivf_read_from(alloc, stream) {
+    match stream_read_from(alloc, stream) {
         Ok(file) => Ok(first_key_size(file.packets.as_slice())),
         Err(fault) => match fault {
-            IvfFault::NoMemory => Err(Fault::NoMemory),
+            StreamFault::NoMemory => Err(Fault::NoMemory),
             _ => Ok(None),
         },
     }
@@ -92,7 +93,7 @@ pub fn report_cache<B: FileBytes, E: Write>(
     decoded: u64,
     errors: &mut E,
 ) -> io::Result<()>
-    ensures { OnOk result ((file : Stream) → IsIvf (B.bytes stream.now) file → Appends (E.contents errors.old) (E.contents errors.new) (cache_report capacity (first_key_size file.packets) decoded)) }
+    ensures { OnOk result ((file : Stream) → IsStream (B.bytes stream.now) file → Appends (E.contents errors.old) (E.contents errors.new) (cache_report capacity (first_key_size file.packets) decoded)) }
 {
     let Capacity::States(states) = capacity else {
         return Ok(());

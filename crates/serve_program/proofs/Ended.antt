@@ -22,7 +22,7 @@ use Rattle.serve_program.specs.Endings.{AreReplied, AreStopped, IsBeforeOrAfter,
 
 -- a run's error
 pub run_refused : (tables : TableEntries) (sources : List (List ℕ)) (requests : List ℕ) (f f' r r' : Option (List ℕ)) (fault : RunFault) → RunStops tables sources requests f f' r r' fault → IsRefused tables sources requests f f' r r' (fault_by_run fault)
-run_refused tables sources requests f f' r r' (runs.Ivf source fault) why = why
+run_refused tables sources requests f f' r r' (runs.Source source fault) why = why
 run_refused tables sources requests f f' r r' runs.Write why = inl why
 run_refused tables sources requests f f' r r' runs.NoMemory why = (why.2, why.3)
 

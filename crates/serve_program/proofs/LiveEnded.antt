@@ -19,7 +19,7 @@ use Rattle.serve_program.proofs.Ended.{after_ended, save_ended, unread_ended, un
 
 -- a live run's error, if it is not known where the frames went
 pub live_stopped : (tables : TableEntries) (sources : List (List ℕ)) (given given' f f' r r' : Option (List ℕ)) (fault : LiveFault) → LiveStops tables sources given given' f f' r r' fault → IsLiveFault tables sources given r r' fault
-live_stopped tables sources given given' f f' r r' (lives.Ivf source fault) why = (why.0, why.1.2)
+live_stopped tables sources given given' f f' r r' (lives.Source source fault) why = (why.0, why.1.2)
 live_stopped tables sources given given' f f' r r' lives.Read why = record { files = why.0; are = why.1; given' = given'; frames = f; frames' = f'; cut = why.2 }
 live_stopped tables sources given given' f f' r r' lives.TooLong why = record { files = why.0; are = why.1; given' = given'; frames = f; frames' = f'; cut = why.2 }
 live_stopped tables sources given given' f f' r r' lives.Endless why = record { files = why.0; are = why.1; given' = given'; frames = f; frames' = f'; cut = why.2 }
@@ -47,7 +47,7 @@ module _ (run : RunFiles) (line : Accepted) where
     requests_refused why fault is refused = rw is (by_fault why refused)
       where
         by_fault : (why : LiveFault) → IsLiveFault tables sources given replies replies' why → IsLiveRefused run line tables sources left replies replies' (fault_by_live path why)
-        by_fault (lives.Ivf source fault) refused = inl refused
+        by_fault (lives.Source source fault) refused = inl refused
         by_fault lives.Read refused = interrupted lives.Read refused
         by_fault lives.TooLong refused = interrupted lives.TooLong refused
         by_fault lives.Endless refused = interrupted lives.Endless refused

@@ -6,10 +6,10 @@ use Rattle.vp8_tables.specs.Tables.{TableEntries}
 use Rattle.command_lines.specs.Readings.{AreNoTables, Known}
 use Rattle.std.specs.Borrow.{Bor}
 use Rattle.stream_files.specs.declared.streams.Stream.{Stream}
-use Rattle.stream_files.specs.declared.ivf.IvfFault.{IvfFault}
+use Rattle.stream_sources.specs.declared.faults.StreamFault.{StreamFault}
 use Rattle.stream_files.specs.declared.ivf.TheConstants.{EMPTY}
 use Rattle.frame_session.specs.Cached.{Capacity as Cached, of_bytes, of_states}
-use Rattle.frame_session.specs.Answers.{AreIvfs, Means, RunStops, SourceRefuses}
+use Rattle.frame_session.specs.Answers.{AreStreams, Means, RunStops, SourceRefuses}
 use Rattle.frame_session.specs.Exported.{IsNotExported}
 use Rattle.frame_session.specs.Live.{CutsOff, LiveMeans, LiveStops}
 use Rattle.frame_session.specs.Sessions.{SessionState, start}
@@ -40,7 +40,7 @@ IsSaveFault fault = (fault ≡ CannotWrite) ⊎ (fault ≡ NoMemory)
 
 -- a run's error as the program's
 abbrev pub fault_by_run : RunFault → Fault
-fault_by_run (runs.Ivf source fault) = Input source fault
+fault_by_run (runs.Source source fault) = Input source fault
 fault_by_run runs.Write = CannotWrite
 fault_by_run runs.NoMemory = NoMemory
 
@@ -181,7 +181,7 @@ abbrev pub IsLongFile : RunFiles → Accepted → (left left' replies replies' :
 IsLongFile files line left left' replies replies' name = IsOverlong files.contents (tables_name line) (source_names line) line.words.requests.now left left' name × (replies' ≡ replies)
 
 -- the bytes of a source are not a file of packets, and no reply was written
-abbrev pub IsNoStream : RunFiles → Accepted → (replies replies' : Option (List ℕ)) → (source : ℕ) → IvfFault → Type 0
+abbrev pub IsNoStream : RunFiles → Accepted → (replies replies' : Option (List ℕ)) → (source : ℕ) → StreamFault → Type 0
 IsNoStream files line replies replies' source fault = OverSources files line (λ tables sources. SourceRefuses sources source fault × Keeps replies replies')
 
 -- why the program exits without doing all that it was asked, in the order of its parts: a reading error comes before the first reply, a reading error of
@@ -233,7 +233,7 @@ AreLiveReplied files line left replies replies' end tables sources =
 -- the lines before one that the reader did not give whole were answered over the files of these bytes with these replies
 pub record IsInterrupted (tables : TableEntries) (sources : List (List ℕ)) (given replies replies' : Option (List ℕ)) (fault : LiveFault) : Type 0 where
   pub files : List Stream
-  pub are : AreIvfs sources files
+  pub are : AreStreams sources files
   pub given' : Option (List ℕ)
   pub frames : Option (List ℕ)
   pub frames' : Option (List ℕ)
@@ -253,14 +253,14 @@ pub record IsLiveStopped (tables : TableEntries) (sources : List (List ℕ)) (gi
 
 -- why not all lines were answered, if it is not known where frames went
 abbrev pub IsLiveFault : (tables : TableEntries) → (sources : List (List ℕ)) → (given replies replies' : Option (List ℕ)) → LiveFault → Type 0
-IsLiveFault tables sources given replies replies' (lives.Ivf source fault) = SourceRefuses sources source fault × Keeps replies replies'
+IsLiveFault tables sources given replies replies' (lives.Source source fault) = SourceRefuses sources source fault × Keeps replies replies'
 IsLiveFault tables sources given replies replies' lives.Write = Keeps replies replies' ⊎ IsLiveStopped tables sources given replies replies'
 IsLiveFault tables sources given replies replies' lives.NoMemory = Keeps replies replies'
 IsLiveFault tables sources given replies replies' fault = IsInterrupted tables sources given replies replies' fault
 
 -- a live run's error as the program's, with the path that the user gave for the requests
 abbrev pub fault_by_live : Bor (List ℕ) → LiveFault → Fault
-fault_by_live path (lives.Ivf source fault) = Input source fault
+fault_by_live path (lives.Source source fault) = Input source fault
 fault_by_live path lives.Read = CannotRead path
 fault_by_live path lives.TooLong = TooLong path
 fault_by_live path lives.Endless = TooLong path

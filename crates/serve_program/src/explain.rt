@@ -7,7 +7,7 @@ ghost use Rattle.serve_program.specs.Reports.{export_line, export_report, number
 
 use crate::exports::Answered;
 use crate::messages::{Messages, UnsavedFile};
-use command_lines::{Format, InLine, NO_FILE, write_format};
+use command_lines::{InLine, NO_FILE, write_format};
 use explanations::{CutRecord, StreamReason, cut_record, stream_reason};
 use frame_session::Export;
 use output_files::{Taken, Unsaved};
@@ -18,7 +18,9 @@ use std::io::{self, Read, Write};
 use std::rc::RcSlice;
 use std::rt::Files;
 use std::str;
-use stream_files::{IvfFault, read_all};
+use stream_files::read_all;
+use stream_sources::StreamFault;
+use webm_files::{codec_there, is_marked};
 
 /// Whether the option `--explain` is among the arguments.
 pub fn is_asked<S: AsStr>(words: &[S]) -> bool
@@ -170,8 +172,8 @@ fn probe<R: Files>(rt: &R, path: &str) -> io::Result<()> {
 }
 
 /// Reads the first bytes of a file, and returns their number.
-fn read_head<R: Files>(rt: &R, path: &str, head: &mut [u8; 32]) -> io::Result<usize>
-    ensures { IfOk result (λ count. count ≤ 32) }
+fn read_head<R: Files>(rt: &R, path: &str, head: &mut [u8; 4096]) -> io::Result<usize>
+    ensures { IfOk result (λ count. count ≤ 4096) }
 {
     let mut file = File::open(rt, path)?;
     file.read(head)
@@ -244,14 +246,14 @@ fn explain_input<R: Files + AllocGlobal, E: Write>(
     rt: &R,
     words: Words<'_>,
     source: usize,
-    fault: IvfFault,
+    fault: StreamFault,
     messages: &mut Messages<'_, E>,
 ) -> io::Result<()> {
     let path = path_of(words, source);
     if is_read_once(rt, path) {
         return explain_read_once(path, messages.errors);
     }
-    let mut bytes = [0; 32];
+    let mut bytes = [0; 4096];
     let count = read_head(rt, path, &mut bytes)?;
     explain_head(path, &bytes[..count], fault, messages)
 }
@@ -260,12 +262,12 @@ fn explain_input<R: Files + AllocGlobal, E: Write>(
 fn explain_head<E: Write>(
     path: &str,
     head: &[u8],
-    fault: IvfFault,
+    fault: StreamFault,
     messages: &mut Messages<'_, E>,
 ) -> io::Result<()> {
     let shown = InLine(path);
-    match stream_reason(head, fault) {
-        StreamReason::Other(format) => explain_format(path, format, messages.errors),
+    match stream_reason(&head[..head.len().min(32)], fault) {
+        StreamReason::Other(format) => write_format(messages.errors, path, format),
         StreamReason::Gzip => writeln!(
             messages.errors,
             "{shown} is compressed by gzip: gzip -dc {shown} > out.ivf"
@@ -285,11 +287,36 @@ fn explain_head<E: Write>(
             head.len()
         ),
         StreamReason::NoIvf => explain_unknown(path, messages.errors),
+        StreamReason::NoHeader => writeln!(
+            messages.errors,
+            "{shown} begins as a WebM file, but its EBML header is cut off or damaged"
+        ),
+        StreamReason::OtherKind => writeln!(
+            messages.errors,
+            "{shown} is an EBML file, but neither WebM nor Matroska"
+        ),
+        StreamReason::NoTracks => writeln!(
+            messages.errors,
+            "{shown} has no list of tracks: the first part of the file is lost or damaged"
+        ),
+        StreamReason::NoVideo => explain_no_video(path, head, messages),
+        StreamReason::Encoded => writeln!(
+            messages.errors,
+            "the packets of {shown} are compressed or encrypted once more; for a compression: mkvmerge -o out.mkv --compression -1:none {shown}"
+        ),
+        StreamReason::Scale => writeln!(
+            messages.errors,
+            "{shown} has a unit of time of 0, or of 4294967296 nanoseconds or more"
+        ),
         StreamReason::HeaderLength(length) => writeln!(
             messages.errors,
             "{shown} claims a header of {length} bytes, not 32 to the length of the file"
         ),
         StreamReason::TooMany => writeln!(messages.errors, "{shown} has more than 1048576 packets"),
+        StreamReason::TooManyParts => writeln!(
+            messages.errors,
+            "{shown} has more than 1048576 packets of its video, 16777216 elements or 127 tracks"
+        ),
         StreamReason::NoMemory => writeln!(
             messages.errors,
             "{shown}: out of memory for its packets"
@@ -297,15 +324,22 @@ fn explain_head<E: Write>(
     }
 }
 
-/// Explains how a file of another format becomes an IVF file; that of a WebM file has its time stamps.
-fn explain_format<E: Write>(path: &str, format: Format, errors: &mut E) -> io::Result<()> {
-    write_format(errors, path, format)?;
-    match format {
-        Format::WebM => writeln!(
-            errors,
-            "its time stamps count milliseconds, so OUT has 1000 frames a second: ffmpeg -r 30 -i OUT reads 30"
-        ),
-        Format::Mp4 | Format::Avi | Format::Y4m => Ok(()),
+/// Explains that a WebM file has no VP8 video, with the codec of its video if the first bytes of the file have its name.
+fn explain_no_video<E: Write>(
+    path: &str,
+    head: &[u8],
+    messages: &mut Messages<'_, E>,
+) -> io::Result<()> {
+    let shown = InLine(path);
+    match str::from_utf8(codec_there(head)) {
+        Ok(codec) if !codec.is_empty() => {
+            let codec = InLine(codec);
+            writeln!(
+                messages.errors,
+                "{shown} has no VP8 video: the codec of its video is {codec}, which has to be coded again, which changes each frame: ffmpeg -i {shown} -an -c:v libvpx out.ivf"
+            )
+        }
+        _ => writeln!(messages.errors, "{shown} has no VP8 video"),
     }
 }
 
@@ -517,13 +551,16 @@ fn explain_unsaved<E: Write>(
     Ok(())
 }
 
-/// Explains the trailing bytes of sources, which the arguments name.
+/// Explains the trailing bytes of IVF files of sources, which the arguments name.
 fn explain_spare<E: Write>(
     words: Words<'_>,
     sources: &[RcSlice<u8>],
     errors: &mut E,
 ) -> io::Result<()> {
     for (source, bytes) in sources.iter().enumerate() {
+        if is_marked(bytes.as_slice()) {
+            continue;
+        }
         if let Some(cut) = cut_record(bytes.as_slice()) {
             write_cut(path_of(words, source), bytes.len(), cut, errors)?;
         }

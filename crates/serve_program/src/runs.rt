@@ -49,7 +49,7 @@ pub fn run_fault(fault: RunFault) -> Fault<'static>
     ensures { result ≡ fault_by_run fault }
 {
     match fault {
-        RunFault::Ivf { source, fault } => Fault::Input { source, fault },
+        RunFault::Source { source, fault } => Fault::Input { source, fault },
         RunFault::Write => Fault::CannotWrite,
         RunFault::NoMemory => Fault::NoMemory,
     }
@@ -60,7 +60,7 @@ pub fn live_fault(fault: LiveFault, path: &str) -> Fault<'_>
     ensures { result ≡ fault_by_live path.entry fault }
 {
     match fault {
-        LiveFault::Ivf { source, fault } => Fault::Input { source, fault },
+        LiveFault::Source { source, fault } => Fault::Input { source, fault },
         LiveFault::Read => Fault::CannotRead(path),
         LiveFault::TooLong | LiveFault::Endless => Fault::TooLong(path),
         LiveFault::Write => Fault::CannotWrite,

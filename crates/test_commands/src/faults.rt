@@ -9,7 +9,8 @@ use std::os::unix::fs::symlink;
 use std::process::Abort;
 use std::rt::Files;
 use std::test::Fail;
-use stream_files::{EMPTY, IvfFault};
+use stream_files::EMPTY;
+use stream_sources::StreamFault;
 
 /// Checks the message of an error, and its status also where the message cannot be written.
 fn expect_told<R: Abort + Files + AllocGlobal>(rt: &R, fault: Fault<'_>, status: u8, text: &str) {
@@ -63,12 +64,12 @@ fn tells_each_fault(rt: HostRuntime) {
     expect_told(&rt, Fault::NoMemory, 1, "vp8serve: no memory\n");
     let many = Fault::Input {
         source: 0,
-        fault: IvfFault::TooMany,
+        fault: StreamFault::TooMany,
     };
     expect_told(&rt, many, 1, "vp8serve: input TooMany\n");
     let header = Fault::Input {
         source: 7,
-        fault: IvfFault::Header,
+        fault: StreamFault::Header,
     };
     expect_told(&rt, header, 1, "vp8serve: source 7 Header\n");
 }

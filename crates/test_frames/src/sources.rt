@@ -6,7 +6,8 @@ use frame_session::{Edit, Refusal, RunFault, Session};
 use std::alloc::Global;
 use std::process::Abort;
 use std::test::Fail;
-use stream_files::{IvfFault, ivf_read};
+use stream_files::ivf_read;
+use stream_sources::StreamFault;
 use test_fixtures::{INTER, KEY, Ran, WIDE_KEY, ivf_of, run_sources, y4m_of};
 use vp8_tables::Tables;
 
@@ -111,8 +112,8 @@ fn files_of_sources(rt: HostRuntime) -> Result<(), Fail> {
     assert_eq!(rt; run_sources(alloc, 8, sources, b"").spare, Ok(6));
     let sources: &[&[u8]] = &[file.as_slice(), b"RIFF", file.as_slice(), b"RIFF"];
     let ran = run_sources(alloc, 8, sources, b"count\n");
-    let fault = IvfFault::Header;
-    assert_eq!(rt; ran.spare, Err(RunFault::Ivf { source: 1, fault }));
+    let fault = StreamFault::Header;
+    assert_eq!(rt; ran.spare, Err(RunFault::Source { source: 1, fault }));
     assert!(rt; ran.replies.is_empty());
     Ok(())
 }

@@ -4,7 +4,7 @@ use std::io::{self, ErrorKind, Write};
 use std::process::Abort;
 use std::rc::RcSlice;
 use std::test::Fail;
-use stream_files::IvfFault;
+use stream_sources::StreamFault;
 use test_fixtures::{INTER, KEY, ivf_of, run_over};
 use vp8_tables::Tables;
 
@@ -47,11 +47,11 @@ fn no_requests(rt: HostRuntime) -> Result<(), Fail> {
 fn files_that_are_none(rt: HostRuntime) -> Result<(), Fail> {
     let file = ivf_of(rt.alloc(), &[KEY])?;
     let rows = [
-        (0, 31, 0, IvfFault::Header),
-        (0, 54, b'd', IvfFault::Magic),
-        (8, 54, b'v', IvfFault::FourCc),
-        (6, 54, 31, IvfFault::HeaderLength),
-        (6, 54, 55, IvfFault::HeaderLength),
+        (0, 31, 0, StreamFault::Header),
+        (0, 54, b'd', StreamFault::Magic),
+        (8, 54, b'v', StreamFault::FourCc),
+        (6, 54, 31, StreamFault::HeaderLength),
+        (6, 54, 55, StreamFault::HeaderLength),
     ];
     for (place, length, value, fault) in rows {
         let mut changed = file.clone()?;
@@ -60,7 +60,7 @@ fn files_that_are_none(rt: HostRuntime) -> Result<(), Fail> {
             changed[place] = value;
         }
         let ran = run_over(rt.alloc(), changed.as_slice(), b"frame 0\n");
-        assert_eq!(rt; ran.spare, Err(RunFault::Ivf { source: 0, fault }));
+        assert_eq!(rt; ran.spare, Err(RunFault::Source { source: 0, fault }));
         assert!(rt; ran.replies.is_empty());
     }
     Ok(())

@@ -1,7 +1,7 @@
 -- The frame rate of a video.
 use Rattle.std.specs.Prelude.{◌≡◌, ℕ, ◌*◌, ◌^◌, ◌<◌}
 use Rattle.stream_files.specs.declared.streams.Head.{Head}
-use Rattle.webm_files.specs.declared.rates.FrameRate.{FrameRate}
+use Rattle.stream_files.specs.declared.streams.FrameRate.{FrameRate}
 use Rattle.webm_files.specs.Tracks.{IsLowest}
 
 -- in lowest terms the numbers of a fraction have 32 bits, and neither is 0

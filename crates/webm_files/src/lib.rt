@@ -24,4 +24,4 @@ pub use files::{
 };
 pub use gaps::Gap;
 pub use media::Media;
-pub use rates::{FrameRate, frame_rate};
+pub use rates::frame_rate;

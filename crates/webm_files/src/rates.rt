@@ -4,14 +4,7 @@ ghost use Rattle.webm_files.specs.Rates.{IsFrameRate, IsSmall};
 ghost use Rattle.webm_files.specs.Tracks.{IsLowest};
 
 use super::tracks::common_divisor;
-use stream_files::Head;
-
-/// A frame rate: `rate / scale` frames per second.
-#[derive(Clone, Copy, Debug, PartialEq, Eq)]
-pub struct FrameRate {
-    pub rate: u32,
-    pub scale: u32,
-}
+use stream_files::{FrameRate, Head};
 
 /// A fraction in lowest terms, if its numbers have 32 bits.
 fn lowest(a: u32, b: u64) -> Option<FrameRate>
@@ -55,8 +48,5 @@ pub fn frame_rate(head: &Head, duration: u64, step: u64) -> FrameRate
     if let Some(found) = rate_of_step(head, step) {
         return found;
     }
-    FrameRate {
-        rate: head.rate,
-        scale: head.scale,
-    }
+    head.frame_rate()
 }

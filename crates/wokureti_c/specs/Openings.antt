@@ -1,14 +1,13 @@
 -- How a session is opened over the bytes of files.
-use Rattle.std.specs.Prelude.{◌≡◌, ℕ, Bool, true, false, ◌&&◌, nat_le, List, [], ◌∷◌, length, map, slice_range, if◌then◌else◌, Option, Some, None, Ok, Err}
+use Rattle.std.specs.Prelude.{◌≡◌, ℕ, Bool, true, false, ◌&&◌, nat_le, List, [], ◌∷◌, length, map, slice_range, Option, Some, None, Ok, Err}
 use Rattle.vp8_tables.specs.Rfc.{rfc_entries}
 use Rattle.vp8_tables.specs.Tables.{entries_of}
 use Rattle.vp8_tables.specs.declared.fault.TableFault.{TableFault}
 use Rattle.vp8_tables.specs.declared.tables.Tables.{Tables}
-use Rattle.stream_files.specs.Ivf.{head_of}
 use Rattle.stream_files.specs.declared.streams.Head.{Head}
 use Rattle.stream_files.specs.declared.streams.Stream.{Stream}
-use Rattle.stream_files.specs.declared.ivf.IvfFault.{IvfFault}
-use Rattle.frame_session.specs.Answers.{AreIvfs, Means, SourceRefuses}
+use Rattle.stream_sources.specs.declared.faults.StreamFault.{StreamFault}
+use Rattle.frame_session.specs.Answers.{AreStreams, Means, SourceRefuses}
 use Rattle.frame_session.specs.Cached.{Capacity}
 use Rattle.wokureti_c.specs.declared.engine.Engine.{Engine}
 use Rattle.wokureti_c.specs.declared.frames.Fault.{Fault}
@@ -39,9 +38,11 @@ abbrev pub AreTables : List ℕ → Tables → Type 0
 AreTables [] tables = tables ≡ rfc_entries
 AreTables (byte ∷ bytes) tables = entries_of (byte ∷ bytes) ≡ Ok tables
 
--- the head of a file; all fields are 0 if it is too short for them
-abbrev pub head_in : List ℕ → Head
-head_in bytes = if nat_le 24 (length bytes) then head_of bytes else record { width = 0; height = 0; rate = 0; scale = 0 }
+-- the heads of the streams that are read from files
+pub record AreHeads (files : List (List ℕ)) (heads : List Head) : Type 0 where
+  pub streams : List Stream
+  pub are : AreStreams files streams
+  pub theirs : heads ≡ map (λ stream. stream.head) streams
 
 -- an engine is opened over files: its session has the meaning of no requests over them, and this capacity. Their heads are kept
 pub record IsOpened (files : List (List ℕ)) (capacity : Capacity) (bytes : List ℕ) (engine : Engine) : Type 0 where
@@ -49,7 +50,7 @@ pub record IsOpened (files : List (List ℕ)) (capacity : Capacity) (bytes : Lis
   pub are : AreTables bytes tables
   pub means : Means tables files [] None None None None engine.session.state
   pub capacity_is : engine.session.cache.capacity ≡ capacity
-  pub heads : engine.heads.items ≡ map head_of files
+  pub heads : AreHeads files engine.heads.items
 
 -- why no session is opened: an argument that is not allowed, bytes that are no tables, the first file that is refused, or no memory
 -- for a session over the files
@@ -57,7 +58,7 @@ abbrev pub OpenRefuses : List ℕ → List ℕ → ℕ → List ℕ → OpenFaul
 OpenRefuses bytes ends states tables faults.Argument = are_allowed bytes ends states ≡ false
 OpenRefuses bytes ends states tables faults.Tables = (fault : TableFault) × (entries_of tables ≡ Err fault)
 OpenRefuses bytes ends states tables (faults.File source fault) = SourceRefuses (files_in bytes ends) source fault
-OpenRefuses bytes ends states tables faults.Memory = (files : List Stream) × AreIvfs (files_in bytes ends) files
+OpenRefuses bytes ends states tables faults.Memory = (files : List Stream) × AreStreams (files_in bytes ends) files
 
 -- the number of an error, and what is reported of it
 abbrev pub Reports : OpenFault → ℕ → Fault → Type 0

@@ -4,8 +4,8 @@ use Rattle.frame_session.specs.declared.refusal.Refusal.{Refusal}
 use Rattle.frame_session.specs.declared.refusal.Refusal.TheVariants as refusals
 use Rattle.lossless_cuts.specs.declared.faults.CutFault.{CutFault}
 use Rattle.lossless_cuts.specs.declared.faults.CutFault.TheVariants as cuts
-use Rattle.stream_files.specs.declared.ivf.IvfFault.{IvfFault}
-use Rattle.stream_files.specs.declared.ivf.IvfFault.TheVariants as faults
+use Rattle.stream_sources.specs.declared.faults.StreamFault.{StreamFault}
+use Rattle.stream_sources.specs.declared.faults.StreamFault.TheVariants as faults
 
 -- the number of a version, by its three numbers
 abbrev pub version_number : (major minor patch : ℕ) → ℕ
@@ -40,10 +40,15 @@ number_of_cut_fault cuts.TooLarge = 37
 number_of_cut_fault cuts.NoMemory = 3
 
 -- the number of the error of a file
-abbrev pub number_of_file_fault : IvfFault → ℕ
+abbrev pub number_of_file_fault : StreamFault → ℕ
 number_of_file_fault faults.Header = 1
 number_of_file_fault faults.Magic = 2
 number_of_file_fault faults.FourCc = 3
 number_of_file_fault faults.HeaderLength = 4
 number_of_file_fault faults.TooMany = 5
 number_of_file_fault faults.NoMemory = 6
+number_of_file_fault faults.DocType = 7
+number_of_file_fault faults.NoTracks = 8
+number_of_file_fault faults.NoVideo = 9
+number_of_file_fault faults.Encoded = 10
+number_of_file_fault faults.Scale = 11

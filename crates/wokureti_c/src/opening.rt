@@ -1,18 +1,18 @@
 //! A session over the bytes of files.
 ghost use Rattle.std.specs.Prelude.{◌≡◌, ◌≤◌, IfErr, IfOk, IfSome, None, Some, [], Err, false, length, map};
-ghost use Rattle.stream_files.specs.Ivf.{head_of};
+ghost use Rattle.std.specs.List.{All};
 ghost use Rattle.vp8_tables.specs.Tables.{TableEntries, entries_of};
 ghost use Rattle.frame_session.specs.Answers.{Means, texts_of};
-ghost use Rattle.wokureti_c.specs.Openings.{AreTables, OpenRefuses, Reports, are_ends_from, files_in, head_in};
+ghost use Rattle.frame_session.specs.Cached.{begun};
+ghost use Rattle.wokureti_c.specs.Openings.{AreHeads, AreTables, OpenRefuses, Reports, are_ends_from, files_in};
 
 use crate::frames::Fault;
 use crate::statuses::{ARGUMENT, FILE, MEMORY, TABLES, number_of_file_fault};
 use arrayvec::ArrayVec;
-use byteorder::{ByteOrder, LittleEndian};
-use frame_session::{Capacity, RunFault, Session, Settings, Unobserved, run_over};
+use frame_session::{Capacity, RunFault, Session, read_sources};
 use std::alloc::Global;
-use std::io::sink;
-use stream_files::{Head, IvfFault};
+use stream_files::{Head, Stream};
+use stream_sources::StreamFault;
 use vp8_tables::{TableFault, Tables};
 
 /// A session, and the head of the file of each source.
@@ -29,8 +29,8 @@ pub enum OpenFault {
     Argument,
     /// The tables do not have 3,012 bytes.
     Tables,
-    /// The bytes of a source are not an IVF file, or there is no memory for its packets.
-    File { source: usize, fault: IvfFault },
+    /// The bytes of a source are not a stream, or there is no memory for its packets.
+    File { source: usize, fault: StreamFault },
     /// Out of memory.
     Memory,
 }
@@ -84,37 +84,40 @@ fn files_in<'a>(bytes: &'a [u8], ends: &[usize]) -> Option<ArrayVec<&'a [u8], 8>
     Some(files)
 }
 
-/// The head of a file; all fields are 0 if it is too short for them.
-fn head_in(bytes: &[u8]) -> Head
-    ensures { result ≡ head_in bytes.now }
-{
-    if bytes.len() < 24 {
-        return Head {
-            width: 0,
-            height: 0,
-            rate: 0,
-            scale: 0,
-        };
-    }
-    Head {
-        width: LittleEndian::read_u16(&bytes[12..]),
-        height: LittleEndian::read_u16(&bytes[14..]),
-        rate: LittleEndian::read_u32(&bytes[16..]),
-        scale: LittleEndian::read_u32(&bytes[20..]),
-    }
-}
-
-/// The heads of files, if there is memory for them.
-fn heads_in(alloc: Global, files: &[&[u8]]) -> Option<Vec<Head>>
-    ensures { IfSome result (λ heads. heads.items ≡ map head_in (texts_of files.now)) }
+/// The heads of streams, if there is memory for them.
+fn heads_of(alloc: Global, streams: &[Stream]) -> Option<Vec<Head>>
+    ensures { IfSome result (λ heads. heads.items ≡ map (λ stream. stream.head) streams.now) }
 {
     let mut heads = Vec::new(alloc);
-    for file in files {
-        let Ok(()) = heads.push(head_in(file)) else {
+    for stream in streams {
+        let Ok(()) = heads.push(stream.head) else {
             return None;
         };
     }
     Some(heads)
+}
+
+/// A session over streams, with no request answered, and their heads.
+fn open_streams(
+    alloc: Global,
+    tables: Tables,
+    capacity: Capacity,
+    streams: Vec<Stream>,
+) -> Result<Opened, OpenFault>
+    requires capacity { (1 ≤ capacity.states) × (capacity.states ≤ 4096) }
+    requires count { (1 ≤ length streams.items) × (length streams.items ≤ 8) }
+    requires few { All (λ stream. length stream.packets ≤ 1048576) streams.items }
+    ensures session { IfOk result (λ opened. opened.session ≡ begun tables capacity streams.items) }
+    ensures heads { IfOk result (λ opened. opened.heads.items ≡ map (λ stream. stream.head) streams.items) }
+    ensures refused { IfErr result (λ fault. fault ≡ OpenFault.Memory) }
+{
+    let Some(heads) = heads_of(alloc, &streams) else {
+        return Err(OpenFault::Memory);
+    };
+    match Session::within(alloc, tables, capacity, streams) {
+        Ok(session) => Ok(Opened { session, heads }),
+        Err(_) => Err(OpenFault::Memory),
+    }
 }
 
 /// A session over files that lie one after the other, with no request answered.
@@ -127,7 +130,7 @@ pub fn open(
 ) -> Result<Opened, OpenFault>
     ensures opened { IfOk result (λ opened. (entries : TableEntries) × AreTables tables.now entries × Means entries (files_in bytes.now ends.now) [] None None None None opened.session.state) }
     ensures capacity { IfOk result (λ opened. opened.session.cache.capacity ≡ capacity) }
-    ensures heads { IfOk result (λ opened. opened.heads.items ≡ map head_of (files_in bytes.now ends.now)) }
+    ensures heads { IfOk result (λ opened. AreHeads (files_in bytes.now ends.now) opened.heads.items) }
     ensures refused { IfErr result (OpenRefuses bytes.now ends.now capacity.states tables.now) }
 {
     if ends.is_empty() || ends.len() > 8 || capacity.states == 0 || capacity.states > 4096 {
@@ -137,21 +140,10 @@ pub fn open(
     let Some(files) = files_in(bytes, ends) else {
         return Err(OpenFault::Argument);
     };
-    let session = match run_over(
-        alloc,
-        Settings { tables, capacity },
-        files.as_slice(),
-        b"",
-        &mut sink(),
-        &mut sink(),
-        &mut Unobserved {},
-    ) {
-        Ok(session) => session,
-        Err(RunFault::Ivf { source, fault }) => return Err(OpenFault::File { source, fault }),
+    let streams = match read_sources(alloc, files.as_slice()) {
+        Ok(streams) => streams,
+        Err(RunFault::Source { source, fault }) => return Err(OpenFault::File { source, fault }),
         Err(_) => return Err(OpenFault::Memory),
     };
-    match heads_in(alloc, files.as_slice()) {
-        Some(heads) => Ok(Opened { session, heads }),
-        None => Err(OpenFault::Memory),
-    }
+    open_streams(alloc, tables, capacity, streams)
 }

@@ -3,7 +3,7 @@ ghost use Rattle.std.specs.Prelude.{◌≡◌};
 ghost use Rattle.wokureti_c.specs.Statuses.{number_of_cut_fault, number_of_file_fault, number_of_refusal};
 
 use frame_session::{CutFault, Refusal};
-use stream_files::IvfFault;
+use stream_sources::StreamFault;
 
 /// The call did what it says.
 pub const OK: u32 = 0;
@@ -76,16 +76,21 @@ pub fn number_of_cut_fault(fault: CutFault) -> u32
     }
 }
 
-/// The number of the error of an IVF file, 1 or above.
-pub fn number_of_file_fault(fault: IvfFault) -> u32
+/// The number of the error of a file, 1 or above.
+pub fn number_of_file_fault(fault: StreamFault) -> u32
     ensures { result ≡ number_of_file_fault fault }
 {
     match fault {
-        IvfFault::Header => 1,
-        IvfFault::Magic => 2,
-        IvfFault::FourCc => 3,
-        IvfFault::HeaderLength => 4,
-        IvfFault::TooMany => 5,
-        IvfFault::NoMemory => 6,
+        StreamFault::Header => 1,
+        StreamFault::Magic => 2,
+        StreamFault::FourCc => 3,
+        StreamFault::HeaderLength => 4,
+        StreamFault::TooMany => 5,
+        StreamFault::NoMemory => 6,
+        StreamFault::DocType => 7,
+        StreamFault::NoTracks => 8,
+        StreamFault::NoVideo => 9,
+        StreamFault::Encoded => 10,
+        StreamFault::Scale => 11,
     }
 }

@@ -1,0 +1,79 @@
+-- Bytes have one stream, with few packets, and at most one error.
+use Rattle.std.proofs.Common.{◌≡◌, ℕ, ◌≤◌, Bool, true, false, List, length, sym, ap, subst, refl, ◌∙◌, ◌↔◌}
+use Rattle.std.proofs.lemmas.List.{length-map}
+use Rattle.std.specs.List.{filter}
+use Rattle.stream_files.specs.declared.packets.Packet.{Packet}
+use Rattle.stream_files.specs.declared.streams.Stream.{Stream}
+use Rattle.stream_files.specs.declared.ivf.IvfFault.{IvfFault}
+use Rattle.stream_files.specs.declared.ivf.IvfFault.TheVariants as ivf
+use Rattle.stream_files.specs.Ivf.{IsIvf, IvfRefuses}
+use Rattle.stream_files.proofs.OneAnswer as ivf_answers
+use Rattle.webm_files.specs.declared.files.Webm.{Webm}
+use Rattle.webm_files.specs.declared.files.WebmFault.{WebmFault}
+use Rattle.webm_files.specs.declared.files.WebmFault.TheVariants as webm
+use Rattle.webm_files.specs.Blocks.{blocks_of}
+use Rattle.webm_files.specs.Tracks.{number_of}
+use Rattle.webm_files.specs.Packets.{is_packet, packet_of}
+use Rattle.webm_files.specs.Files.{is_marked}
+use Rattle.webm_files.proofs.OneFile.{one_file, one_fault}
+use Rattle.webm_files.proofs.NotIvf.{not_marked}
+use Rattle.stream_sources.specs.declared.faults.StreamFault.{StreamFault}
+use Rattle.stream_sources.specs.declared.faults.StreamFault.TheVariants.{NoMemory}
+use Rattle.stream_sources.specs.Faults.{RefusedBy, StreamRefuses, of_ivf, of_webm}
+use Rattle.stream_sources.specs.Sources.{IsStream, IsStreamBy}
+
+-- ---- IVF files
+
+pub ivf_is_stream : (bytes : List ℕ) (file : Stream) → IsIvf bytes file → IsStream bytes file
+ivf_is_stream bytes file is = subst (λ (marked : Bool). IsStreamBy marked bytes file) (sym (not_marked bytes file is)) is
+
+pub stream_is_ivf : (bytes : List ℕ) (file : Stream) → is_marked bytes ≡ false → IsStream bytes file ↔ IsIvf bytes file
+stream_is_ivf bytes file not = (λ is. subst (λ (marked : Bool). IsStreamBy marked bytes file) not is, λ is. subst (λ (marked : Bool). IsStreamBy marked bytes file) (sym not) is)
+
+pub refused_as_ivf : (bytes : List ℕ) (fault : IvfFault) → is_marked bytes ≡ false → IvfRefuses bytes fault → StreamRefuses bytes (of_ivf fault)
+refused_as_ivf bytes fault not refuses = subst (λ (marked : Bool). RefusedBy marked bytes (of_ivf fault)) (sym not) (fault, refl, refuses)
+
+-- ---- few packets
+
+few_by : (marked : Bool) (bytes : List ℕ) (stream : Stream) → IsStreamBy marked bytes stream → length stream.packets ≤ 1048576
+few_by true bytes stream is =
+    let few : length (filter (is_packet (number_of is.1.entry)) (blocks_of bytes is.1.walk.elements)) ≤ 1048576 = is.1.few.packets in
+    subst (λ (n : ℕ). n ≤ 1048576) (sym (ap length (is.2.packets ∙ is.1.contents.packets) ∙ length-map (filter (is_packet (number_of is.1.entry)) (blocks_of bytes is.1.walk.elements)) (packet_of bytes))) few
+few_by false bytes stream is = is.few
+
+pub few : (bytes : List ℕ) (stream : Stream) → IsStream bytes stream → length stream.packets ≤ 1048576
+few bytes stream is = few_by (is_marked bytes) bytes stream is
+
+-- ---- one stream
+
+agree_by : (marked : Bool) (bytes : List ℕ) (stream other : Stream) → IsStreamBy marked bytes stream → IsStreamBy marked bytes other → (stream.head ≡ other.head) × (stream.packets ≡ other.packets) × (stream.spare ≡ other.spare)
+agree_by true bytes stream other a b =
+    let same : a.0 ≡ b.0 = one_file bytes a.0 b.0 a.1 b.1 in
+    (a.2.head ∙ ap (λ (file : Webm). file.head) same ∙ sym b.2.head, a.2.packets ∙ ap (λ (file : Webm). file.packets) same ∙ sym b.2.packets, a.2.spare ∙ ap (λ (file : Webm). file.spare) same ∙ sym b.2.spare)
+agree_by false bytes stream other a b =
+    let same : stream ≡ other = ivf_answers.one_file bytes stream other a b in
+    (ap (λ (file : Stream). file.head) same, ap (λ (file : Stream). file.packets) same, ap (λ (file : Stream). file.spare) same)
+
+pub agree : (bytes : List ℕ) (stream other : Stream) → IsStream bytes stream → IsStream bytes other → (stream.head ≡ other.head) × (stream.packets ≡ other.packets) × (stream.spare ≡ other.spare)
+agree bytes stream other a b = agree_by (is_marked bytes) bytes stream other a b
+
+-- ---- one error
+
+one_by : (marked : Bool) (bytes : List ℕ) (fault other : StreamFault) → RefusedBy marked bytes fault → RefusedBy marked bytes other → fault ≡ other
+one_by true bytes fault other a b = a.1 ∙ ap of_webm (one_fault bytes a.0 b.0 a.2 b.2) ∙ sym b.1
+one_by false bytes fault other a b = a.1 ∙ ap of_ivf (ivf_answers.one_fault bytes a.0 b.0 a.2 b.2) ∙ sym b.1
+
+pub one_stream_fault : (bytes : List ℕ) (fault other : StreamFault) → StreamRefuses bytes fault → StreamRefuses bytes other → fault ≡ other
+one_stream_fault bytes fault other a b = one_by (is_marked bytes) bytes fault other a b
+
+no_memory_by : (marked : Bool) (bytes : List ℕ) (stream : Stream) → IsStreamBy marked bytes stream → RefusedBy marked bytes NoMemory
+no_memory_by true bytes stream is = (webm.NoMemory, refl, is.0, is.1)
+no_memory_by false bytes stream is = (ivf.NoMemory, refl, stream, is)
+
+-- a stream can be refused as out of memory
+pub no_memory : (bytes : List ℕ) (stream : Stream) → IsStream bytes stream → StreamRefuses bytes NoMemory
+no_memory bytes stream is = no_memory_by (is_marked bytes) bytes stream is
+
+-- and as nothing else
+pub stream_refused : (bytes : List ℕ) (stream : Stream) (fault : StreamFault) → IsStream bytes stream → StreamRefuses bytes fault → fault ≡ NoMemory
+stream_refused bytes stream fault is refuses = one_stream_fault bytes fault NoMemory refuses (no_memory bytes stream is)

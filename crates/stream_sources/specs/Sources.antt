@@ -1,0 +1,32 @@
+-- What bytes are read as: an IVF file, or the video of a WebM or Matroska file.
+use Rattle.std.specs.Prelude.{◌≡◌, ℕ, Bool, true, false, List, Result, Ok, Err}
+use Rattle.stream_files.specs.declared.streams.Stream.{Stream}
+use Rattle.stream_files.specs.Ivf.{IsIvf}
+use Rattle.webm_files.specs.declared.files.Webm.{Webm}
+use Rattle.webm_files.specs.Files.{IsWebm, is_marked}
+use Rattle.webm_files.specs.Rates.{IsFrameRate}
+use Rattle.packet_times.specs.Medians.{median_of, steps_of}
+use Rattle.stream_sources.specs.declared.faults.StreamFault.{StreamFault}
+use Rattle.stream_sources.specs.Faults.{StreamRefuses}
+
+-- the stream of a WebM file: the head, the packets and the skipped bytes of its video. The frame rate is by the duration that its track gives a
+-- frame, or by the median step between the time stamps of shown packets
+pub record IsVideo (file : Webm) (stream : Stream) : Type 0 where
+  pub head : stream.head ≡ file.head
+  pub packets : stream.packets ≡ file.packets
+  pub spare : stream.spare ≡ file.spare
+  pub frame_rate : IsFrameRate file.head file.media.default_duration (median_of (steps_of file.packets)) stream.frame_rate
+
+-- by whether the bytes begin with EBML's mark
+abbrev pub IsStreamBy : Bool → List ℕ → Stream → Type 0
+IsStreamBy true bytes stream = (file : Webm) × IsWebm bytes file × IsVideo file stream
+IsStreamBy false bytes stream = IsIvf bytes stream
+
+-- the bytes are a file of this stream
+abbrev pub IsStream : List ℕ → Stream → Type 0
+IsStream bytes stream = IsStreamBy (is_marked bytes) bytes stream
+
+-- the result of reading a file
+abbrev pub StreamAnswers : List ℕ → Result Stream StreamFault → Type 0
+StreamAnswers bytes (Ok stream) = IsStream bytes stream
+StreamAnswers bytes (Err fault) = StreamRefuses bytes fault
