@@ -67,8 +67,8 @@ pub one_stream_fault : (bytes : List ℕ) (fault other : StreamFault) → Stream
 one_stream_fault bytes fault other a b = one_by (is_marked bytes) bytes fault other a b
 
 no_memory_by : (marked : Bool) (bytes : List ℕ) (stream : Stream) → IsStreamBy marked bytes stream → RefusedBy marked bytes NoMemory
-no_memory_by true bytes stream is = (webm.NoMemory, refl, is.0, is.1)
-no_memory_by false bytes stream is = (ivf.NoMemory, refl, stream, is)
+no_memory_by true bytes stream is = (webm.NoMemory, refl, (is.0, is.1))
+no_memory_by false bytes stream is = (ivf.NoMemory, refl, (stream, is))
 
 -- a stream can be refused as out of memory
 pub no_memory : (bytes : List ℕ) (stream : Stream) → IsStream bytes stream → StreamRefuses bytes NoMemory
