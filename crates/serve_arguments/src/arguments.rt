@@ -41,7 +41,7 @@ fn sources_option<'a>(alloc: Global) -> Arg<'a> {
         alloc,
         "sources",
         "LIST",
-        "IVF files of sources 1 to 7, separated by `:`",
+        "IVF or WebM files of sources 1 to 7, separated by `:`",
     )
     .allow_hyphen_values(true)
 }
@@ -91,7 +91,7 @@ fn with_flags<'a>(alloc: Global, command: Command<'a>) -> Result<Command<'a>, Al
 /// Adds the arguments that have a place.
 fn with_places<'a>(alloc: Global, command: Command<'a>) -> Result<Command<'a>, AllocError> {
     command
-        .arg(optional(alloc, "IN", "IVF file; `-` for a stream with no packets"))?
+        .arg(optional(alloc, "IN", "IVF or WebM file; `-` for a stream with no packets"))?
         .arg(optional(
             alloc,
             "REQUESTS",

@@ -2,7 +2,8 @@
 
 /// The purpose of the program, with an example.
 pub const ABOUT: &str = "\
-Serves frames of a VP8 stream (IVF) as YUV4MPEG2, while you edit its packets.
+Serves frames of a VP8 stream (IVF, WebM or Matroska) as YUV4MPEG2, while you edit
+its packets.
 
 Copy this line to see it work. It forges a grey key frame, repeats its picture
 in a second packet, saves both as IVF and writes both frames:

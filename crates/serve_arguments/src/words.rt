@@ -21,9 +21,9 @@ const CAPACITY: u16 = 32;
 /// The values of the arguments.
 #[derive(Clone, Copy)]
 pub struct Words<'a> {
-    /// The IVF file; `-` for a stream with no packets.
+    /// The IVF or WebM file; `-` for a stream with no packets.
     pub stream: &'a str,
-    /// The IVF files of sources 1 to 7, separated by `:`, if given; a path `-` for a stream with no packets.
+    /// The files of sources 1 to 7, separated by `:`, if given; a path `-` for a stream with no packets.
     pub sources: Option<&'a str>,
     /// The requests; `-` for standard input.
     pub requests: &'a str,
@@ -106,7 +106,7 @@ pub struct Accepted<'a> {
     pub words: Words<'a>,
     /// The most cached states of a session.
     pub capacity: Capacity,
-    /// The IVF files of the sources after source 0.
+    /// The files of the sources after source 0.
     pub more: Vec<&'a str>,
 }
 
