@@ -116,7 +116,7 @@ static void open_session(WokuretiSrc *src, gpointer given) {
     wk_fault fault = {0};
     uint32_t status = open_handle(src, opening, &fault);
     if (status) {
-        opening->wrong = status == WK_FILE ? g_strdup_printf("file %" G_GUINT64_FORMAT " is not an IVF file of VP8 (cause %u)", (guint64)fault.source, fault.cause)
+        opening->wrong = status == WK_FILE ? g_strdup_printf("file %" G_GUINT64_FORMAT " is no IVF or WebM file of VP8 (cause %u)", (guint64)fault.source, fault.cause)
                                            : g_strdup_printf("the session is not opened (%u)", status);
         return;
     }

@@ -276,12 +276,12 @@ static uint32_t open_handle(wk_handle *handle, const Opening *opening, wk_fault 
 }
 
 static void open_session(Source *source, void *given) {
-    static const char *causes[] = {"", "Header", "Magic", "FourCc", "HeaderLength", "TooMany", "NoMemory"};
+    static const char *causes[] = {"", "Header", "Magic", "FourCc", "HeaderLength", "TooMany", "NoMemory", "DocType", "NoTracks", "NoVideo", "Encoded", "Scale"};
     Opening *opening = given;
     wk_fault fault = {0};
     uint32_t status = open_handle(&source->handle, opening, &fault);
     if (status == WK_FILE) {
-        fails(opening, "source %llu is not an IVF file of VP8: %s", (unsigned long long)fault.source, causes[fault.cause]);
+        fails(opening, "source %llu is no IVF or WebM file of VP8: %s", (unsigned long long)fault.source, causes[fault.cause]);
     } else if (status) {
         fails(opening, status == WK_MEMORY ? "out of memory" : "the session is not opened (%u)", status);
     } else if ((!opening->script[0] || set_script(source, opening)) && find_frames(source, opening) && find_kinds(source, opening)) {

@@ -59,15 +59,15 @@ class Engine {
     }
   }
 
-  /** Opens a session over an IVF file. The one before it ends. The limit of the cached states is `{ states }`, their number, or `{ bytes }`, the most bytes of
+  /** Opens a session over an IVF or WebM file. The one before it ends. The limit of the cached states is `{ states }`, their number, or `{ bytes }`, the most bytes of
    * their pictures, four for each. */
   open(file, { states, bytes }) {
     const [open, limit] = bytes === undefined ? [this.calls.wk_open, states] : [this.calls.wk_open_bytes, BigInt(bytes)];
     const status = this.with(file, (at, size) =>
       this.with(new Uint8Array(BigUint64Array.of(size).buffer), (ends) => open(this.handle, at, size, ends, 1n, limit, 0n, 0n, this.fault)),
     );
-    const cause = ["", "Header", "Magic", "FourCc", "HeaderLength", "TooMany", "NoMemory"][this.view(this.fault, 16).getUint32(8, true)];
-    if (status === 2) throw new Refused(`the file is not an IVF file of VP8: ${cause}`);
+    const cause = ["", "Header", "Magic", "FourCc", "HeaderLength", "TooMany", "NoMemory", "DocType", "NoTracks", "NoVideo", "Encoded", "Scale"][this.view(this.fault, 16).getUint32(8, true)];
+    if (status === 2) throw new Refused(`the file is no IVF or WebM file of VP8: ${cause}`);
     if (status) throw new Refused(status === 3 ? "out of memory" : `the session is not opened (${status})`);
   }
 

@@ -65,7 +65,7 @@ typedef struct {
 enum {
     WK_OK = 0,
     WK_ARGUMENT = 1, /* a number is outside its range */
-    WK_FILE = 2,     /* the bytes of a source are not an IVF file of VP8: see wk_fault */
+    WK_FILE = 2,     /* the bytes of a source are no IVF, WebM or Matroska file of VP8: see wk_fault */
     WK_MEMORY = 3,   /* out of memory; nothing changed */
     WK_CLOSED = 4,   /* the handle holds nothing */
     WK_ROOM = 5,     /* too little room; the size that is needed is reported */
@@ -82,12 +82,17 @@ enum {
     WK_EXPORT_TOO_LARGE = 37 /* a packet that repeats a frame would be too large */
 };
 
-enum { WK_FILE_HEADER = 1, WK_FILE_MAGIC, WK_FILE_FOURCC, WK_FILE_HEADER_LENGTH, WK_FILE_TOO_MANY, WK_FILE_NO_MEMORY };
+/* Why a file is refused. FOURCC and HEADER_LENGTH are of IVF files, the last five of files that begin with EBML's mark, 1A 45 DF A3: neither WebM nor
+ * Matroska; no list of tracks; no track of VP8; packets that are compressed or encrypted once more; a unit of time of 0, or of 2^32 ns or more. */
+enum {
+    WK_FILE_HEADER = 1, WK_FILE_MAGIC, WK_FILE_FOURCC, WK_FILE_HEADER_LENGTH, WK_FILE_TOO_MANY, WK_FILE_NO_MEMORY,
+    WK_FILE_DOC_TYPE, WK_FILE_NO_TRACKS, WK_FILE_NO_VIDEO, WK_FILE_ENCODED, WK_FILE_SCALE
+};
 
 /* The version of the library: 1400 is 0.14.0, and 10203 is 1.2.3. */
 uint32_t wk_version(void);
 
-/* Opens a session over `sources` IVF files, 1 to 8, which lie one after the other in `files`, each up to its end in `ends`. At most
+/* Opens a session over `sources` IVF, WebM or Matroska files, 1 to 8, which lie one after the other in `files`, each up to its end in `ends`. At most
  * `states` decoded states are cached, 1 to 4,096. `tables` of size 0 are those of RFC 6386. What the handle held is ended first. */
 uint32_t wk_open(wk_handle *handle, const uint8_t *files, size_t size, const size_t *ends, size_t sources, uint16_t states,
                  const uint8_t *tables, size_t table_size, wk_fault *fault);

@@ -37,7 +37,7 @@ FAULTS = {
 }
 # Bytes of a file, at most.
 MOST_FILE = 1 << 30
-CAUSES = ("", "Header", "Magic", "FourCc", "HeaderLength", "TooMany", "NoMemory")
+CAUSES = ("", "Header", "Magic", "FourCc", "HeaderLength", "TooMany", "NoMemory", "DocType", "NoTracks", "NoVideo", "Encoded", "Scale")
 
 
 class Shown(ctypes.Structure):

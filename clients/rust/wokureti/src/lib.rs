@@ -42,7 +42,7 @@ impl fmt::Display for Fault {
     fn fmt(&self, f: &mut fmt::Formatter<'_>) -> fmt::Result {
         match self {
             Fault::Argument => write!(f, "one to eight files and 1 to 4096 states are allowed"),
-            Fault::File { source, cause } => write!(f, "source {source} is not an IVF file of VP8 (cause {cause})"),
+            Fault::File { source, cause } => write!(f, "source {source} is no IVF or WebM file of VP8 (cause {cause})"),
             Fault::Memory => write!(f, "out of memory"),
             Fault::Refused(why) => write!(f, "refused {why}"),
             Fault::Source => write!(f, "there is no source with this number"),
