@@ -23,6 +23,7 @@ sys.path[1:1] = [str(TOP / "clients/python"), str(TOP / "compare")]
 import test_library  # noqa: E402
 from wokureti import Session  # noqa: E402
 from wokureti.tools import ivf  # noqa: E402
+from library.webm import webm  # noqa: E402
 
 PAGE = pathlib.Path(os.environ.get("WOKURETI_WEB") or TOP / "bin/web")
 SERVE = os.environ.get("VP8SERVE") or str(TOP / "bin/vp8serve")
@@ -295,9 +296,24 @@ def mended(browser):
     browser.run("await page.client.call('check', 0, 1e9)")
     if browser.run("return page.refused.size"):
         yield "chromium: a frame is refused after the repair"
-    said = browser.run("return page.open(new File([Uint8Array.of(0x1a, 0x45, 0xdf, 0xa3)], 'clip.webm')).catch((error) => error.message)")
-    if "ffmpeg" not in said:
-        yield f"chromium: a WebM file: {said}"
+    yield from as_webm(browser)
+
+
+def as_webm(browser):
+    """A WebM file has the pictures of the same packets in an IVF file, and the rate of its time stamps. One without VP8 is refused by name."""
+    packets = [packet for _, packet in ivf.read_packets(EXAMPLE)[1]]
+    stamps = [40 * at for at in range(len(packets))]
+    given = [base64.b64encode(text).decode() for text in (EXAMPLE.read_bytes(), webm(packets, stamps))]
+    one, other = (browser.run(SUMS, text) for text in given)
+    if one != other or not one:
+        yield "chromium: the pictures of a WebM file are other ones than those of its packets in an IVF file"
+    opened = "await page.open(new File([Uint8Array.from(atob(args[0]), (letter) => letter.charCodeAt(0))], 'clip.webm')); return page.stream.rate"
+    if browser.run(opened, given[1]) != 25:
+        yield "chromium: a WebM file with a frame each 40 ms has not 25 frames a second"
+    coded = base64.b64encode(webm(packets[:3], stamps[:3], codec=b"V_VP9")).decode()
+    said = browser.run("return page.open(new File([Uint8Array.from(atob(args[0]), (letter) => letter.charCodeAt(0))], 'other.webm')).catch((error) => error.message)", coded)
+    if "NoVideo" not in said:
+        yield f"chromium: a WebM file of VP9: {said}"
 
 
 def colour_of(path):

@@ -12,10 +12,8 @@ class Editor {
     this.steps = [];
   }
 
-  /** Opens an IVF file. */
+  /** Opens an IVF or WebM file. */
   open(file) {
-    const isMatroska = [0x1a, 0x45, 0xdf, 0xa3].every((byte, at) => file[at] === byte);
-    if (isMatroska) throw new Refused("this is a WebM or Matroska file, and the page reads IVF: ffmpeg -i IN -an -c copy OUT.ivf takes the packets out");
     this.engine.open(file, Editor.LIMIT);
     this.file = file;
     this.opened = this.engine.save(false);

@@ -197,7 +197,7 @@ class Page {
     const file = await this.client.call("save");
     const link = document.createElement("a");
     link.href = URL.createObjectURL(new Blob([file], { type: "video/x-ivf" }));
-    link.download = this.name.replace(/(\.ivf)?$/i, "-edited.ivf");
+    link.download = this.name.replace(/(\.ivf|\.webm|\.mkv)?$/i, "-edited.ivf");
     link.click();
     setTimeout(() => URL.revokeObjectURL(link.href), 60_000);
     this.say(`Saved ${link.download}`);
