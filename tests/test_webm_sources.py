@@ -133,7 +133,7 @@ def cut_files(folder, packets):
     (folder / "cut.webm").write_bytes(text[:-1])
     status, replies, _, _, error = run(folder, folder / "cut.webm", "count\n")
     left = len(block(3, 0, few[-1])) - 1
-    if (status, replies) != (0, f"count {len(few) - 1} ".encode() + replies.split()[-1] + b"\n") or f"spare {left}\n" not in error:
+    if (status, replies) != (0, b"packets 4 frames 4\n") or f"spare {left}\n" not in error:
         yield f"a file without its last byte: status {status}, {replies} {error!r}, not spare {left}"
 
 
