@@ -1,5 +1,6 @@
 // The frames of a session as packets.
 ghost use Rattle.std.specs.Prelude.{◌≡◌, ◌≢◌, ◌<◌, ◌≤◌, [], Err, None, IfErr, IfOk, IfSome, OnOk, Some, length, map, slice_get};
+ghost use Rattle.std.specs.List.{All};
 ghost use Rattle.lossless_cuts.specs.Laws.{ExportsShowTheirFrames};
 ghost use Rattle.lossless_cuts.specs.Limits.{IsTooLarge, file_size};
 ghost use Rattle.lossless_cuts.specs.Faults.{export_fault};
@@ -7,7 +8,7 @@ ghost use Rattle.lossless_cuts.specs.Plans.{exported};
 ghost use Rattle.frame_session.specs.Exported.{HasPicture, HasTarget, HaveTargets, IsChanged, IsExportFile, IsFrameFault, IsNotExported, IsPackingFault, export_head, index_in, streams_in, duration_at, unsized};
 ghost use Rattle.frame_session.specs.Cached.{store_at};
 ghost use Rattle.frame_session.specs.Edits.{list_at};
-ghost use Rattle.frame_session.specs.Sessions.{frame_count, frame_of, picture_from};
+ghost use Rattle.frame_session.specs.Sessions.{frame_count, frame_of, picture_from, shown_counts};
 ghost use Rattle.packet_edits.specs.Shown.{stream_of};
 ghost use Rattle.stream_steps.specs.Decoding.{outcomes};
 ghost use Rattle.packet_times.specs.Durations.{one_frame};
@@ -112,19 +113,21 @@ impl Session {
         }
     }
 
-    /// The packet of frame `n`, and the number of the first node that changes samples of it. `before` is the packet of an
-    /// earlier frame that is exported.
-    fn origin_of(&self, before: Option<Target>, n: u64) -> Result<Origin, Refusal>
-        requires { IfSome before (λ target. HasPicture self.now.state target.source target.place (target.width, target.height)) }
+    /// The packet of frame `n`, and the number of the first node that changes samples of it. `counts` has the number of shown packets of each
+    /// source, and `before` is the packet of an earlier frame that is exported.
+    fn origin_of(&self, counts: &[u64], before: Option<Target>, n: u64) -> Result<Origin, Refusal>
+        requires counts { counts.now ≡ shown_counts self.now.state }
+        requires few { All (λ count. count ≤ 1048576) counts.now }
+        requires sources { length counts.now ≡ length self.now.stores }
+        requires before { IfSome before (λ target. HasPicture self.now.state target.source target.place (target.width, target.height)) }
         ensures target { IfOk result (λ found. found.changed ≡ None → HasTarget self.now.state n found.target) }
         ensures changed { IfOk result (λ found. IfSome found.changed (IsChanged self.now.state n)) }
         ensures refused { IfErr result (λ refusal. frame_of (unsized self.now.state) n ≡ Err refusal) }
     {
-        let counts = self.shown_counts();
-        let Some((source, frame, trace)) = self.script.trace(&counts, n) else {
+        let Some((source, frame, trace)) = self.script.trace(counts, n) else {
             return Err(Refusal::NoSuchFrame);
         };
-        let Some(steps) = self.script.node_steps(&counts, n) else {
+        let Some(steps) = self.script.node_steps(counts, n) else {
             return Err(Refusal::NoSuchFrame);
         };
         self.script.prove_nodes();
@@ -149,13 +152,21 @@ impl Session {
         Ok(Origin { target, changed })
     }
 
-    /// The packet of frame `n`, if the script changes no sample of it. `before` is the packet of an earlier frame that is exported.
-    fn export_target(&self, before: Option<Target>, n: u64) -> Result<Target, ExportFault>
-        requires { IfSome before (λ target. HasPicture self.now.state target.source target.place (target.width, target.height)) }
+    /// The packet of frame `n`, if the script changes no sample of it. `counts` and `before` are as for `origin_of`.
+    fn export_target(
+        &self,
+        counts: &[u64],
+        before: Option<Target>,
+        n: u64,
+    ) -> Result<Target, ExportFault>
+        requires counts { counts.now ≡ shown_counts self.now.state }
+        requires few { All (λ count. count ≤ 1048576) counts.now }
+        requires sources { length counts.now ≡ length self.now.stores }
+        requires before { IfSome before (λ target. HasPicture self.now.state target.source target.place (target.width, target.height)) }
         ensures target { IfOk result (HasTarget self.now.state n) }
         ensures fault { IfErr result (IsFrameFault self.now.state n) }
     {
-        match self.origin_of(before, n) {
+        match self.origin_of(counts, before, n) {
             Ok(found) => match found.changed {
                 Some(node) => Err(ExportFault::Changed { frame: n, node }),
                 None => Ok(found.target),
@@ -178,10 +189,11 @@ impl Session {
         ensures count { IfOk result (λ targets. length targets.items ≡ count) }
         ensures fault { IfErr result (IsNotExported self.now.state) }
     {
+        let counts = self.shown_counts();
         let mut targets = self.no_targets();
         let mut before = None;
         'frames: for n in 0..count {
-            let target = self.export_target(before, n)?;
+            let target = self.export_target(&counts, before, n)?;
             let Ok(()) = targets.push(target) else {
                 return Err(ExportFault::Packets(CutFault::NoMemory));
             };
