@@ -91,7 +91,11 @@ fn with_flags<'a>(alloc: Global, command: Command<'a>) -> Result<Command<'a>, Al
 /// Adds the arguments that have a place.
 fn with_places<'a>(alloc: Global, command: Command<'a>) -> Result<Command<'a>, AllocError> {
     command
-        .arg(optional(alloc, "IN", "IVF or WebM file; `-` for a stream with no packets"))?
+        .arg(optional(
+            alloc,
+            "IN",
+            "IVF or WebM file; `-` for a stream with no packets",
+        ))?
         .arg(optional(
             alloc,
             "REQUESTS",
