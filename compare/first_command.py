@@ -199,7 +199,8 @@ def false_dist(checkout, version, sources):
     dist = checkout.top / "dist"
     shutil.rmtree(dist, ignore_errors=True)
     dist.mkdir()
-    (dist / "SOURCES").write_text(f"version: {version}\ndate: 2026-01-02\nsources: {sources}\n")
+    programs = "".join(f"program {name} for x86-64-{cpu}: -\n" for name in ("vp8serve", "vp8list") for cpu in ("v2", "v3"))
+    (dist / "SOURCES").write_text(f"version: {version}\ndate: 2026-01-02\nsources: {sources}\n{programs}")
     tags = "manylinux_2_17_x86_64.musllinux_1_1_x86_64"
     with zipfile.ZipFile(dist / f"wokureti-{version}-py3-none-{tags}.whl", "w") as file:
         for name in ("vp8serve", "vp8list"):

@@ -6,9 +6,8 @@ The names of wheels, dist/SOURCES, the table in README.md and the second line of
 import platform
 from dataclasses import dataclass
 
-from .sources import Failed
+from .sources import PROGRAMS, Failed
 
-PROGRAMS = ("vp8serve", "vp8list")
 VERDICT = "proved by the kit's verdict for this target"
 
 
@@ -16,7 +15,8 @@ VERDICT = "proved by the kit's verdict for this target"
 class Target:
     """A system. `builds` are the processors that its files are made for, the most general one first; `system` and `machines` are what Python's `platform` calls it.
 
-    Without `tags` there is no wheel for it. `place` is where the wheel installs a file, below the environment's folder."""
+    Without `tags` there is no wheel for it. `place` is a file's place in the wheel's folder of data: `data/` is installed below the environment's folder, `scripts/`
+    among its commands. With a launcher, a script of each program's name starts the file for the processor."""
 
     name: str
     installed: str
@@ -27,8 +27,9 @@ class Target:
     builds: tuple = ()
     programs: tuple = PROGRAMS
     library: str = "libwokureti.so.0"
-    place: str = "lib/wokureti/{name}-{build}"
-    place_of_library: str = "lib/wokureti/{build}/{name}"
+    place: str = "scripts/{name}"
+    place_of_library: str = "data/lib/wokureti/{name}"
+    has_launcher: bool = False
     system: str = ""
     machines: tuple = ()
 
@@ -43,7 +44,7 @@ class Target:
         return (*self.programs, *([self.library] if self.library else []))
 
     def place_of(self, name, build):
-        """Where a program or the library for one of the `builds` is installed."""
+        """The place of a program or of the library for one of the `builds`."""
         return (self.place_of_library if name == self.library else self.place).format(name=name, build=build)
 
     def wheel(self, version):
@@ -60,6 +61,9 @@ X86_64 = Target(
     tested="every test of the gate runs over it",
     tags=("manylinux_2_17_x86_64", "musllinux_1_1_x86_64"),
     builds=("x86-64-v2", "x86-64-v3"),
+    place="data/lib/wokureti/{name}-{build}",
+    place_of_library="data/lib/wokureti/{build}/{name}",
+    has_launcher=True,
     system="Linux",
     machines=("x86_64", "amd64"),
 )
@@ -84,8 +88,6 @@ WINDOWS = Target(
     builds=("x86-64",),
     programs=("vp8serve.exe", "vp8list.exe"),
     library="wokureti.dll",
-    place="Scripts/{name}",
-    place_of_library="lib/wokureti/{build}/{name}",
     system="Windows",
     machines=("amd64", "x86_64"),
 )
