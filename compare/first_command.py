@@ -122,7 +122,7 @@ def spaces(room):
     status, text = checkout.run()
     differs("built", (status, checkout.built(), checkout.proved()), (0, ALL, CRATES))
     differs("lines of crates", [f"({n} of 4" in text for n in (1, 2, 3, 4)], [True] * 4)
-    names = dict(line.split(": ") for line in (checkout.top / "bin/.built").read_text().splitlines() if ": " in line and line[0] != "#")
+    names = dict(line.split(": ", 1) for line in (checkout.top / "bin/.built").read_text().splitlines() if ": " in line and line[0] != "#")
     differs("what is in bin", (names["version"], names["origin"]), ("1.2.3", "here"))
     shown = subprocess.run([checkout.top / "bin/vp8serve"], capture_output=True, text=True, timeout=SECONDS)
     differs("the program", shown.stdout.strip(), str(checkout.top / "bin/vp8serve"))

@@ -162,11 +162,13 @@ def row(path):
 
 
 def versions():
-    """All three commands have the version of this checkout, and so have the examples for CMake in the documents."""
+    """All three commands have the version of this checkout, and so have the examples for CMake in the documents. wokureti says what is proved, in a second line."""
     version = (TOP / "VERSION").read_text().strip()
+    said = f"what is proved of it is not known: VP8SERVE names {SERVE}, VP8LIST names {LIST}\n"
     words = {"vp8serve": [SERVE], "vp8list": [LIST], "wokureti": [sys.executable, "-m", "wokureti"]}
-    found = {name: ran([*command, "--version"], folder=TOP / "clients/python", limit=60) for name, command in words.items()}
-    wrong = [f"{name}: {got!r}" for name, got in found.items() if got != (0, f"{name} {version}\n".encode())]
+    room = {name: value for name, value in os.environ.items() if name != "LIBWOKURETI"}
+    found = {name: ran([*command, "--version"], folder=TOP / "clients/python", limit=60, environment=room) for name, command in words.items()}
+    wrong = [f"{name}: {got!r}" for name, got in found.items() if got != (0, f"{name} {version}\n{said if name == 'wokureti' else ''}".encode())]
     asked = re.findall(r"find_package\(wokureti ([0-9.]+)", (TOP / "clients/README.md").read_text())
     if not asked or {*asked} != {version.rpartition(".")[0]}:
         wrong.append(f"clients/README.md: find_package(wokureti {asked}) is not for {version}")
@@ -190,7 +192,7 @@ def links():
         other.symlink_to(folder / "one")
         for link in (folder / "one", other):
             said = ran([link, "--version"], folder=folder, limit=60, environment=room)
-            if said != (0, f"wokureti {version}\n".encode()):
+            if said[0] or not said[1].startswith(f"wokureti {version}\n".encode()):
                 wrong.append(f"{link.name} --version: {said}")
         said = ran([other, "cut", TOP / "examples/mandelbrot.ivf", "part.ivf", "--from", "f0", "--to", "f5"], folder=folder, limit=60, environment=room)
         if said[0] or not (folder / "part.ivf").is_file():

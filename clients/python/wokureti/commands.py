@@ -12,7 +12,7 @@ import traceback
 
 from . import __version__, system
 from .session import checks, named
-from .tools import cat, containers, convert, excerpts, files, ivf, muxing, programs, rooms, sounds
+from .tools import cat, containers, convert, excerpts, files, ivf, muxing, programs, rooms, sounds, versions
 from .session.errors import Ended, Lost, Refused, sentence
 from .tools.progress import say
 
@@ -641,9 +641,17 @@ def run_png(given):
     return status
 
 
+class Version(argparse.Action):
+    """`--version`: a line with the version, and one with what is proved."""
+
+    def __call__(self, parser, *_):
+        print(f"wokureti {__version__}", versions.proof(), sep="\n", flush=True)
+        parser.exit()
+
+
 def parser_of():
     parser = argparse.ArgumentParser(prog="wokureti", description=ABOUT)
-    parser.add_argument("--version", action="version", version=f"wokureti {__version__}")
+    parser.add_argument("--version", action=Version, nargs=0, help="show the version, and what is proved of this build")
     commands = parser.add_subparsers(metavar="COMMAND", required=True)
     add_open(commands)
     add_serve(commands)

@@ -17,7 +17,9 @@ def installed(name):
     for folder in HERE.parents:
         if system.IS_WINDOWS and (folder / "Scripts" / f"{name}.exe").is_file():
             return str(folder / "Scripts" / f"{name}.exe")
-        if (folder / "lib/wokureti" / f"{name}-x86-64-v2").is_file() and (folder / "bin" / name).is_file():
+        # A wheel with builds for several processors has a launcher in bin/, another one the program.
+        marks = (folder / "lib/wokureti" / mark for mark in (f"{name}-x86-64-v2", system.LIBRARY))
+        if any(mark.is_file() for mark in marks) and (folder / "bin" / name).is_file():
             return str(folder / "bin" / name)
     return None
 
