@@ -22,6 +22,7 @@ CPU = ARM.builds[0]
 FOLDER = "arm"
 CRATES = (*PROGRAMS, library.CRATE)
 SOURCES = ("kit_heap", "kit_os")
+FILES = tuple(TOP / "release" / f"{name}.c" for name in SOURCES)
 PACKAGES = "gcc-aarch64-linux-gnu and libc6-dev-arm64-cross"
 # What the library may ask of the system, and the newest glibc that it may ask it of: the one that the wheel's tag names.
 ASKED = {"memcpy", "memmove", "memset", "malloc", "realloc", "free"}

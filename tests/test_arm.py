@@ -17,9 +17,10 @@ import tempfile
 TOP = pathlib.Path(__file__).resolve().parent.parent
 sys.dont_write_bytecode = True
 sys.path.insert(0, str(TOP))
-from release import library, wheel  # noqa: E402
+from release import arm, library, wheel  # noqa: E402
 from release.arm import PREFIX  # noqa: E402
-from release.sources import Failed, digest, needed, read_names  # noqa: E402
+from release.others import sources  # noqa: E402
+from release.sources import Failed, read_names  # noqa: E402
 from release.targets import ARM  # noqa: E402
 
 LIMIT = 800
@@ -30,7 +31,7 @@ TESTS = ("row ", "clip ", "findings", "stored run", "conformance/", "tests/test_
 
 def programs(folder):
     """The folder with the programs and the library, of the same sources as the other programs that are tested; or the reason why there is none."""
-    if read_names(MADE / ".built").get("sources") == digest(needed()):
+    if read_names(MADE / ".built").get("sources") == sources(arm):
         return MADE, ""
     dist = read_names()
     if f"program {ARM.programs[0]} for {CPU}" not in dist:
