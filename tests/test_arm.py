@@ -2,6 +2,8 @@
 """Tests the programs and the library for Linux on ARM under `qemu-aarch64`: rows, clips, findings, stored runs, conformance, options, questions, saving, and the library's
 tests in C against the vp8serve of this machine.
 
+    test_arm.py [programs | saving | library]
+
 They are those of bin/arm, which `./build.py --arm` makes, or of the wheel in dist/. It prints what fails and ends with 1, or prints nothing and ends with 0; a line
 `skipped: ..` names what could not be run.
 """
@@ -26,7 +28,7 @@ from release.targets import ARM  # noqa: E402
 LIMIT = 800
 QEMU, ROOT, MADE = "qemu-aarch64", "/usr/aarch64-linux-gnu", TOP / "bin/arm"
 CPU = ARM.builds[0]
-TESTS = ("row ", "clip ", "findings", "stored run", "conformance/", "tests/test_conformance", "compare/options", "test_questions", "test_written_files", "test_long_lines")
+TESTS = ("row ", "clip ", "findings", "stored run", "conformance/", "compare/options", "test_questions", "test_written_files", "test_long_lines")
 
 
 def programs(folder):
@@ -34,8 +36,8 @@ def programs(folder):
     if read_names(MADE / ".built").get("sources") == sources(arm):
         return MADE, ""
     dist = read_names()
-    if f"program {ARM.programs[0]} for {CPU}" not in dist:
-        return None, "bin/arm is not of these sources, and dist/ has no programs for it: ./build.py --arm makes them"
+    if dist.get(f"sources for {CPU}") != sources(arm):
+        return None, "neither bin/arm nor dist/ has programs of these sources: ./build.py --arm makes them"
     try:
         for name in ARM.files:
             (folder / name).write_bytes(wheel.program(dist["version"], name, CPU))
@@ -46,9 +48,9 @@ def programs(folder):
 
 def started_by_qemu(there, folder):
     """A script for each program that starts it under the emulator."""
-    made = {}
+    made = {name: folder / "qemu" / name for name in ARM.programs}
+    (folder / "qemu").mkdir()
     for name in ARM.programs:
-        made[name] = folder / f"{name} under qemu"
         made[name].write_text(f'#!/bin/sh\nexec {QEMU} {shlex.quote(str(there / name))} "$@"\n')
         made[name].chmod(0o755)
     return {name.upper(): str(path) for name, path in made.items()}
@@ -63,7 +65,15 @@ def ran(words, variables):
     return wrong or ([f"{words[0]}: status {done.returncode}"] if done.returncode else []), skipped
 
 
-def of_library(there):
+def of_programs(there, folder):
+    return ran([TOP / "tests/run.py", *TESTS], started_by_qemu(there, folder))
+
+
+def of_saving(there, folder):
+    return ran([TOP / "compare/saving.py", "--quiet"], started_by_qemu(there, folder))
+
+
+def of_library(there, _):
     """The library's tests in C, whose programs the cross compiler makes; the lists of requests are answered by vp8serve of this machine too."""
     if shutil.which(f"{PREFIX}gcc") is None:
         return [], [f"skipped: the library for {ARM.name}: {PREFIX}gcc is not there"]
@@ -71,7 +81,10 @@ def of_library(there):
     return ran([TOP / "tests/test_library.py"], variables)
 
 
-def main():
+PARTS = {"programs": of_programs, "saving": of_saving, "library": of_library}
+
+
+def main(names):
     if shutil.which(QEMU) is None:
         print(f"skipped: {ARM.name}: {QEMU} is not there; Debian's package is qemu-user")
         return 0
@@ -81,12 +94,14 @@ def main():
         if there is None:
             print(f"skipped: {ARM.name}: {why}")
             return 0
-        variables = started_by_qemu(there, folder)
-        found = [ran([TOP / "tests/run.py", *TESTS], variables), ran([TOP / "compare/saving.py", "--quiet"], variables), of_library(there)]
+        rooms = {name: folder / f"part-{name}" for name in names or PARTS}
+        for room in rooms.values():
+            room.mkdir()
+        found = [PARTS[name](there, room) for name, room in rooms.items()]
     wrong, skipped = [line for part, _ in found for line in part], [line for _, part in found for line in part]
     print(*(f"skipped: under qemu: {line.removeprefix('skipped: ')}" for line in skipped), *wrong, sep="\n", end="\n" if wrong or skipped else "")
     return 1 if wrong else 0
 
 
 if __name__ == "__main__":
-    sys.exit(main())
+    sys.exit(main(sys.argv[1:]))
