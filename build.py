@@ -398,7 +398,8 @@ def make_others():
 
 def main():
     parser = argparse.ArgumentParser(description=__doc__, formatter_class=argparse.RawDescriptionHelpFormatter)
-    parser.add_argument("--cpu", default=os.environ.get("WOKURETI_CPU", ""), metavar="NAME", help="x86-64-v2 or x86-64-v3, or aarch64 on such a machine; also the variable WOKURETI_CPU")
+    cpus = "x86-64-v2 or x86-64-v3, or aarch64 on such a machine; also the variable WOKURETI_CPU"
+    parser.add_argument("--cpu", default=os.environ.get("WOKURETI_CPU", ""), metavar="NAME", help=cpus)
     parser.add_argument("--built", action="store_true", help="with --verify, --dist, --library, --web, --arm and --others: rt ci has proved the crates here")
     parser.add_argument("--room", type=pathlib.Path, metavar="DIR", help="with --built: keeps what is built in this folder, and takes from it what an earlier call built there")
     what = parser.add_mutually_exclusive_group()

@@ -3,8 +3,8 @@
 
     compare/targets.py [--lists N] [--damaged N] [--seed S] [NAME | NAME=COMMAND ..]
 
-NAME is one of arm, windows and wasm: the programs below bin/, under an emulator or in Node. COMMAND starts the programs of any other target, with {} for vp8serve or vp8list:
-'windows=wine64 bin/windows/{}.exe'. Without a name it takes each target whose programs and emulator are here, and names those that it skips. README.md says more.
+NAME is one of arm, windows and wasm: the programs below bin/, under an emulator or in Node. COMMAND starts the programs of any other target, with {} for vp8serve or
+vp8list: 'windows=wine64 bin/windows/{}.exe'. Without a name it takes each target whose programs and emulator are here, and names those that it skips.
 """
 
 import argparse
@@ -37,7 +37,29 @@ SECONDS, MOST_FRAMES = 600, 60
 # Clips of the random lists have fewer bytes.
 MOST_BYTES = 40_000
 LISTS = ([], ["--json"], ["--hash"], ["--check"], ["--check", "--json"], ["--macroblocks", "0"], ["--header", "0"])
-EDITS = "count\nstats\nhold 1\ndelete 0\nblank 0 64 48\nframe 0\nlist 0 5\ncheck 0 9\norigins 0 9\nheader 0\nscript trim 0 0 5; fade 1 0 3 256 0\nframe 2\nscript\nscript -\npacket 0\nframe 99999\nnonsense\nmove 1 0\nhide 2\nshow 2\nframe 3\nstats\n"
+EDITS = """count
+stats
+hold 1
+delete 0
+blank 0 64 48
+frame 0
+list 0 5
+check 0 9
+origins 0 9
+header 0
+script trim 0 0 5; fade 1 0 3 256 0
+frame 2
+script
+script -
+packet 0
+frame 99999
+nonsense
+move 1 0
+hide 2
+show 2
+frame 3
+stats
+"""
 
 
 @dataclass
@@ -59,7 +81,8 @@ def run(command, case):
             (folder / file).write_bytes(data)
         environment = {**os.environ, "WINEDEBUG": "-all", "PWD": name}
         try:
-            done = subprocess.run([*command[case.program], *case.words], input=case.lines.encode(), capture_output=True, timeout=SECONDS, cwd=folder, env=environment, check=False)
+            words, options = [*command[case.program], *case.words], {"capture_output": True, "timeout": SECONDS, "cwd": folder, "env": environment}
+            done = subprocess.run(words, input=case.lines.encode(), **options, check=False)
         except subprocess.TimeoutExpired:
             return {"status": f"later than {SECONDS} s"}
         left = {path.name: path.read_bytes() for path in folder.iterdir() if path.name not in case.inputs}

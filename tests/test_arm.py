@@ -1,11 +1,11 @@
 #!/usr/bin/env python3
-"""Tests the programs and the library for Linux on ARM under `qemu-aarch64`: rows, clips, findings, stored runs, conformance, options, questions, saving, and the library's
-tests in C against the vp8serve of this machine.
+"""Tests the programs and the library for Linux on ARM under `qemu-aarch64`: rows, clips, findings, stored runs, conformance, options, questions, saving, and the
+library's tests in C against the vp8serve of this machine.
 
     test_arm.py [programs | saving | library]
 
-They are those of bin/arm, which `./build.py --arm` makes, or of the wheel in dist/. It prints what fails and ends with 1, or prints nothing and ends with 0; a line
-`skipped: ..` names what could not be run.
+They are those of bin/arm, which `./build.py --arm` makes, or of the wheel in dist/, if it is of these sources. It prints what fails and ends with 1, or prints
+nothing and ends with 0; a line `skipped: ..` names what could not be run.
 """
 
 import os
@@ -58,7 +58,8 @@ def started_by_qemu(there, folder):
 
 def ran(words, variables):
     """The lines of a test that fail, and those that say what it skipped."""
-    done = subprocess.run([sys.executable, *map(str, words)], env={**os.environ, **variables}, stdin=subprocess.DEVNULL, capture_output=True, text=True, timeout=LIMIT, check=False)
+    options = {"stdin": subprocess.DEVNULL, "capture_output": True, "text": True, "timeout": LIMIT}
+    done = subprocess.run([sys.executable, *map(str, words)], env={**os.environ, **variables}, **options, check=False)
     lines = (done.stdout + done.stderr).splitlines()
     skipped = [line for line in lines if line.startswith("skipped: ")]
     wrong = [line for line in lines if line not in skipped and not line.startswith("ok ")] if done.returncode else []
