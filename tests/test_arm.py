@@ -1,5 +1,5 @@
 #!/usr/bin/env python3
-"""Tests the programs and the library for Linux on ARM under `qemu-aarch64`: rows, clips, findings, stored runs, conformance, options, questions, saving, and the
+"""Tests the programs and the library for Linux on ARM under `qemu-aarch64`: rows, clips, findings, stored runs, conformance, options, saving, and the
 library's tests in C against the vp8serve of this machine.
 
     test_arm.py [programs | saving | library]
@@ -28,7 +28,7 @@ from release.targets import ARM  # noqa: E402
 LIMIT = 800
 QEMU, ROOT, MADE = "qemu-aarch64", "/usr/aarch64-linux-gnu", TOP / "bin/arm"
 CPU = ARM.builds[0]
-TESTS = ("row ", "clip ", "findings", "stored run", "conformance/", "compare/options", "test_questions", "test_written_files", "test_long_lines")
+TESTS = ("row ", "clip ", "findings", "stored run", "conformance/", "compare/options", "test_written_files")
 
 
 def programs(folder):
