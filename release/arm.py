@@ -61,11 +61,12 @@ def compiled(room, is_proved, say):
     """The object file of each program and the archive of the library, by the names of their crates: those in `room`, if they are of these sources."""
     mark = hashlib.sha256(f"{digest(needed(CRATES))} {kit_here()}".encode()).hexdigest()[:16]
     made = {name: room / f"{name}-{CPU}-{mark}.{'a' if name == library.CRATE else 'o'}" for name in CRATES}
-    if all(path.is_file() for path in made.values()):
-        return made
-    for old in [path for name in CRATES for path in room.glob(f"{name}-{CPU}-*")]:
+    for old in {path for name in CRATES for path in room.glob(f"{name}-{CPU}-*")} - {*made.values()}:
         old.unlink()
-    say(f"proving and compiling {', '.join(CRATES)} for {ARM.name}. Output goes to {room}/arm-*.log")
+    left = [name for name in CRATES if not made[name].is_file()]
+    if not left:
+        return made
+    say(f"proving and compiling {', '.join(left)} for {ARM.name}. Output goes to {room}/arm-*.log")
 
     def one(name, folder):
         words = [sys.executable, TOP / "release/for_target.py", kit_folder() / "bin/rt", folder, TRIPLE, made[name].with_suffix(".new")]
@@ -80,7 +81,7 @@ def compiled(room, is_proved, say):
     with open(room / "arm-below.log", "w", encoding="utf-8") as log:
         below = folders(room, is_proved, say, log)
     with concurrent.futures.ThreadPoolExecutor(len(CRATES)) as pool:
-        list(pool.map(one, below, below.values()))
+        list(pool.map(one, left, [below[name] for name in left]))
     return made
 
 
