@@ -1,5 +1,5 @@
 #!/usr/bin/env python3
-"""Proves and builds vp8serve and vp8list: build.py [--cpu x86-64-v2|x86-64-v3] [--ready | --verify | --dist | --library | --web]
+"""Proves and builds vp8serve and vp8list: build.py [--cpu x86-64-v2|x86-64-v3] [--ready | --verify | --dist | --library | --web | --arm | --others]
 
 Without an option it proves the crates that the two programs need, builds both for this processor, and puts them into bin/, next to
 bin/wokureti, which starts the Python client. It works on a copy of these crates outside the checkout, so it can be interrupted: what was
@@ -7,14 +7,16 @@ proved by then is kept. If nothing has changed since the last time, it does noth
 
   --ready   puts the programs and the library of dist/ into bin/, if no newer ones are there, and says which ones bin/ has; only without dist/ it builds.
             Its messages name SCRIPT, which called it
-  --verify  builds both programs for both processors, and compares them with those of dist/ byte for byte, if dist/ is of these sources.
+  --verify  builds both programs and the library for all processors of dist/, and compares them with dist/ byte for byte, if dist/ is of these sources.
             With --built they are taken from crates/, where `rt ci` has proved them
-  --dist    the same, and packs them with the client into a new dist/, if VERSION is new
+  --dist    the same, and packs them with the client into a new dist/ with a wheel for each system, if VERSION is new
   --library builds the C library into bin/: libwokureti.so.0, libwokureti.a, wokureti.h and files for pkg-config and CMake. --built as above
   --web     builds the page without a server into bin/web: the library's LLVM module, compiled for WebAssembly, outside the verdict. --built as above
+  --arm     proves and builds the programs and the C library for Linux on ARM into bin/arm. --built as above
+  --others  the same for each other system whose compiler is here, and names those that it skips
 
 Python 3.9 and its standard library suffice for --ready; the others need the Rattle kit, --verify, --dist and --library gcc too, and the first two of them the C
-library's libc.a.
+library's libc.a. --arm needs gcc-aarch64-linux-gnu.
 """
 
 import argparse
@@ -30,7 +32,7 @@ import sys
 import tempfile
 
 sys.dont_write_bytecode = True
-from release import proving, wheel  # noqa: E402
+from release import proving, targets, wheel  # noqa: E402
 from release.sources import CPUS, DIST, PROGRAMS, TOP, Failed, digest, kit, kit_here, needed, read_names, sum_of, version, write_names  # noqa: E402
 
 BIN = TOP / "bin"
@@ -53,11 +55,16 @@ def say(text):
 
 
 def processor(given):
-    """The processor to build for: the one that was asked for, or v3 if this machine has it."""
+    """The processor that programs in bin/ are for: the one that was asked for, or v3 if this machine has it."""
+    here = targets.here()
+    if here not in (targets.X86_64, targets.ARM):
+        raise Failed(f"the programs are for {targets.X86_64.name} and {targets.ARM.name}; README.md has a table of all systems")
     if given:
-        if given not in CPUS:
-            raise Failed(f"the processor is {given}, but must be {' or '.join(CPUS)}")
+        if given not in here.builds:
+            raise Failed(f"the processor is {given}, but must be {' or '.join(here.builds)}")
         return given
+    if here is targets.ARM:
+        return here.builds[0]
     flags = pathlib.Path("/proc/cpuinfo").read_text(encoding="ascii", errors="replace").split()
     return CPUS[all(word in flags for word in ("avx2", "bmi1", "bmi2", "f16c", "fma", "abm", "movbe"))]
 
@@ -77,11 +84,13 @@ def place(files, cpu, names):
         fresh.write_bytes(data)
         fresh.chmod(0o755)
         fresh.replace(BIN / name)
-    write_names({**names, "processor": cpu}, STAMP)
+    write_names({**names, "processor": cpu, "proof": targets.of_build(cpu).sentence}, STAMP)
 
 
 def check_kit():
     """Any kit of the same logic will do: it proves the same statements."""
+    if targets.here() is not targets.X86_64:
+        raise Failed(f"the Rattle kit is for {targets.X86_64.name}, and builds the programs for {targets.ARM.name} there")
     if shutil.which("rt") is None:
         raise Failed("building needs the command rt of the Rattle kit on the PATH")
     shown = kit_here()
@@ -138,12 +147,16 @@ def ready(cpu):
             return build(cpu)
         is_newer = dist and dist["sources"] == sources
         if is_newer or not there or (there["origin"] == "dist" and (there["version"], there["processor"]) != (dist.get("version"), cpu)):
-            names = [*PROGRAMS, *([wheel.LIBRARY] if f"{wheel.LIBRARY} for {cpu}" in dist else [])]
+            target = targets.of_build(cpu)
+            if f"program {target.programs[0]} for {cpu}" not in dist:
+                raise Failed(f"dist/ has no programs for {target.name}, {cpu}")
+            names = [*target.programs, *([target.library] if f"{target.library} for {cpu}" in dist else [])]
             files = {name: wheel.program(dist["version"], name, cpu) for name in names}
             there = {"sources": dist["sources"], "version": dist["version"], "date": dist["date"], "origin": "dist"}
             place(files, cpu, there)
     how = "as it was proved and built on" if there["origin"] == "dist" else "as it was proved and built here on"
-    line = f"wokureti {there['version']} {how} {there['date']}"
+    caution = targets.of_build(there["processor"] if "processor" in there else cpu).caution
+    line = f"wokureti {there['version']} {how} {there['date']}" + (f", {caution}" if caution else "")
     if there["sources"] == sources:
         say(f"{line} (./build.py proves and builds it anew)" if there["origin"] == "dist" else line)
     else:
@@ -210,22 +223,78 @@ def make_web(cpu):
 
 
 def names_of(sources, objects, programs, libraries):
-    """The lines of dist/SOURCES."""
+    """The lines of dist/SOURCES for the programs and libraries that are built."""
+    from release import library
+
+    names = {"version": version(), "date": today(), "sources": sources, "kit": kit_here(), "sources of the library": digest(needed((library.CRATE,)))}
+    for (name, cpu), path in objects.items():
+        names[f"object file of {name} for {cpu}"] = sum_of(path)
+    for (name, cpu), path in {**programs, **libraries}.items():
+        names[name_of(name, cpu)] = sum_of(path)
+    return names
+
+
+def name_of(name, cpu):
+    """The name of the line that dist/SOURCES has of a program or library."""
+    return f"{'' if name == targets.of_build(cpu).library else 'program '}{name} for {cpu}"
+
+
+def check_wheels(dist):
+    """Refuses a dist/ whose files are not those of dist/SOURCES, each wheel whole and each program in it."""
+    wheels = {name: value.split() for name, value in dist.items() if name.startswith("wheel for ")}
+    for name, (file, wanted) in wheels.items():
+        if not (DIST / file).is_file() or sum_of(DIST / file) != wanted:
+            raise Failed(f"dist/{file} is not the {name} of dist/SOURCES")
+    others = {path.name for path in DIST.iterdir()} - {file for file, _ in wheels.values()} - {"SOURCES"}
+    if wheels and others:
+        raise Failed(f"dist/ has files that dist/SOURCES does not name: {', '.join(sorted(others))}")
+    for target in targets.SHIPPED:
+        for name, cpu in [(name, cpu) for name in target.files for cpu in target.builds if name_of(name, cpu) in dist]:
+            if hashlib.sha256(wheel.program(dist["version"], name, cpu)).hexdigest() != dist[name_of(name, cpu)]:
+                raise Failed(f"the wheel's {name} for {cpu} is not the one of dist/SOURCES")
+
+
+def compare(made, dist):
+    """Refuses programs or libraries that are not those of dist/, byte for byte."""
+    for (name, cpu), path in made.items():
+        if path.read_bytes() != wheel.program(dist["version"], name, cpu) or sum_of(path) != dist[name_of(name, cpu)]:
+            raise Failed(f"{name} for {cpu} is not the one of dist/")
+
+
+def verify_here(dist, objects, room):
+    """Compares what dist/ has for this system. Returns a sentence if that could not be done whole."""
     from release import library, linked
 
-    names = {"version": version(), "date": today(), "sources": sources, "kit": kit_here(), "C library": linked.c_library()}
     for name, cpu in objects:
-        names[f"object file of {name} for {cpu}"] = sum_of(objects[name, cpu])
-        names[f"program {name} for {cpu}"] = sum_of(programs[name, cpu])
-    names["sources of the library"] = digest(needed((library.CRATE,)))
-    for name, cpu in libraries:
-        names[f"{name} for {cpu}"] = sum_of(libraries[name, cpu])
-    return names
+        if sum_of(objects[name, cpu]) != dist[f"object file of {name} for {cpu}"]:
+            raise Failed(f"the object file of {name} for {cpu} is not the one of dist/")
+    if linked.c_library() != dist["C library"]:
+        return "the four object files are those of dist/; the programs and the library are not linked again, since this machine's C library is another one"
+    compare(link_all(objects, room), dist)
+    compare(library.shared(room, CPUS, Built.is_there, say), dist)
+    return ""
+
+
+def verify_other(target, builder, dist, room):
+    """Compares what dist/ has for another system. Returns a sentence if that could not be done."""
+    from release.others import sources
+
+    if name_of(target.programs[0], target.builds[0]) not in dist:
+        return f"dist/ has nothing for {target.name}"
+    if sources(builder) != dist[f"sources for {target.builds[0]}"]:
+        return f"what dist/ has for {target.name} is of an earlier state of version {dist['version']}, so it is not compared"
+    if builder.missing():
+        return f"what dist/ has for {target.name} is not compared: {builder.missing()}"
+    if builder.linker() != dist[f"C library for {target.builds[0]}"]:
+        return f"what dist/ has for {target.name} is not compared, since this machine links it with another C library"
+    compare(builder.programs(room, Built.is_there, say)[0], dist)
+    return ""
 
 
 def verify():
     """Compares dist/ with the programs and the library of the current sources. Returns the exit status."""
-    from release import library, linked
+    from release import library
+    from release.others import with_wheels
 
     dist, sources = read_names(), digest(needed())
     if dist.get("version") != version():
@@ -233,63 +302,105 @@ def verify():
     if dist["sources"] != sources or dist.get("sources of the library") != digest(needed((library.CRATE,))):
         say(f"dist/ is of an earlier state of version {dist['version']}: its sources are others, so nothing is compared")
         return 0
-    for name in PROGRAMS:
-        for cpu in CPUS:
-            if hashlib.sha256(wheel.program(dist["version"], name, cpu)).hexdigest() != dist[f"program {name} for {cpu}"]:
-                raise Failed(f"the wheel's {name} for {cpu} is not the one of dist/SOURCES")
+    check_wheels(dist)
     check_kit()
     if dist["kit"] != kit_here():
         say(f"dist/ was built with {dist['kit']}, and this machine has {kit_here()}: nothing is compared, since another compiler may make other bytes")
         return 0
     with objects_of() as (objects, room):
-        for name, cpu in objects:
-            if sum_of(objects[name, cpu]) != dist[f"object file of {name} for {cpu}"]:
-                raise Failed(f"the object file of {name} for {cpu} is not the one of dist/")
-        if linked.c_library() != dist["C library"]:
-            say("the four object files are those of dist/, byte for byte; the programs and the library are not linked again, since this machine's C library is another one")
-            return 0
-        programs = link_all(objects, room)
-        for name, cpu in programs:
-            if programs[name, cpu].read_bytes() != wheel.program(dist["version"], name, cpu):
-                raise Failed(f"{name} for {cpu} is not the one of dist/")
-        for (name, cpu), made in library.shared(room, CPUS, Built.is_there, say).items():
-            if made.read_bytes() != wheel.program(dist["version"], name, cpu) or sum_of(made) != dist[f"{name} for {cpu}"]:
-                raise Failed(f"{name} for {cpu} is not the one of dist/")
-    say("the four programs and two libraries of dist/ are, byte for byte, what the proved sources build")
+        left = {targets.X86_64: verify_here(dist, objects, room)}
+        left |= {target: verify_other(target, builder, dist, room) for target, builder in with_wheels().items()}
+    for text in filter(None, left.values()):
+        say(text)
+    whole = [target.name for target, text in left.items() if not text]
+    if whole:
+        say(f"the programs and libraries of dist/ for {' and '.join(whole)} are, byte for byte, what the proved sources build")
     return 0
 
 
-def make_dist():
-    """Writes a new dist/."""
-    from release import library, linked, manuals
+def made_for_all(objects, room):
+    """The programs and libraries for each system that has a wheel, and the lines of dist/SOURCES about them."""
+    from release import library, linked
+    from release.others import sources, with_wheels
 
-    dist = read_names()
-    if dist.get("version") == version():
+    programs, libraries = link_all(objects, room), library.shared(room, CPUS, Built.is_there, say)
+    names = {**names_of(digest(needed()), objects, programs, libraries), "C library": linked.c_library()}
+    made = {targets.X86_64: {**programs, **libraries}}
+    for target, builder in with_wheels().items():
+        made[target] = builder.programs(room, Built.is_there, say)[0]
+        names |= {f"sources for {target.builds[0]}": sources(builder), f"C library for {target.builds[0]}": builder.linker()}
+        names |= {name_of(name, cpu): sum_of(path) for (name, cpu), path in made[target].items()}
+    return made, names
+
+
+def make_dist():
+    """Writes a new dist/, with a wheel for each system."""
+    from release import linked, manuals
+    from release.others import with_wheels
+
+    if read_names().get("version") == version():
         raise Failed(f"dist/ has version {version()} already: one dist/ a version; change VERSION first")
     if linked.c_library() is None:
         raise Failed("the programs are linked with gcc and the C library's libc.a: install gcc and libc6-dev")
+    for target, builder in with_wheels().items():
+        if builder.missing():
+            raise Failed(f"dist/ has a wheel for {target.name}, too: {builder.missing()}")
     check_kit()
     with objects_of() as (objects, room):
-        sources = digest(needed())
-        programs = link_all(objects, room)
-        libraries = library.shared(room, CPUS, Built.is_there, say)
-        names = names_of(sources, objects, programs, libraries)
-        texts = {name: subprocess.run([programs[name, CPUS[0]], "--help"], capture_output=True, text=True, check=True).stdout for name in PROGRAMS}
-        fresh = DIST.with_name(".dist")
-        shutil.rmtree(fresh, ignore_errors=True)
-        fresh.mkdir()
-        wheel.write(fresh / wheel.name_of(version()), version(), today(), {**programs, **libraries}, manuals.files(texts, version(), today()))
-        write_names(names, fresh / "SOURCES")
-        shutil.rmtree(DIST, ignore_errors=True)
-        fresh.rename(DIST)
-    say(f"wrote {DIST / wheel.name_of(version())}")
+        made, names = made_for_all(objects, room)
+        texts = {name: subprocess.run([made[targets.X86_64][name, CPUS[0]], "--help"], capture_output=True, text=True, check=True).stdout for name in PROGRAMS}
+        pack(made, names, manuals.files(texts, version(), today()))
+    return 0
+
+
+def pack(made, names, shared):
+    """Replaces dist/ by the wheels of these programs and a file SOURCES with these lines."""
+    fresh = DIST.with_name(".dist")
+    shutil.rmtree(fresh, ignore_errors=True)
+    fresh.mkdir()
+    sizes = {}
+    for target, files in made.items():
+        path = fresh / target.wheel(version())
+        wheel.write(path, target, version(), today(), files, shared)
+        sizes[path.name] = path.stat().st_size
+        names |= {f"wheel for {target.name}": f"{path.name} {sum_of(path)}", f"said of {target.name}": target.sentence}
+    write_names(names, fresh / "SOURCES")
+    shutil.rmtree(DIST, ignore_errors=True)
+    fresh.rename(DIST)
+    for name, size in sizes.items():
+        say(f"wrote {DIST / name}: {size / 1e6:.1f} MB")
+    say(f"dist/ takes {sum(sizes.values()) / 1e6:.1f} MB in git")
+
+
+def make_for(builder):
+    """Builds the programs and the library for another system into its folder below bin/."""
+    from release.others import sources
+
+    check_kit()
+    with room_to_build() as room:
+        builder.build(room, BIN / builder.FOLDER, Built.is_there, say)
+    write_names({"sources": sources(builder), "version": version()}, BIN / builder.FOLDER / STAMP.name)
+    return 0
+
+
+def make_others():
+    """Builds for each other system whose compiler is here. What an earlier run built for those without one is removed: it may be of other sources."""
+    from release.others import BUILDERS
+
+    for target, builder in BUILDERS.items():
+        if builder.missing():
+            shutil.rmtree(BIN / builder.FOLDER, ignore_errors=True)
+            say(f"skipped: {target.name}: {builder.missing()}")
+        else:
+            make_for(builder)
     return 0
 
 
 def main():
     parser = argparse.ArgumentParser(description=__doc__, formatter_class=argparse.RawDescriptionHelpFormatter)
-    parser.add_argument("--cpu", default=os.environ.get("WOKURETI_CPU", ""), metavar="NAME", help="x86-64-v2 or x86-64-v3; also the variable WOKURETI_CPU")
-    parser.add_argument("--built", action="store_true", help="with --verify, --dist, --library and --web: rt ci has proved the crates here")
+    cpus = "x86-64-v2 or x86-64-v3, or aarch64 on such a machine; also the variable WOKURETI_CPU"
+    parser.add_argument("--cpu", default=os.environ.get("WOKURETI_CPU", ""), metavar="NAME", help=cpus)
+    parser.add_argument("--built", action="store_true", help="with --verify, --dist, --library, --web, --arm and --others: rt ci has proved the crates here")
     parser.add_argument("--room", type=pathlib.Path, metavar="DIR", help="with --built: keeps what is built in this folder, and takes from it what an earlier call built there")
     what = parser.add_mutually_exclusive_group()
     what.add_argument("--ready", nargs="?", const="build.py", metavar="SCRIPT")
@@ -297,6 +408,8 @@ def main():
     what.add_argument("--dist", action="store_true")
     what.add_argument("--library", action="store_true")
     what.add_argument("--web", action="store_true")
+    what.add_argument("--arm", action="store_true")
+    what.add_argument("--others", action="store_true")
     given = parser.parse_args()
     Built.is_there, Built.folder = given.built, given.room
     try:
@@ -308,6 +421,12 @@ def main():
             return make_library(processor(given.cpu))
         if given.web:
             return make_web(processor(given.cpu))
+        if given.arm:
+            from release import arm
+
+            return make_for(arm)
+        if given.others:
+            return make_others()
         Speaker.name = given.ready or Speaker.name
         (ready if given.ready else build)(processor(given.cpu))
     except Failed as failed:

@@ -1,7 +1,7 @@
 #!/bin/sh
 # Serves a stream with the programs of this repository: serve.sh [IN] [REQUESTS] [OUT], as in vp8serve --help.
 # Ready programs are in dist/: it puts them into bin/, and says which ones it starts. ./build.py proves and builds them anew.
-# WOKURETI_CPU=x86-64-v2 or x86-64-v3 names the processor that they are for.
+# WOKURETI_CPU=x86-64-v2 or x86-64-v3 names the processor that they are for; on ARM there is one build.
 set -eu
 top=$(cd "$(dirname "$0")" && pwd)
 if ! python3 -c 'import sys; sys.exit(sys.version_info < (3, 9))' 2> /dev/null; then
@@ -9,9 +9,9 @@ if ! python3 -c 'import sys; sys.exit(sys.version_info < (3, 9))' 2> /dev/null; 
     exit 1
 fi
 case "$(uname -s) $(uname -m)" in
-'Linux x86_64') ;;
+'Linux x86_64' | 'Linux aarch64') ;;
 *)
-    echo "serve.sh: the programs are for Linux on x86-64" >&2
+    echo "serve.sh: the programs here are for Linux on x86-64 and on ARM; README.md has a table of systems" >&2
     exit 1
     ;;
 esac

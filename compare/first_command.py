@@ -77,8 +77,9 @@ class Checkout:
         rt.write_text(FALSE_RT)
         rt.chmod(0o755)
 
-    def start(self, *options_of_it, pause=0, path=None, python=sys.executable, **options):
-        environment = {
+    def start(self, *options_of_it, pause=0, path=None, python=sys.executable, machine=None, **options):
+        environment = {} if machine is None else {"PYTHONPATH": str(self.on(machine))}
+        environment |= {
             "PATH": path or f"{self.room}/path:{os.environ['PATH']}",
             "XDG_CACHE_HOME": str(self.room / "cache of programs"),
             "HOME": str(self.room),
@@ -88,6 +89,13 @@ class Checkout:
         }
         words = [python, self.top / "build.py", *options_of_it]
         return subprocess.Popen(words, env=environment, stdout=subprocess.PIPE, stderr=subprocess.STDOUT, text=True, start_new_session=True, **options)
+
+    def on(self, machine):
+        """A folder with a module that Python imports first, by which `platform` names this machine."""
+        folder = self.room / machine
+        folder.mkdir(exist_ok=True)
+        (folder / "sitecustomize.py").write_text(f"import platform\nplatform.machine = lambda: {machine!r}\n")
+        return folder
 
     def run(self, *options_of_it, **options):
         started = self.start(*options_of_it, **options)
@@ -122,7 +130,7 @@ def spaces(room):
     status, text = checkout.run()
     differs("built", (status, checkout.built(), checkout.proved()), (0, ALL, CRATES))
     differs("lines of crates", [f"({n} of 4" in text for n in (1, 2, 3, 4)], [True] * 4)
-    names = dict(line.split(": ") for line in (checkout.top / "bin/.built").read_text().splitlines() if ": " in line and line[0] != "#")
+    names = dict(line.split(": ", 1) for line in (checkout.top / "bin/.built").read_text().splitlines() if ": " in line and line[0] != "#")
     differs("what is in bin", (names["version"], names["origin"]), ("1.2.3", "here"))
     shown = subprocess.run([checkout.top / "bin/vp8serve"], capture_output=True, text=True, timeout=SECONDS)
     differs("the program", shown.stdout.strip(), str(checkout.top / "bin/vp8serve"))
@@ -194,17 +202,22 @@ def failing(room):
     differs("repaired", (checkout.run()[0], checkout.built()), (0, ALL))
 
 
-def false_dist(checkout, version, sources):
+X86_64 = {f"{name}-x86-64-{cpu}": f"data/lib/wokureti/{name}-x86-64-{cpu}" for name in ("vp8serve", "vp8list") for cpu in ("v2", "v3")}
+ARM = {f"{name}-aarch64": f"scripts/{name}" for name in ("vp8serve", "vp8list")}
+
+
+def false_dist(checkout, version, sources, wheels=("x86_64",)):
     """A dist/ whose programs print its version."""
     dist = checkout.top / "dist"
     shutil.rmtree(dist, ignore_errors=True)
     dist.mkdir()
-    (dist / "SOURCES").write_text(f"version: {version}\ndate: 2026-01-02\nsources: {sources}\n")
-    tags = "manylinux_2_17_x86_64.musllinux_1_1_x86_64"
-    with zipfile.ZipFile(dist / f"wokureti-{version}-py3-none-{tags}.whl", "w") as file:
-        for name in ("vp8serve", "vp8list"):
-            for cpu in ("v2", "v3"):
-                file.writestr(f"wokureti-{version}.data/data/lib/wokureti/{name}-x86-64-{cpu}", f"#!/bin/sh\necho {version} {cpu}\n")
+    programs = {machine: {"x86_64": X86_64, "aarch64": ARM}[machine] for machine in wheels}
+    lines = [f"program {name.replace('-', ' for ', 1)}: -\n" for names in programs.values() for name in names]
+    (dist / "SOURCES").write_text(f"version: {version}\ndate: 2026-01-02\nsources: {sources}\n{''.join(lines)}")
+    for machine, names in programs.items():
+        with zipfile.ZipFile(dist / f"wokureti-{version}-py3-none-manylinux_2_17_{machine}.musllinux_1_1_{machine}.whl", "w") as file:
+            for name, path in names.items():
+                file.writestr(f"wokureti-{version}.data/{path}", f"#!/bin/sh\necho {version} {name.rpartition('-')[2]}\n")
 
 
 def printed(checkout):
@@ -242,10 +255,30 @@ def ready(room):
     differs("one dist a version", checkout.run("--dist"), (1, "build.py: dist/ has version 1.2.3 already: one dist/ a version; change VERSION first\n"))
 
 
+def on_arm(room):
+    """On ARM the programs are those of its wheel; without one, or on another machine, nothing is put into bin/."""
+    checkout = Checkout(room, "arm")
+    false_dist(checkout, "1.2.3", "-", ("x86_64", "aarch64"))
+    status, text = checkout.run("--ready", "serve.sh", path="/nowhere", machine="aarch64")
+    said = "serve.sh: wokureti 1.2.3 as it was proved and built on 2026-01-02, run by us under an emulator only; the sources were changed since"
+    differs("on ARM", (status, text.startswith(said), printed(checkout)), (0, True, "1.2.3 aarch64\n"))
+    differs("what is proved there", "proof: Linux on ARM: proved by the kit's verdict for this target; run by us under an emulator only\n" in (checkout.top / "bin/.built").read_text(), True)
+    told = "build.py: the processor is x86-64-v3, but must be aarch64\n"
+    differs("a processor of another system", checkout.run("--ready", "--cpu", "x86-64-v3", machine="aarch64"), (1, told))
+    told = "build.py: the Rattle kit is for Linux on x86-64, and builds the programs for Linux on ARM there\n"
+    differs("a build there", checkout.run(machine="aarch64"), (1, told))
+    shutil.rmtree(checkout.top / "bin")
+    told = "build.py: the programs are for Linux on x86-64 and Linux on ARM; README.md has a table of all systems\n"
+    differs("another machine", checkout.run("--ready", machine="riscv64"), (1, told))
+    false_dist(checkout, "1.2.3", "-")
+    differs("without a wheel for it", checkout.run("--ready", machine="aarch64"), (1, "build.py: dist/ has no programs for Linux on ARM, aarch64\n"))
+    differs("nothing in bin", checkout.built(), [])
+
+
 def main():
     with tempfile.TemporaryDirectory() as folder, contextlib.suppress(KeyboardInterrupt):
         os.chmod(folder, 0o755)
-        for part in (spaces, interrupted, twice, read_only, without_kit, failing, ready):
+        for part in (spaces, interrupted, twice, read_only, without_kit, failing, ready, on_arm):
             part(pathlib.Path(folder))
         results.total(f"{TOLD['runs']} comparisons, {TOLD['differences']} differences", TOLD["differences"], version=results.sources())
     return 1 if TOLD["differences"] else 0

@@ -85,11 +85,11 @@ def ran(*words):
         raise Failed(f"{words[0]} could not make the library: {done.stderr.strip()}")
 
 
-def link(made, out):
-    """Links the shared library of an archive."""
-    heap = kit_folder() / "c/liblibc_c.a"
+def link(made, out, prefix="", heap=None):
+    """Links the shared library of an archive, with the kit's heap or with that of another file."""
+    heap = heap or kit_folder() / "c/liblibc_c.a"
     options = ["-shared", "-s", "-Wl,--build-id=none", f"-Wl,-soname,{SHARED}", f"-Wl,--version-script={SYMBOLS}", "-Wl,-z,defs,-z,relro,-z,now,--gc-sections"]
-    ran("gcc", *options, "-o", out, "-Wl,--whole-archive", made, "-Wl,--no-whole-archive", heap)
+    ran(f"{prefix}gcc", *options, "-o", out, "-Wl,--whole-archive", made, "-Wl,--no-whole-archive", heap)
 
 
 def shared(room, cpus, is_proved, say):

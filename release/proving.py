@@ -168,6 +168,15 @@ def made_by_ci(program, room):
     return made if is_same else None
 
 
+def over_ci(program, crates, room, log):
+    """The folder of a program's crate in a copy that has the libraries which `rt ci` has proved in this checkout."""
+    folder, wanted = room / program, under(crates, program)
+    copy_files({name: crates[name] for name in crates if name in wanted}, folder)
+    take_libraries(wanted - {program}, TOP, folder)
+    run([sys.executable, TOP / "release/stamps.py", kit_folder() / "bin/rt", folder], folder, log)
+    return folder / "crates" / program
+
+
 def build_in(crates, room, cpus, say):
     """Builds both programs over the libraries that `rt ci` has proved in this checkout: only the programs' own crates are proved again, and for the kit's default
     processor not even these, if `rt ci` has built them."""
@@ -181,13 +190,10 @@ def build_in(crates, room, cpus, say):
     def build_rest(program, cpus):
         if not cpus:
             return {}
-        folder, wanted = room / program, under(crates, program)
-        copy_files({name: crates[name] for name in crates if name in wanted}, folder)
-        take_libraries(wanted - {program}, TOP, folder)
         with open(room / f"{program}.log", "w", encoding="utf-8") as log:
             try:
-                run([sys.executable, TOP / "release/stamps.py", kit_folder() / "bin/rt", folder], folder, log)
-                return {(program, cpu): compiled(folder / "crates" / program, cpu, log) for cpu in cpus}
+                folder = over_ci(program, crates, room, log)
+                return {(program, cpu): compiled(folder, cpu, log) for cpu in cpus}
             except Failed as failed:
                 text = (room / f"{program}.log").read_text(encoding="utf-8", errors="replace")
                 raise Failed(f"{text[-2000:]}nothing was built: {failed}") from None

@@ -1,5 +1,6 @@
 #!/usr/bin/env python3
-"""Tests dist/: the wheel installed by pip in a new environment, unpacked as a zip, its programs, launcher, manual pages and completion.
+"""Tests dist/: each wheel whole and as dist/SOURCES has it; that of this system installed by pip in a new environment, its programs, launcher, manual pages and
+completion.
 
 It prints what differs and ends with 1, or prints nothing but what it skipped, and ends with 0.
 """
@@ -18,10 +19,17 @@ import tempfile
 import zipfile
 
 TOP = pathlib.Path(__file__).resolve().parent.parent
+sys.dont_write_bytecode = True
+sys.path.insert(0, str(TOP))
+from release import targets  # noqa: E402
+from release.sources import read_names, sum_of  # noqa: E402
+
 VERSION = (TOP / "VERSION").read_text().strip()
 EXAMPLE = TOP / "examples/mandelbrot.ivf"
 COMMANDS = ("vp8serve", "vp8list", "wokureti")
 LIMIT = 120
+# Processors by their numbers in ELF files.
+MACHINES = {62: "x86_64", 183: "aarch64"}
 SESSION = f"""
 from wokureti import Session, __version__
 with Session({str(EXAMPLE)!r}) as session:
@@ -59,10 +67,11 @@ def needs_interpreter(data):
     return any(struct.unpack_from("<I", data, start + number * size)[0] == 3 for number in range(count))
 
 
-def check_installed(prefix, environment):
+def check_installed(prefix, environment, sentence):
     """The three commands and their files below the folder of an environment."""
     for name in COMMANDS:
-        expect(f"{name} --version", ran(prefix / "bin" / name, "--version", env=environment), (0, f"{name} {VERSION}\n", ""))
+        said = sentence if name == "wokureti" else ""
+        expect(f"{name} --version", ran(prefix / "bin" / name, "--version", env=environment), (0, f"{name} {VERSION}\n{said}", ""))
         manual = (prefix / f"share/man/man1/{name}.1").read_text()
         expect(f"the manual page of {name}", manual.startswith(f".TH {name.upper()} 1 ") and f'"wokureti {VERSION}"' in manual, True)
         completion = prefix / f"share/bash-completion/completions/{name}"
@@ -96,35 +105,74 @@ def check_launcher(prefix):
         expect("its end", started.wait(LIMIT), 0)
 
 
-def check_pip(folder, wheel):
-    """pip installs it into a new environment, and the client finds the programs there."""
+def check_pip(folder, sentence):
+    """pip installs the wheel of this system from dist/ into a new environment, as README.md has it, and the client finds the programs there."""
     prefix = folder / "environment"
     if ran(sys.executable, "-m", "venv", prefix)[0] != 0:
         print("skipped: pip install of the wheel: there is no venv with pip")
         return
-    expect("pip install", ran(prefix / "bin/pip", "install", "-q", "--no-index", "--disable-pip-version-check", wheel)[0], 0)
+    expect("pip install", ran(prefix / "bin/pip", "install", "-q", "--no-index", "--find-links", TOP / "dist", "--disable-pip-version-check", "wokureti")[0], 0)
     environment = {name: value for name, value in os.environ.items() if name not in ("VP8SERVE", "VP8LIST", "LIBWOKURETI", "PYTHONPATH")}
-    check_installed(prefix, environment)
+    check_installed(prefix, environment, sentence)
     check_launcher(prefix)
     expect("a session of the installed client", ran(prefix / "bin/python", "-c", SESSION, env=environment, cwd=folder)[:2], (0, f"{VERSION} 48 320 180\n"))
     within = SESSION.replace("Session(", "Session(engine='library', stream=", 1)
     expect("a session by the installed library", ran(prefix / "bin/python", "-c", within, env=environment, cwd=folder)[:2], (0, f"{VERSION} 48 320 180\n"))
+    for target in targets.SHIPPED:
+        check_other(prefix, folder, target)
     expect("pip uninstall", ran(prefix / "bin/pip", "uninstall", "-q", "-y", "wokureti")[0], 0)
     expect("what is left", [path.name for path in (prefix / "bin").iterdir() if path.name in COMMANDS], [])
 
 
+def check_other(prefix, folder, target):
+    """pip takes the wheel of each of its tags for that system, with this client and those programs in it."""
+    for tag in target.tags if (TOP / "dist" / target.wheel(VERSION)).is_file() else ():
+        to = folder / tag
+        words = ("--only-binary", ":all:", "--no-deps", "--no-index", "--find-links", TOP / "dist", "--platform", tag, "--target", to)
+        expect(f"pip install for {tag}", ran(prefix / "bin/pip", "install", "-q", "--disable-pip-version-check", *words, "wokureti")[0], 0)
+        tags = [line.removeprefix("Tag: ") for line in (to / f"wokureti-{VERSION}.dist-info/WHEEL").read_text().splitlines() if line.startswith("Tag: ")]
+        expect(f"the tags that pip reads for {tag}", tags, [f"py3-none-{one}" for one in target.tags])
+
+
+def check_files(file, target):
+    """A wheel has each program and library of its target, for this system; those for Linux need no dynamic linker. Returns what it says of its proof."""
+    names, sentence = file.namelist(), ""
+    for path in [target.place_of(name, build) for name in target.files for build in target.builds]:
+        expect(f"{path} in the wheel for {target.name}", f"wokureti-{VERSION}.data/{path}" in names, True)
+    for name in names:
+        data = file.read(name)
+        if data[:4] == b"\x7fELF":
+            expect(f"the processor of {name}", MACHINES.get(struct.unpack_from("<H", data, 18)[0]), target.machines[0])
+            expect(f"{name} needs a dynamic linker", needs_interpreter(data), False)
+    if "wokureti/BUILD" in names:
+        sentence = file.read("wokureti/BUILD").decode()
+        expect(f"what is said of {target.name}", sentence, f"{target.sentence}\n")
+    return sentence
+
+
+def check_sources(wheels):
+    """dist/SOURCES has each wheel with its digest and what is said of it, and no other file is there. (Version 0.14.0 has one wheel, of which it says nothing.)"""
+    names = read_names()
+    if not any(name.startswith("wheel for ") for name in names):
+        return
+    expect("files of dist/", {path.name for path in (TOP / "dist").iterdir()}, {"SOURCES", *(path.name for path in wheels.values())})
+    for target, path in wheels.items():
+        expect(f"the wheel for {target.name}", names.get(f"wheel for {target.name}"), f"{path.name} {sum_of(path)}")
+        expect(f"what dist/SOURCES says of {target.name}", names.get(f"said of {target.name}"), target.sentence)
+
+
 def main():
-    wheels = list((TOP / "dist").glob(f"wokureti-{VERSION}-*.whl"))
-    if not wheels:
+    wheels = {target: TOP / "dist" / target.wheel(VERSION) for target in targets.SHIPPED if (TOP / "dist" / target.wheel(VERSION)).is_file()}
+    if targets.X86_64 not in wheels:
         wrong.append(f"dist/ has no wheel of version {VERSION}")
-    for wheel in wheels:
-        with tempfile.TemporaryDirectory() as folder, zipfile.ZipFile(wheel) as file:
-            folder = pathlib.Path(folder)
+    check_sources(wheels)
+    for target, path in wheels.items():
+        with zipfile.ZipFile(path) as file:
             check_record(file)
-            for name in file.namelist():
-                if "/lib/wokureti/" in name:
-                    expect(f"{name} needs a dynamic linker", needs_interpreter(file.read(name)), False)
-            check_pip(folder, wheel)
+            sentence = check_files(file, target)
+        if target is targets.here():
+            with tempfile.TemporaryDirectory() as folder:
+                check_pip(pathlib.Path(folder), sentence)
     print(*wrong, sep="\n", end="\n" if wrong else "")
     return 1 if wrong else 0
 

@@ -20,7 +20,7 @@ TOP = pathlib.Path(__file__).resolve().parent.parent
 sys.dont_write_bytecode = True
 sys.path.insert(0, str(TOP / "compare"))
 from library.ivf import ivf  # noqa: E402
-from library.traced import Program, traced  # noqa: E402
+from library.traced import Program, is_traceable, traced  # noqa: E402
 
 SERVE = pathlib.Path(os.environ["VP8SERVE"]).resolve()
 KEY = bytes.fromhex("1000009D012A10001000")
@@ -232,8 +232,11 @@ def main():
         beside_a_descriptor()
         by_links()
         kept_attributes()
-        in_order()
-        both_or_neither()
+        if is_traceable(SERVE):
+            in_order()
+            both_or_neither()
+        else:
+            print("skipped: calls of a save are refused one by one on x86-64 only")
         for name in ("saved.ivf", "exported.ivf", "new.ivf", "old.ivf"):
             pathlib.Path(name).unlink(missing_ok=True)
         unexported_is_unsaved()

@@ -9,6 +9,7 @@ import contextlib
 import ctypes
 import errno
 import os
+import platform
 import signal
 import struct
 from dataclasses import dataclass, field
@@ -35,6 +36,13 @@ def ptrace(request, pid, address, data):
     if ctypes.get_errno():
         raise OSError(ctypes.get_errno(), os.strerror(ctypes.get_errno()))
     return result & MASK
+
+
+def is_traceable(path):
+    """Whether a program is one that this can run: for Linux on x86-64, here, and not by an emulator."""
+    with open(path, "rb") as file:
+        head = file.read(20)
+    return (platform.system(), platform.machine()) == ("Linux", "x86_64") and head[:4] == b"\x7fELF" and head[18:] == b"\x3e\x00"
 
 
 @dataclass

@@ -16,7 +16,7 @@ import urllib.request
 from unittest import mock
 
 from support import DATA, ODD, SLOW, SMALL, Case, command, packets_of, start, start_python, start_unwaking, whole_text, write_packets
-from wokureti import Session, commands
+from wokureti import Session, commands, system
 from wokureti.tools import cat, machines, parts, programs, rooms
 
 SCENES = DATA / "scene-cuts.ivf"
@@ -479,7 +479,7 @@ class Rooms(Case):
     def test_a_system_without_locks(self):
 
         room = self.folder()
-        with mock.patch.object(rooms.fcntl, "flock", side_effect=OSError(38, "Function not implemented")), mock.patch.object(tempfile, "tempdir", str(room)):
+        with mock.patch.object(system, "lock", side_effect=OSError(38, "Function not implemented")), mock.patch.object(tempfile, "tempdir", str(room)):
             with rooms.Room() as folder:
                 rooms.sweep()
                 self.assertTrue(os.path.isdir(folder))

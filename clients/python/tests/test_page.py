@@ -21,7 +21,7 @@ from unittest import mock
 
 from support import DATA, ENGINE, ODD, SLOW, SMALL, Case, children_of, command, crash, frames_of, knows, list_of, packets_of, serve, start, write_packets
 from test_serve import TOKEN, ServerCase
-from wokureti import Refused, Script, Session
+from wokureti import Refused, Script, Session, system
 from wokureti.page import checking, views
 from wokureti.tools import ivf, programs, times
 from wokureti.page.opened import Opened
@@ -1637,7 +1637,7 @@ class TheCommand(Case):
         from wokureti.page import opening
 
         room = self.folder()
-        with mock.patch.object(opening, "is_writable", return_value=False), mock.patch.dict(os.environ, {"XDG_STATE_HOME": str(room / "state")}):
+        with mock.patch.object(system, "is_writable", return_value=False), mock.patch.dict(os.environ, {"XDG_STATE_HOME": str(room / "state")}):
             one, other = (opening.stem_of(f"/media/{name}/clip.ivf") for name in ("one", "other"))
         self.assertEqual([os.path.dirname(stem) for stem in (one, other)], [str(room / "state/wokureti")] * 2)
         self.assertNotEqual(one, other)

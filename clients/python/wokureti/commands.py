@@ -10,9 +10,9 @@ import tempfile
 import threading
 import traceback
 
-from . import __version__
+from . import __version__, system
 from .session import checks, named
-from .tools import cat, containers, convert, excerpts, files, ivf, muxing, programs, rooms, sounds
+from .tools import cat, containers, convert, excerpts, files, ivf, muxing, programs, rooms, sounds, versions
 from .session.errors import Ended, Lost, Refused, sentence
 from .tools.progress import say
 
@@ -40,9 +40,22 @@ def stop(text):
     return 2
 
 
+class Sources(argparse.Action):
+    """Adds the streams of a list to those that were named."""
+
+    def __call__(self, parser, given, text, option=None):
+        given.source = [*given.source, *system.sources_of(text)]
+
+
+def add_sources(parser):
+    """The arguments that name other streams."""
+    parser.add_argument("--source", action="append", default=[], metavar="B", help="another stream: source 1, 2, and so on")
+    parser.add_argument("--sources", action=Sources, default=argparse.SUPPRESS, metavar="LIST", help="several of them: `B;C`, or `B:C` but on Windows")
+
+
 def add_edits(parser):
     """The arguments that name other streams, and edits."""
-    parser.add_argument("--source", action="append", default=[], metavar="B", help="another stream: source 1, 2, and so on")
+    add_sources(parser)
     parser.add_argument("--edits", metavar="FILE", help="a list of edits, made first")
     parser.add_argument("--anyway", action="store_true", help="makes the edits of a list that is of another stream, and damage of a file is no exit status")
     parser.add_argument("--script", metavar="TEXT", help="the script, for example 'trim 0 0 50'")
@@ -110,7 +123,7 @@ def run_cat(given):
     from .tools import paces
 
     program = programs.find("vp8serve")
-    jobs = given.jobs or len(os.sched_getaffinity(0))
+    jobs = given.jobs or system.processors()
     if jobs < 1:
         raise cat.Failed("--jobs is 1 or more")
     cat.check_output(given.out, [given.stream, *given.source, given.edits, given.tables])
@@ -156,7 +169,7 @@ def run_cat(given):
 def add_served(parser):
     """The arguments of a server."""
     parser.add_argument("stream", metavar="IN", help=f"{STREAM}; /dev/null is an empty stream")
-    parser.add_argument("--source", action="append", default=[], metavar="B", help="another stream: source 1, 2, and so on")
+    add_sources(parser)
     parser.add_argument("--cache", type=int, metavar="N", help="number of decoded states that are cached")
     parser.add_argument("--port", type=int, default=0, metavar="N", help="the port; a free one if missing")
     parser.add_argument("--tables", metavar="FILE", help="3012 bytes that replace the long tables of RFC 6386")
@@ -518,7 +531,7 @@ def write_repaired(given, path, head, packets):
 
 def as_file(path):
     """The path for another program, or None if that would find another file there."""
-    is_here = str(path).startswith(("/dev/", "/proc/")) or not os.path.isfile(path)
+    is_here = system.is_device(path) or not os.path.isfile(path)
     return None if is_here else checks.path(path)
 
 
@@ -569,7 +582,7 @@ def run_decoder(given):
     from .tools import decoders
 
     found = []
-    for result in decoders.results(given.one, given.decoder, given.jobs or len(os.sched_getaffinity(0)), given.tables):
+    for result in decoders.results(given.one, given.decoder, given.jobs or system.processors(), given.tables):
         found.append(result)
         print(f"{result.name}: {'; '.join([*(result.lines[:2] or ['same']), *result.damage])}", flush=True)
     same, damaged = sum(result.is_same for result in found), sum(bool(result.damage) for result in found)
@@ -628,9 +641,17 @@ def run_png(given):
     return status
 
 
+class Version(argparse.Action):
+    """`--version`: a line with the version, and one with what is proved."""
+
+    def __call__(self, parser, *_):
+        print(f"wokureti {__version__}", versions.proof(), sep="\n", flush=True)
+        parser.exit()
+
+
 def parser_of():
     parser = argparse.ArgumentParser(prog="wokureti", description=ABOUT)
-    parser.add_argument("--version", action="version", version=f"wokureti {__version__}")
+    parser.add_argument("--version", action=Version, nargs=0, help="show the version, and what is proved of this build")
     commands = parser.add_subparsers(metavar="COMMAND", required=True)
     add_open(commands)
     add_serve(commands)
@@ -647,18 +668,19 @@ def parser_of():
 
 def main(words=None):
     """Runs a command line, and returns the exit status."""
+    system.prepare_output()
     given = parser_of().parse_args(words)
     end_by_signals()
     rooms.sweep()
     try:
         return given.run(given)
-    except BrokenPipeError:
-        # The reader of standard output went away; nothing may be written to it when Python ends.
-        os.dup2(os.open(os.devnull, os.O_WRONLY), 1)
-        return 2
     except KeyboardInterrupt:
         return 130
     except (cat.Failed, Ended, Lost, Refused, OSError, ValueError) as error:
+        if system.is_closed_pipe(error):
+            # The reader of standard output went away; nothing may be written to it when Python ends.
+            os.dup2(os.open(os.devnull, os.O_WRONLY), 1)
+            return 2
         return stop(f"{sentence(error)}{where_full(error)}")
     except Exception as error:
         return mistake(error)
@@ -675,12 +697,12 @@ def end_by_signals():
     """A terminal that closes, or a request to end, ends a command as Ctrl-C does: what is to be saved is saved, and no folder is left."""
     def end(number, frame):
         # What is done at the end is not ended by a second one.
-        for one in (signal.SIGTERM, signal.SIGHUP):
+        for one in system.ENDS:
             signal.signal(one, signal.SIG_IGN)
         raise KeyboardInterrupt
 
     if threading.current_thread() is threading.main_thread():
-        for number in (signal.SIGTERM, signal.SIGHUP):
+        for number in system.ENDS:
             # nohup ignores the closing of a terminal.
             if signal.getsignal(number) != signal.SIG_IGN:
                 signal.signal(number, end)

@@ -3,6 +3,7 @@
 import hashlib
 import os
 
+from .. import system
 from ..tools import convert, muxing
 from ..tools.containers import media_of
 from ..session.errors import Ended
@@ -28,7 +29,7 @@ def files_of(paths):
             depth = len(os.path.relpath(place, folder).split(os.sep)) if place != folder else 0
             folders[:] = sorted(name for name in folders if not name.startswith(".")) if depth < MOST_DEPTH else []
             mine = sorted(name for name in names if name.lower().endswith(ENDINGS) and not name.startswith("."))
-            found += [path for path in (os.path.normpath(os.path.join(place, name)) if folder == "." else os.path.join(place, name) for name in mine) if os.path.isfile(path)]
+            found += [system.slashed(path) for path in (os.path.normpath(os.path.join(place, name)) if folder == "." else os.path.join(place, name) for name in mine) if os.path.isfile(path)]
             if len(found) >= MOST_FILES:
                 return found[:MOST_FILES]
     return found

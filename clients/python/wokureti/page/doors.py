@@ -8,16 +8,11 @@ import secrets
 import time
 from typing import NamedTuple
 
+from .. import system
 from ..server.web import Server
 
 # Seconds for which an address is kept.
 KEPT = 24 * 3600
-
-
-def state_folder():
-    """The folder for what a program of this user keeps."""
-    home = os.environ.get("XDG_STATE_HOME", "")
-    return os.path.join(home if os.path.isabs(home) else os.path.expanduser("~/.local/state"), "wokureti")
 
 
 class Door(NamedTuple):
@@ -30,14 +25,14 @@ class Door(NamedTuple):
 
 def file_of(path):
     """The file that keeps the address for the list of edits at a path."""
-    return os.path.join(state_folder(), "pages", hashlib.sha256(os.fsencode(os.path.realpath(path))).hexdigest()[:32])
+    return os.path.join(system.state_folder(), "pages", hashlib.sha256(os.fsencode(os.path.realpath(path))).hexdigest()[:32])
 
 
 def kept(path):
     """The address that was kept for a list, or None. A file that others may read or write is not believed."""
-    with contextlib.suppress(OSError, ValueError, KeyError, TypeError), open(os.open(file_of(path), os.O_RDONLY | os.O_NOFOLLOW | os.O_CLOEXEC), encoding="ascii") as file:
+    with contextlib.suppress(OSError, ValueError, KeyError, TypeError), open(os.open(file_of(path), os.O_RDONLY | system.NO_LINK | system.BINARY), encoding="ascii") as file:
         found = os.fstat(file.fileno())
-        if found.st_uid != os.getuid() or found.st_mode & 0o077 or not 0 <= time.time() - found.st_mtime < KEPT:
+        if not system.is_private(found) or not 0 <= time.time() - found.st_mtime < KEPT:
             return None
         members = json.load(file)
         door = Door(members["port"], members["token"], members["reading"])
@@ -50,10 +45,10 @@ def keep(path, door):
     """Keeps an address, and drops those of other lists that are old. If that fails, the page is there all the same."""
     with contextlib.suppress(OSError):
         name = file_of(path)
-        for folder in (state_folder(), os.path.dirname(name)):
+        for folder in (system.state_folder(), os.path.dirname(name)):
             os.makedirs(folder, mode=0o700, exist_ok=True)
         new = f"{name}.{os.getpid()}"
-        with open(os.open(new, os.O_WRONLY | os.O_CREAT | os.O_EXCL | os.O_CLOEXEC, 0o600), "w", encoding="ascii") as file:
+        with open(os.open(new, os.O_WRONLY | os.O_CREAT | os.O_EXCL | system.BINARY, 0o600), "w", encoding="ascii") as file:
             json.dump(door._asdict(), file)
         os.replace(new, name)
         for entry in os.scandir(os.path.dirname(name)):

@@ -3,6 +3,7 @@ packets too: so they are found here a second time."""
 
 import os
 
+from .. import system
 from ..tools import containers, ivf
 
 
@@ -18,7 +19,7 @@ def at_header(contents, stream, size):
     """Those at the header of the file, or of that of a save if the packets were edited. `size` is the one of the first key packet, or None."""
     item, found = contents.inputs.all[0], []
     if is_whole(contents, stream):
-        claimed = int.from_bytes(os.pread(item.opened(), ivf.HEAD.size, 0)[24:28], "little")
+        claimed = int.from_bytes(system.pread(item.opened(), ivf.HEAD.size, 0)[24:28], "little")
         if claimed != len(stream):
             found.append(finding("note", "frame_count", claimed=claimed, packets=len(stream)))
     head = item.head
@@ -36,7 +37,7 @@ def at_end(contents, stream):
     if not is_whole(contents, stream) or not item.left():
         return found
     begins = os.fstat(item.opened()).st_size - item.left()
-    claimed = os.pread(item.opened(), 4, begins)
+    claimed = system.pread(item.opened(), 4, begins)
     number = int.from_bytes(claimed, "little") if len(claimed) == 4 else None
     return [*found, finding("damage", "cut_record", record=len(stream), byte=begins, claimed=number, left=item.left())]
 

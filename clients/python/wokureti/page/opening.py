@@ -7,10 +7,10 @@ import secrets
 import webbrowser
 from typing import NamedTuple
 
+from .. import system
 from ..server import serve
 from ..session.errors import Ended
 from . import doors
-from .doors import state_folder
 from .opened import Opened
 from .pages import PageRoutes
 from ..tools.progress import say
@@ -20,27 +20,23 @@ from ..server.web import Server
 TEXT_BROWSERS = ("www-browser", "links", "elinks", "lynx", "w3m")
 
 
-def is_writable(folder):
-    return os.access(folder or ".", os.W_OK | os.X_OK)
-
-
 def stem_of(stream):
     """The beginning of the names of the list of edits and of the file to save to: next to the stream, or in the state folder if nothing can be
     written there."""
     stem = "stream" if stream == "-" else os.path.splitext(stream)[0]
-    if stream.startswith(("/dev/", "/proc/")):
+    if system.is_device(stream):
         stem = os.path.basename(stem)
-    if is_writable(os.path.dirname(stem)):
+    if system.is_writable(os.path.dirname(stem)):
         return stem
     # Streams of other folders may have the same name.
     mark = hashlib.sha256(os.fsencode(os.path.realpath(stem))).hexdigest()[:8]
-    return os.path.join(state_folder(), f"{os.path.basename(stem)}-{mark}")
+    return os.path.join(system.state_folder(), f"{os.path.basename(stem)}-{mark}")
 
 
 def show(url, folder):
     """Opens a browser, if there is one with windows. Whether it was started. Its command line, which other users of the machine can read, has a
     file that leads to the address, and that only this user can read."""
-    if not (os.environ.get("DISPLAY") or os.environ.get("WAYLAND_DISPLAY")):
+    if not system.has_windows():
         return False
     try:
         browser = webbrowser.get()
@@ -54,7 +50,7 @@ def show(url, folder):
 def write_door(url, folder):
     """The file that leads to the page."""
     path = os.path.join(folder, "page.html")
-    with open(os.open(path, os.O_WRONLY | os.O_CREAT | os.O_EXCL | os.O_CLOEXEC, 0o600), "w", encoding="ascii") as file:
+    with open(os.open(path, os.O_WRONLY | os.O_CREAT | os.O_EXCL | system.BINARY, 0o600), "w", encoding="ascii") as file:
         file.write(f'<!doctype html><meta charset="utf-8"><meta name="referrer" content="no-referrer"><meta http-equiv="refresh" content="0; url={url}"><title>Wokureti</title><a href="{url}">Wokureti</a>\n')
     return path
 
@@ -74,8 +70,8 @@ def run(options, titles, how, port, has_browser):
     """Serves the page until the process is interrupted, and says where the edits are."""
     stems = [stem_of(title) for title in titles]
     path = how.edits or f"{stems[0]}.edits"
-    if any(os.path.dirname(stem) == state_folder() for stem in stems):
-        os.makedirs(state_folder(), mode=0o700, exist_ok=True)
+    if any(os.path.dirname(stem) == system.state_folder() for stem in stems):
+        os.makedirs(system.state_folder(), mode=0o700, exist_ok=True)
         say(f"nothing can be written next to {titles[0]}: what is edited is in {path}")
     try:
         live = Opened(options, path, how.save, how.pad, stems)

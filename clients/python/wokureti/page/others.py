@@ -1,10 +1,10 @@
 """Pages of other streams, which a page opens: each is a command of its own, with its list of edits, and ends with this one."""
 
-import signal
 import subprocess
 import sys
 import threading
 
+from .. import system
 from .adding import Cannot
 
 # Seconds.
@@ -23,7 +23,9 @@ class Others:
         with self.lock:
             if self.closed:
                 raise Cannot("the server ends")
-            process = subprocess.Popen(words, stdin=subprocess.DEVNULL, stdout=subprocess.PIPE, stderr=subprocess.PIPE, text=True, errors="replace")
+            process = subprocess.Popen(
+                words, stdin=subprocess.DEVNULL, stdout=subprocess.PIPE, stderr=subprocess.PIPE, text=True, errors="replace", **system.started_apart()
+            )
             self.running.append(process)
         said = []
         threading.Thread(target=relay, args=(process, said), daemon=True).start()
@@ -41,7 +43,7 @@ class Others:
         with self.lock:
             self.closed, running = True, [process for process in self.running if process.poll() is None]
         for process in running:
-            process.send_signal(signal.SIGINT)
+            system.interrupt(process)
         for process in running:
             try:
                 process.wait(MOST_END)

@@ -6,10 +6,11 @@ import json
 import os
 import pathlib
 import re
-import shlex
+import secrets
 import tempfile
 import time
 
+from .. import system
 from . import adding, others
 from ..session import records
 from ..tools import cut_lists, exports, ivf, muxing, progress, repair
@@ -193,15 +194,15 @@ class PageRoutes(Routes):
             return None
         stream = self.paths[0] if self.paths[0] == "-" else os.path.abspath(self.paths[0])
         words = ["wokureti", "open", stream, *(() if self.usual == path else ("--edits", os.path.abspath(path)))]
-        return " ".join(map(shlex.quote, words))
+        return system.command_text(words)
 
     def saves_of(self, view):
         """For each source whether it is edited, whether its packets are as they were opened or saved, in which file they are, and the file that
         Save writes."""
-        saves, found = self.live.saves, []
+        saves, found, slashed = self.live.saves, [], lambda path: path and system.slashed(path)
         for source, stream in enumerate(view.streams):
             is_edited, path = view.contents.is_edited(source, stream), saves.file_of(source, view.contents, stream)
-            found.append({"edited": is_edited, "saved": path is not None or not is_edited, "file": path, "next": saves.path(source)})
+            found.append({"edited": is_edited, "saved": path is not None or not is_edited, "file": slashed(path), "next": slashed(saves.path(source))})
         return found
 
     def progress(self, request):
@@ -661,13 +662,13 @@ class PageRoutes(Routes):
         if ending == ".ivf":
             return self.stream(request)
         self.only(request)
-        with tempfile.TemporaryDirectory(dir=self.live.room.name) as folder, self.live.lock:
-            path = os.path.join(folder, f"download{ending}")
+        path = os.path.join(self.live.room.name, f"download-{secrets.token_hex(8)}{ending}")
+        with self.live.lock:
             try:
                 self.live.contents().save(path, self.live.pad, 0, True, self.live.sound, self.live.notice)
             except ValueError as error:
                 raise Refuse(409, str(error)) from None
-            file = open(path, "rb")
+        file = system.open_to_remove(path)
         return Response(200, CONTAINERS[ending], length=os.fstat(file.fileno()).st_size, headers=self.attached(ending), pieces=pieces_of(file))
 
     def exported(self, request):
@@ -688,6 +689,7 @@ class PageRoutes(Routes):
             revision, contents, lines = self.live.revision, self.live.contents(), list(self.live.session.edits)
         ending = muxing.ending_for(contents.inputs.all[0].media)
         with tempfile.TemporaryDirectory(dir=self.live.room.name) as folder:
+            # Messages have this name.
             path = os.path.join(folder, f"{self.safe_name()}-export{ending}")
             out = exports.Output(path, self.live.pad, self.live.sound, self.live.notice, watch)
             try:
@@ -696,7 +698,9 @@ class PageRoutes(Routes):
                 raise Refuse(409 if self.live.revision == revision else 412, str(error)) from None
             if self.live.revision != revision:
                 raise Refuse(412, "the stream was changed", revision=self.live.revision)
-            file = open(path, "rb")
+            kept = os.path.join(self.live.room.name, f"export-{secrets.token_hex(8)}{ending}")
+            os.rename(path, kept)
+        file = system.open_to_remove(kept)
         return Response(200, CONTAINERS[ending], length=os.fstat(file.fileno()).st_size, headers=[*self.attached(ending, "export"), ("X-Exported", told.text())], pieces=pieces_of(file))
 
     def change(self, request):

@@ -1,5 +1,6 @@
 """The sound of playback: that of the frames which the script shows, as a WebM file without a picture, made when it is asked for."""
 
+import contextlib
 import os
 import threading
 
@@ -34,7 +35,8 @@ class Sounding:
             return open(self.known[1], "rb")
 
     def drop(self):
-        """Removes the file. Who reads it has it open."""
+        """Removes the file. Who reads it has it open, and then it stays on Windows, until its folder goes."""
         if self.known is not None:
-            os.unlink(self.known[1])
+            with contextlib.suppress(PermissionError):
+                os.unlink(self.known[1])
             self.known = None

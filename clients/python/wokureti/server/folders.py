@@ -8,6 +8,7 @@ from array import array
 from collections import OrderedDict
 from itertools import accumulate
 
+from .. import system
 from ..tools import ivf, png
 from ..session.errors import Refused
 from ..session.frames import MARK, frame_of
@@ -41,12 +42,11 @@ class OnDisk:
     """A file that was made on the disk, and has no name there any more."""
 
     def __init__(self, path):
-        self.file = open(path, "rb")
-        os.unlink(path)
+        self.file = system.open_to_remove(path)
         self.size = os.fstat(self.file.fileno()).st_size
 
     def read(self, start, end):
-        return os.pread(self.file.fileno(), end - start, start)
+        return system.pread_all(self.file.fileno(), end - start, start)
 
 
 class Packets:

@@ -8,6 +8,7 @@ import subprocess
 import sys
 import threading
 
+from .. import system
 from ..session.errors import Ended, Lost
 from .folders import EDITS, FRAMES, Folder, Unreadable
 from .live import Changed
@@ -28,6 +29,8 @@ class Missing(ValueError):
 
 def fuse_module():
     """The module fusepy, which Debian calls so and PyPI calls fuse."""
+    if system.IS_WINDOWS:
+        raise Missing("mount needs FUSE, which Windows does not have: `wokureti serve` has the same frames for programs that open an address")
     for name in ("fusepy", "fuse"):
         try:
             found = __import__(name)
@@ -36,7 +39,8 @@ def fuse_module():
         # python3-fuse, another module, has the second name too.
         if hasattr(found, "FuseOSError"):
             return found
-    raise Missing("to mount a folder, install python3-fusepy and fuse3 (or pip install fusepy), or use `wokureti serve`")
+    what = "macFUSE and fusepy (pip install fusepy)" if system.IS_MACOS else "python3-fusepy and fuse3 (or pip install fusepy)"
+    raise Missing(f"to mount a folder, install {what}, or use `wokureti serve`")
 
 
 class Open:
@@ -84,14 +88,14 @@ class Operations:
         """The folder goes."""
 
     def getattr(self, path, handle=None):
-        name = path[1:]
+        name, (user, group) = path[1:], system.owner()
         if name in ("", FRAMES):
             when = self.folder.now().time
-            return {"st_mode": stat.S_IFDIR | 0o755, "st_nlink": 2, "st_mtime": when, "st_ctime": when, "st_atime": when, "st_uid": os.getuid(), "st_gid": os.getgid()}
+            return {"st_mode": stat.S_IFDIR | 0o755, "st_nlink": 2, "st_mtime": when, "st_ctime": when, "st_atime": when, "st_uid": user, "st_gid": group}
         revision, file = self.folder.open(name)
         when = self.folder.failed if revision is None else revision.time
         mode = 0o644 if name == EDITS else 0o444
-        return {"st_mode": stat.S_IFREG | mode, "st_nlink": 1, "st_size": file.size, "st_mtime": when, "st_ctime": when, "st_atime": when, "st_uid": os.getuid(), "st_gid": os.getgid()}
+        return {"st_mode": stat.S_IFREG | mode, "st_nlink": 1, "st_size": file.size, "st_mtime": when, "st_ctime": when, "st_atime": when, "st_uid": user, "st_gid": group}
 
     def readdir(self, path, handle):
         return [".", "..", *(self.folder.names() if path == "/" else self.folder.pictures())]

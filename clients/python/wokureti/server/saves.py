@@ -4,6 +4,8 @@ import os
 from array import array
 from typing import NamedTuple
 
+from .. import system
+
 
 class Saved(NamedTuple):
     """A file that was written, which file it is, and the packets that are in it, as numbers of the contents of this name."""
@@ -31,7 +33,7 @@ def claimed(stem, ending=".ivf"):
     """The same as a new file, so that no other program gets it."""
     for path in names_of(stem, ending):
         try:
-            os.close(os.open(path, os.O_WRONLY | os.O_CREAT | os.O_EXCL | os.O_CLOEXEC, 0o666))
+            os.close(os.open(path, os.O_WRONLY | os.O_CREAT | os.O_EXCL | system.BINARY, 0o666))
             return path
         except FileExistsError:
             continue

@@ -7,12 +7,13 @@ under a name of its own (DNS rebinding); and where a browser says in Origin whic
 import contextlib
 import json
 import re
-import select
 import socket
 import sys
 import threading
 import time
 import urllib.parse
+
+from .. import system
 
 MOST_HEAD = 16 << 10
 MOST_BODY = 8 << 20
@@ -220,10 +221,8 @@ class Connection:
 
     def is_gone(self):
         """Whether the client closed the connection."""
-        poll = select.poll()
-        poll.register(self.socket, select.POLLIN)
         try:
-            return bool(poll.poll(0)) and self.socket.recv(1, socket.MSG_PEEK) == b""
+            return system.is_readable(self.socket) and self.socket.recv(1, socket.MSG_PEEK) == b""
         except OSError:
             return True
 

@@ -3,6 +3,7 @@
 import operator
 import os
 
+from .. import system
 from . import lines
 
 MOST = (1 << 64) - 1
@@ -91,8 +92,8 @@ def sources(values):
     if len(words) > 7:
         raise ValueError(f"{len(words)} sources, but 7 are the most: the stream itself is source 0")
     for word in words:
-        if ":" in word:
-            raise ValueError(f"{word!r} cannot be a source: vp8serve separates the paths of sources by `:`. Use a link with another name")
+        if system.SEPARATOR in word:
+            raise ValueError(f"{word!r} cannot be a source: vp8serve separates the paths of sources by `{system.SEPARATOR}`. Use a link with another name")
     return words
 
 

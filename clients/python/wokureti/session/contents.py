@@ -13,6 +13,7 @@ from array import array
 from typing import NamedTuple
 
 from . import checks
+from .. import system
 from ..tools import excerpts, files, ivf, muxing, runs, times
 from .inputs import is_input
 from .lines import LOSING, first_word, rest_of, spaced, words_of
@@ -120,7 +121,7 @@ class Kept:
         item, index = self.contents.where(number)
         first = index - (number - self.firsts[place])
         start = self.parts[place][1] + item.index.starts[index] - (item.index.starts[first] - ivf.RECORD.size)
-        return os.pread(self.file.fileno(), item.index.sizes[index], start)
+        return system.pread_all(self.file.fileno(), item.index.sizes[index], start)
 
 
 def parts_of(numbers):

@@ -1,12 +1,11 @@
 """The file of a list of edits: locked, so that one session has it at a time, and compared with what is at its path before each write."""
 
 import errno
-import fcntl
 import os
 import stat
 import time
 
-from ..tools.files import sync_folder
+from .. import system
 
 # Seconds.
 LOCK_TIME = 1
@@ -35,7 +34,7 @@ class EditFile:
         self.path = os.fspath(path)
         self.descriptor, self.is_new = open_locked(self.path, is_fresh)
         if self.is_new:
-            sync_folder(os.path.dirname(os.path.realpath(self.path)))
+            system.sync_folder(os.path.dirname(os.path.realpath(self.path)))
         self.size = os.fstat(self.descriptor).st_size
         # What was known of the file after the last write.
         self.known = signature(os.fstat(self.descriptor))
@@ -67,13 +66,7 @@ class EditFile:
 
     def text(self):
         """What is in the file."""
-        data = b""
-        while len(data) < self.size:
-            piece = os.pread(self.descriptor, self.size - len(data), len(data))
-            if not piece:
-                break
-            data += piece
-        return data.decode()
+        return system.pread_all(self.descriptor, self.size, 0).decode()
 
     def write(self, data, at):
         """Writes bytes at a place, where the file then ends. If that fails, the file ends at the place."""
@@ -82,7 +75,7 @@ class EditFile:
         left = data
         try:
             while left:
-                count = os.pwrite(self.descriptor, left, at)
+                count = system.pwrite(self.descriptor, left, at)
                 left, at = left[count:], at + count
             os.fsync(self.descriptor)
         except BaseException:
@@ -94,12 +87,10 @@ class EditFile:
 
     def close(self):
         """A file that was made here goes if it has nothing, as long as it is locked: nobody else has it then."""
-        try:
-            if self.is_new and not self.size and self.change() is None:
-                os.unlink(self.path)
-        except OSError:
-            pass
-        os.close(self.descriptor)
+        if self.is_new and not self.size and self.change() is None:
+            system.remove_and_close(self.path, self.descriptor)
+        else:
+            os.close(self.descriptor)
 
 
 def signature(found):
@@ -127,7 +118,7 @@ def open_locked(path, is_fresh):
 
 
 def open_or_make(path, is_fresh):
-    flags = os.O_RDWR | os.O_CREAT | os.O_CLOEXEC
+    flags = os.O_RDWR | os.O_CREAT | system.BINARY
     try:
         # What somebody edits is for them alone.
         return os.open(path, flags | os.O_EXCL, 0o600), True
@@ -149,7 +140,7 @@ def lock(descriptor):
     limit = time.monotonic() + LOCK_TIME
     while True:
         try:
-            return fcntl.flock(descriptor, fcntl.LOCK_EX | fcntl.LOCK_NB)
+            return system.lock(descriptor)
         except BlockingIOError:
             if time.monotonic() > limit:
                 raise

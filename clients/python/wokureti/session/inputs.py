@@ -8,6 +8,7 @@ import tempfile
 import threading
 
 from . import checks
+from .. import system
 from ..tools import containers, convert, ivf, rooms, times
 
 # Bytes that are read at a time.
@@ -27,11 +28,11 @@ class Input:
         self.found_digest, self.digesting, self.found_step, self.found_durations, self.found_left = None, threading.Lock(), None, None, None
         self.found_rate = None
         self.media = containers.media_of(path)
-        self.is_shared = False
+        self.is_shared, self.room = False, None
         if path == "-":
             return
         try:
-            self.descriptor = os.open(path, os.O_RDONLY | os.O_CLOEXEC)
+            self.descriptor = os.open(path, os.O_RDONLY | system.BINARY)
         except OSError:
             # The program reports it.
             return
@@ -39,20 +40,31 @@ class Input:
         if stat.S_ISDIR(kind):
             self.close()
             return
-        if not stat.S_ISREG(kind):
-            self.spool()
-        if not stat.S_ISREG(kind) or os.path.abspath(path).startswith(("/dev/", "/proc/")):
+        if not stat.S_ISREG(kind) or system.is_device(path):
             # Another process cannot open a pipe again, and /dev/stdin is another file there.
-            self.word, self.is_shared = f"/dev/fd/{self.descriptor}", True
+            self.share(stat.S_ISREG(kind))
         self.signature = self.sign(os.fstat(self.descriptor))
 
-    def spool(self):
-        """Copies a pipe to a file that has no name."""
-        with open(self.descriptor, "rb") as pipe, tempfile.TemporaryFile() as file:
+    def share(self, is_file):
+        """Makes the program able to open what was opened here: by its descriptor, or as a copy where that has no path."""
+        if not system.HAS_DESCRIPTOR_PATHS:
+            self.room = rooms.Room()
+            self.word = os.path.join(self.room.name, "copied.ivf")
+            with open(self.word, "xb") as file:
+                self.spool(file, self.word)
+            return
+        if not is_file:
+            with tempfile.TemporaryFile() as file:
+                # Not dup: the program opens it again, and reads from the start.
+                self.spool(file, system.descriptor_path(file.fileno()))
+        self.word, self.is_shared = system.descriptor_path(self.descriptor), True
+
+    def spool(self, file, path):
+        """Copies a pipe to a file, and opens that by its path."""
+        with open(self.descriptor, "rb") as pipe:
             shutil.copyfileobj(pipe, file, 1 << 20)
-            file.flush()
-            # Not dup: the program opens it again, and reads from the start.
-            self.descriptor = os.open(f"/dev/fd/{file.fileno()}", os.O_RDONLY | os.O_CLOEXEC)
+        file.flush()
+        self.descriptor = os.open(path, os.O_RDONLY | system.BINARY)
 
     @staticmethod
     def sign(found):
@@ -70,7 +82,7 @@ class Input:
     def check_opened(self):
         """The same right after the program read the file by its path."""
         self.check()
-        if self.descriptor is not None and not self.is_shared and self.sign(os.stat(self.path)) != self.signature:
+        if self.descriptor is not None and not self.is_shared and self.sign(os.stat(self.word)) != self.signature:
             raise OSError(f"{self.path} was changed while the session was opened")
 
     def records(self):
@@ -135,13 +147,12 @@ class Input:
 
     def read_digest(self):
         index, found = self.records(), hashlib.sha256()
-        window, base = b"", 0
+        window, base, end = b"", 0, os.fstat(self.opened()).st_size
         for start, size in zip(index.starts, index.sizes):
             if start < base or start + size > base + len(window):
-                window, base = os.pread(self.opened(), max(size, WINDOW), start), start
+                window, base = self.bytes_at(min(max(size, WINDOW), end - start), start), start
             found.update(size.to_bytes(4, "little"))
             found.update(memoryview(window)[start - base : start - base + size])
-        self.check()
         return found.hexdigest()
 
     def opened(self):
@@ -150,13 +161,18 @@ class Input:
             raise OSError(f"{self.path} is not open any more")
         return self.descriptor
 
+    def bytes_at(self, size, place):
+        """Bytes of the file. `OSError` if it is no more the one that the program read."""
+        try:
+            return system.pread_all(self.opened(), size, place)
+        finally:
+            self.check()
+
     def read(self, number, size=None):
         """The bytes of a packet, or the first ones of them."""
         index = self.records()
         count = index.sizes[number]
-        data = os.pread(self.opened(), count if size is None else min(size, count), index.starts[number])
-        self.check()
-        return data
+        return self.bytes_at(count if size is None else min(size, count), index.starts[number])
 
     def read_records(self, first, end):
         """The bytes of the records of packets, piece by piece."""
@@ -164,8 +180,7 @@ class Input:
         place = index.starts[first] - ivf.RECORD.size
         stop = index.starts[end - 1] + index.sizes[end - 1]
         while place < stop:
-            data = os.pread(self.opened(), min(stop - place, ivf.WINDOW), place)
-            self.check()
+            data = self.bytes_at(min(stop - place, ivf.WINDOW), place)
             place += len(data)
             yield data
 
@@ -173,12 +188,14 @@ class Input:
         """The bytes of the whole file, at most so many; those of an empty stream if there is none."""
         if self.path == "-":
             return ivf.EMPTY.text(0)
-        return os.pread(self.opened(), min(most, os.fstat(self.opened()).st_size), 0)
+        return self.bytes_at(min(most, os.fstat(self.opened()).st_size), 0)
 
     def close(self):
         if self.descriptor is not None:
             os.close(self.descriptor)
             self.descriptor = None
+        if self.room is not None:
+            self.room.cleanup()
 
 
 class Inputs:

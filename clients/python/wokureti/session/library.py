@@ -11,6 +11,7 @@ import threading
 import time
 import weakref
 
+from .. import system
 from . import checks
 from ..tools import ivf, programs, versions
 from ..tools.files import write_whole
@@ -18,13 +19,11 @@ from .frames import MARK, size_of
 from .lines import is_refusal, words_of
 from .pipes import Gone, Late, Strange
 
-NAME = "libwokureti.so.0"
 ENGINES = ("library", "program")
 # Bytes of stack that a worker has at least: the library needs 64 KB.
 LEAST_STACK = 1 << 20
 STARTING = threading.Lock()
 CACHE = 32
-V3 = {"avx2", "bmi1", "bmi2", "f16c", "fma", "abm", "movbe"}
 OK, FILE, MEMORY, ROOM, LOST, NO_MEMORY = 0, 2, 3, 5, 7, 31
 # Numbers of `wk_export`: a frame that the script changes, and too many packets.
 CHANGED, FULL = 33, 35
@@ -87,22 +86,12 @@ def room_of(size):
     return make(None, size)
 
 
-def processors():
-    """The processors whose programs run here, the best one first."""
-    try:
-        with open("/proc/cpuinfo", encoding="ascii", errors="replace") as file:
-            flags = set(file.read(1 << 14).split())
-    except OSError:
-        flags = set()
-    return (["x86-64-v3"] if V3 <= flags else []) + ["x86-64-v2"]
-
-
 def find():
     """The path of the library: that of the variable LIBWOKURETI, or installed with this package, or built in this tree; None if it is nowhere."""
     named = os.environ.get("LIBWOKURETI")
     if named:
         return named
-    places = [folder / "lib/wokureti" / cpu / NAME for folder in programs.HERE.parents for cpu in processors()] + [programs.TREE / "bin" / NAME]
+    places = [folder / "lib/wokureti" / cpu / system.LIBRARY for folder in programs.HERE.parents for cpu in system.builds()] + [programs.TREE / "bin" / system.LIBRARY]
     return next((str(path) for path in places if path.is_file()), None)
 
 
@@ -125,7 +114,11 @@ def is_ready():
 
 def engine_of(named, program):
     """What answers: what is named, in the call or in the variable WOKURETI_ENGINE, or the program where one is named; else the library where it is ready."""
-    engine = named or ("program" if program else os.environ.get("WOKURETI_ENGINE"))
+    engine = named or ("program" if program and system.HAS_PIPES else os.environ.get("WOKURETI_ENGINE"))
+    if not system.HAS_PIPES:
+        if named == "program":
+            raise ValueError(f"{system.NAME} has no pipes on which a program can answer: the engine is the library")
+        return "library"
     if not engine:
         return "library" if not os.environ.get("VP8SERVE") and is_ready() else "program"
     if engine not in ENGINES:
@@ -137,7 +130,7 @@ def load(path=None):
     """The library. `OSError` if it is nowhere, or is not one."""
     path = path or find()
     if path is None:
-        raise OSError(f"{NAME} is not there: ./build.py --library makes it, or name it in the variable LIBWOKURETI")
+        raise OSError(f"{system.LIBRARY} is not there: ./build.py --library makes it, or name it in the variable LIBWOKURETI")
     found, size, data, pointer = ctypes.CDLL(path), ctypes.c_size_t, ctypes.c_char_p, ctypes.c_void_p
     calls = {
         "wk_version": [],

@@ -5,6 +5,7 @@ import os
 import re
 from typing import NamedTuple, Optional
 
+from .. import system
 from ..tools import containers
 from .lines import lines_in
 
@@ -47,14 +48,14 @@ def line_of(number, item, folder):
     path = os.path.abspath(origin_of(item.path)) if origin_of(item.path) != PIPE else PIPE
     inside = os.path.realpath(folder or ".") + os.sep
     if path != PIPE and os.path.realpath(path).startswith(inside):
-        path = os.path.realpath(path)[len(inside) :]
+        path = system.slashed(os.path.realpath(path)[len(inside) :])
     return "# source {}: {} packets, {} bytes, sha256 {}, {}\n".format(number, *item.extent(), item.digest(), json.dumps(path))
 
 
 def origin_of(path):
     """The path that was given for a stream, whose packets may have been taken out of a container since."""
     found = os.fsdecode(containers.origins.get(os.fspath(path), path))
-    return PIPE if found.startswith(("/dev/", "/proc/")) else found
+    return PIPE if found == system.STANDARD_INPUT or system.is_device(found) else found
 
 
 def of_list(path):
@@ -82,7 +83,7 @@ def with_named(sources, path):
 def path_of(named, path):
     """Where a source is: at its path, or next to the list."""
     folder = os.path.dirname(os.path.realpath(path))
-    for candidate in (os.path.join(folder, named.path), os.path.join(folder, os.path.basename(named.path))):
+    for candidate in (os.path.join(folder, name) for name in (named.path, *system.names_of(named.path))):
         if named.path != PIPE and os.path.isfile(candidate):
             return candidate
     what = "a pipe" if named.path == PIPE else f"{named.path}, which is not there"

@@ -5,26 +5,22 @@ No thread reads in the background. The caller waits for all pipes together, so t
 goes wrong is raised where the request was made.
 """
 
-import fcntl
 import os
-import select
-import signal
 import subprocess
 import time
 import weakref
 
+from .. import system
 from ..tools import programs
 from .frames import FrameReader
 
 AT_ONCE = 1 << 18
-# Linux gives a pipe this many bytes if it is asked to, so that a frame or a long list needs fewer reads. The constant is in fcntl since Python 3.10.
-F_SETPIPE_SZ, PIPE_BYTES = 1031, 1 << 20
+# Bytes of a pipe, so that a frame or a long list needs fewer reads.
+PIPE_BYTES = 1 << 20
 # How long a program may take to end after it closed its standard output, or was killed.
 GRACE = 1.0
 # Bytes of standard error that are stored.
 MOST_ERRORS = 1 << 20
-
-READABLE = select.POLLIN | select.POLLHUP | select.POLLERR
 
 
 class Gone(Exception):
@@ -56,10 +52,7 @@ def end(process, descriptors, owner):
 def kill(process):
     """Ends the program, and what it started, if it is a script around vp8serve."""
     if process.poll() is None:
-        try:
-            os.killpg(process.pid, signal.SIGKILL)
-        except OSError:
-            process.kill()
+        system.kill_group(process)
 
 
 class Pipes:
@@ -75,7 +68,7 @@ class Pipes:
             for _ in range(4):
                 ends += os.pipe()
             lines, stdin, stdout, replies, stderr, errors, frames, out = (ends[place] for place in (1, 0, 3, 2, 5, 4, 6, 7))
-            words = [word.replace("{frames}", f"/dev/fd/{out}") for word in words]
+            words = [word.replace("{frames}", system.descriptor_path(out)) for word in words]
             self.process = subprocess.Popen(
                 words, stdin=stdin, stdout=stdout, stderr=stderr, pass_fds=(*pass_fds, out), start_new_session=True
             )
@@ -91,12 +84,7 @@ class Pipes:
         self.descriptors = [lines, replies, errors, frames]
         self.finalizer = weakref.finalize(self, end, self.process, self.descriptors, self.owner)
         for descriptor in self.descriptors:
-            os.set_blocking(descriptor, False)
-        for descriptor in (lines, replies, frames):
-            try:
-                fcntl.fcntl(descriptor, F_SETPIPE_SZ, PIPE_BYTES)
-            except OSError:
-                pass
+            system.prepare_pipe(descriptor, PIPE_BYTES)
         self.reader = FrameReader(frames)
         self.read = bytearray()
         self.said = bytearray()
@@ -173,18 +161,12 @@ class Pipes:
 
     def wait(self, deadline, descriptors, writing=False):
         """Waits until one of these pipes is ready, and reads from those that are."""
-        poll = select.poll()
-        for descriptor in descriptors:
-            if descriptor != self.frames or not self.reader.is_whole:
-                poll.register(descriptor, select.POLLIN)
-        if writing:
-            poll.register(self.lines, select.POLLOUT)
-        ready = poll.poll(time_left(deadline))
-        if not ready:
+        reading = [descriptor for descriptor in descriptors if descriptor != self.frames or not self.reader.is_whole]
+        readable, writable = system.ready(reading, [self.lines] if writing else [], time_left(deadline))
+        if not readable and not writable:
             raise Late
-        for descriptor, event in ready:
-            if descriptor != self.lines and event & READABLE:
-                self.take(descriptor)
+        for descriptor in readable:
+            self.take(descriptor)
 
     def take(self, descriptor):
         """Reads what a pipe has."""
@@ -239,9 +221,7 @@ class Pipes:
         """The status of a program that closed its output or was killed, and the rest of standard error."""
         limit = time.monotonic() + GRACE
         while self.errors in self.open:
-            poll = select.poll()
-            poll.register(self.errors, select.POLLIN)
-            if not poll.poll(time_left(limit)):
+            if not system.ready([self.errors], [], time_left(limit))[0]:
                 break
             self.take(self.errors)
         try:
@@ -273,4 +253,4 @@ def forget_all():
     Pipes.opened.clear()
 
 
-os.register_at_fork(after_in_child=forget_all)
+system.at_fork(forget_all)

@@ -8,6 +8,7 @@ import threading
 import time
 from typing import Any, Callable, ContextManager, Iterable, Iterator, NamedTuple, Optional, Union
 
+from .. import system
 from . import checks, named
 from ..tools import exports, files, muxing, programs, rooms
 from ..tools.progress import say
@@ -122,7 +123,7 @@ class Session:
         streams = self._inputs.words
         words = [self._settings[0], streams[0], "-", "{frames}", "--live"]
         if len(streams) > 1:
-            words += ["--sources", ":".join(streams[1:])]
+            words += ["--sources", system.SEPARATOR.join(streams[1:])]
         if save is not None:
             if muxing.ending_of(save) is not None:
                 raise ValueError(f"save= is an IVF file, which the program writes: {os.fsdecode(save)!r} is written by session.save()")

@@ -11,6 +11,7 @@ import subprocess
 import tempfile
 import threading
 
+from .. import system
 from . import files, paces, parts, programs, rooms, waits
 from ..server import virtual
 from ..session import checks
@@ -44,8 +45,7 @@ def run_part(room, number, program, tables, started):
 
 def if_full(folder):
     """What a message says more if the folder for temporary files is full."""
-    found = os.statvfs(folder)
-    if found.f_bavail * found.f_frsize >= LEAST_FREE and (found.f_favail or not found.f_files):
+    if not system.is_full(folder, LEAST_FREE):
         return ""
     return f". The folder for temporary files, {os.path.dirname(folder)}, is full: name another one in the variable TMPDIR"
 
@@ -173,12 +173,6 @@ def is_stdout(path):
     return os.path.isfile(path) and (found.st_dev, found.st_ino) == (other.st_dev, other.st_ino)
 
 
-def plain_folder():
-    """Where the files of the parts are made: the folder for temporary files, unless its path has what `:` or a shell would divide."""
-    folder = tempfile.gettempdir()
-    return folder if re.fullmatch("[A-Za-z0-9._/+-]*", folder) else "/tmp"
-
-
 def output(path):
     """A file to write to. Standard output is opened again: with PYTHONUNBUFFERED sys.stdout may write a part of what it is given."""
     return open(os.dup(1), "wb") if path == "-" else files.whole(path)
@@ -194,7 +188,7 @@ def write(session, out, workers, name="frames"):
             pass
         return [] if refused is None else [f"frames 0 to {count - 1}: {refused.reply}"]
     first = parts.find_first(session, number)
-    with rooms.Room(plain_folder()) as folder:
+    with rooms.Room(system.plain_folder()) as folder:
         room = parts.Room(folder, session, first)
         plan, made = workers(room, count)
         refusals, progress = [], Progress(name, count)

@@ -6,6 +6,7 @@ import os
 import shutil
 import stat
 
+from .. import system
 from . import blocks, containers, ivf, looks
 from ..session import checks
 from .progress import Stages, say
@@ -38,14 +39,10 @@ def is_container(path):
         return kind_of(file.read(12)) is not None
 
 
-def is_null(found):
-    return stat.S_ISCHR(found.st_mode) and found.st_rdev == os.stat(os.devnull).st_rdev
-
-
 def spooled(path, folder):
     """A pipe as a file in the folder."""
     out = new_name(folder, "spooled")
-    with open(path, "rb") as pipe, open(out, "xb") as file:
+    with system.open_input(path) as pipe, open(out, "xb") as file:
         shutil.copyfileobj(pipe, file, 1 << 20)
     return out
 
@@ -72,21 +69,23 @@ def as_ivf(path, folder, is_quiet=False, is_checked=True, watch=None):
                 raise ivf.NotIvf(looks.sentence(given, name, error)) from None
         return given
     out = taken_out(given, folder, name, kind, is_quiet, watch)
-    containers.origins[out] = path if given == path else "/dev/stdin"
+    containers.origins[out] = path if given == path else system.STANDARD_INPUT
     return out
 
 
 def as_file(path, folder):
     """The path of a stream, or of a file in the folder with what a pipe gives; what it is called; and whether it is a file that can be read."""
-    given = "/dev/stdin" if os.fspath(path) == "-" else path
-    name = "standard input" if given == "/dev/stdin" else os.fsdecode(given)
+    given = system.STANDARD_INPUT if os.fspath(path) == "-" else path
+    name = "standard input" if given == system.STANDARD_INPUT else os.fsdecode(given)
+    if given == system.STANDARD_INPUT and not system.HAS_DESCRIPTOR_PATHS:
+        return spooled(given, folder), name, True
+    if system.is_null(given):
+        return "-", name, False
     try:
         found = os.stat(given)
     except OSError:
         # Who reads it says so.
         return given, name, False
-    if is_null(found):
-        return "-", name, False
     if stat.S_ISDIR(found.st_mode):
         return given, name, False
     return given if stat.S_ISREG(found.st_mode) else spooled(given, folder), name, True

@@ -4,13 +4,13 @@ import concurrent.futures
 import contextlib
 import os
 import pathlib
-import shlex
 import shutil
 import subprocess
 import time
 import xml.etree.ElementTree as xml
 from typing import NamedTuple
 
+from .. import system
 from . import compare, containers, convert, rooms, y4m
 from ..session.errors import Ended, sentence
 from ..session.frames import size_of
@@ -43,7 +43,7 @@ def streams_of(path):
 
 def words_of(command):
     """The words of a command line. `ValueError` if its program is not there."""
-    words = shlex.split(command)
+    words = system.words_of_command(command)
     if not words:
         raise ValueError("--decoder names a command, with {in} for the stream")
     if shutil.which(words[0]) is None:

@@ -2,6 +2,7 @@
 
 import os
 
+from .. import system
 from . import ivf, muxing, rooms, sounds, times
 
 # A frame's duration may differ so much from that of the rate: time stamps of WebM are milliseconds.
@@ -96,13 +97,13 @@ def packets_of(file, head, index):
     """The packets with their times. Those of no bytes are left out: the picture before stays as long."""
     for start, size, stamp in zip(index.starts, index.sizes, index.stamps):
         if size:
-            yield times.nano(stamp, head), os.pread(file.fileno(), size, start)
+            yield times.nano(stamp, head), system.pread_all(file.fileno(), size, start)
 
 
 def first_size(file, index):
     """The size of the first key packet, or None."""
     keys = (start for start, tags in zip(index.starts, index.tags) if tags & ivf.KEY)
-    return next(filter(None, (ivf.key_size(os.pread(file.fileno(), 10, start)) for start in keys)), None)
+    return next(filter(None, (ivf.key_size(system.pread(file.fileno(), 10, start)) for start in keys)), None)
 
 
 def rate_of(spans, head, index, media):

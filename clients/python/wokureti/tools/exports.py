@@ -8,6 +8,7 @@ import tempfile
 import time
 from typing import NamedTuple
 
+from .. import system
 from . import excerpts, files, ivf, muxing, opus, programs, progress, rooms, times
 from ..session import checks
 from ..session.errors import Ended, Unexported
@@ -192,7 +193,8 @@ def export(contents, lines, out, room):
         told = told_of(index, spans)
         out.watch.stage(f"writing {os.path.basename(os.fsdecode(out.path))}")
         if muxing.ending_of(out.path) is None:
-            files.write_whole(out.path, watched(iter(lambda: file.read(PIECE), b""), len, os.fstat(file.fileno()).st_size, out.watch))
+            size = os.fstat(file.fileno()).st_size
+            files.write_whole(out.path, watched(iter(lambda: file.read(PIECE), b""), len, size, out.watch), size)
             return told
         size = excerpts.first_size(file, index) or (head.width, head.height)
         rate = contents.rate if excerpts.is_constant([span.length for span in spans], contents.rate) else None
@@ -215,7 +217,7 @@ def export_plain(contents, lines, out, pad):
                 raise Unexported(text) from None
             raise
         with open(between, "rb") as file:
-            files.write_whole(out, iter(lambda: file.read(PIECE), b""))
+            files.write_whole(out, iter(lambda: file.read(PIECE), b""), os.fstat(file.fileno()).st_size)
 
 
 def watched(pieces, size, total, watch):
@@ -230,7 +232,7 @@ def watched(pieces, size, total, watch):
 def run(program, inputs, lines, out, pad, tables, explains=True, watch=progress.Watch()):
     """Runs the program on the edits of a session. `Ended` with what it says if it refuses; it says nothing of how far it is."""
     words = [program, inputs.words[0], "-", "-", "--export", out, *(["--explain"] if explains else []), *(["--pad"] if pad else [])]
-    words += ["--sources", ":".join(inputs.words[1:])] if len(inputs.words) > 1 else []
+    words += ["--sources", system.SEPARATOR.join(inputs.words[1:])] if len(inputs.words) > 1 else []
     words += ["--tables", checks.path(tables)] if tables is not None else []
     with tempfile.TemporaryFile() as given, tempfile.TemporaryFile() as errors:
         given.write("".join(f"{line}\n" for line in lines).encode())
@@ -272,6 +274,6 @@ def timed(file, index, spans):
     """The packets with their times: those of the spans, and for a hidden one that of the next shown one."""
     clock, lengths = 0, iter([span.length for span in spans])
     for start, size, tags in zip(index.starts, index.sizes, index.tags):
-        yield clock, os.pread(file.fileno(), size, start)
+        yield clock, system.pread_all(file.fileno(), size, start)
         clock += next(lengths) if tags & ivf.SHOWN else 0
 

@@ -6,20 +6,25 @@ import os
 import stat
 import tempfile
 
+from .. import system
 
 # What a write that finds no room fails with.
 FULL = (errno.ENOSPC, errno.EDQUOT, errno.EFBIG)
 
 
-def write_whole(path, pieces):
-    """Writes the pieces of bytes to a file.
+def write_whole(path, pieces, size=None):
+    """Writes the pieces of bytes to a file. With `size` they must have so many bytes: else the file that they are read from was not read whole.
 
     A file, or the file that a link names, is replaced once all pieces are on the disk: if something fails before, it has its old bytes.
     A pipe or a device is written to as it is.
     """
+    count = 0
     with whole(path) as file:
         for piece in pieces:
             file.write(piece)
+            count += len(piece)
+        if size is not None and count != size:
+            raise OSError(errno.EIO, f"{count:,} bytes of {size:,} were read of what is to be written, so it was not written", os.fspath(path))
 
 
 @contextlib.contextmanager
@@ -59,30 +64,10 @@ def replaced(real, mode):
             yield file
             file.flush()
             os.fsync(descriptor)
-        os.chmod(temporary, stat.S_IMODE(mode) if mode is not None else 0o666 & ~mask())
-        os.replace(temporary, real)
-        sync_folder(folder)
+        os.chmod(temporary, stat.S_IMODE(mode) if mode is not None else 0o666 & ~system.umask())
+        system.replace(temporary, real)
+        system.sync_folder(folder)
     except BaseException:
         with contextlib.suppress(OSError):
             os.unlink(temporary)
         raise
-
-
-def sync_folder(folder):
-    """Brings the names of a folder to the disk."""
-    descriptor = os.open(folder or ".", os.O_RDONLY | os.O_DIRECTORY | os.O_CLOEXEC)
-    try:
-        # Some file systems cannot.
-        with contextlib.suppress(OSError):
-            os.fsync(descriptor)
-    finally:
-        os.close(descriptor)
-
-
-def mask():
-    """The permissions that new files do not get."""
-    with open("/proc/self/status", encoding="ascii", errors="replace") as file:
-        for line in file:
-            if line.startswith("Umask:"):
-                return int(line.split()[1], 8)
-    return 0o022

@@ -5,6 +5,8 @@ import struct
 from array import array
 from typing import NamedTuple
 
+from .. import system
+
 HEAD = struct.Struct("<4sHH4sHHIIII")
 RECORD = struct.Struct("<IQ")
 MOST_PACKETS = 1 << 20
@@ -91,7 +93,7 @@ TAGS = bytes(tag_of(3, first) for first in range(256))
 def read_index(descriptor):
     """The head of the file, and the index of its whole records. The bytes of a record that is cut off are left out."""
     length_of_file = os.fstat(descriptor).st_size
-    head, place = parse_head(os.pread(descriptor, HEAD.size, 0))
+    head, place = parse_head(system.pread(descriptor, HEAD.size, 0))
     if place > length_of_file:
         raise NotIvf(f"its header gives itself {place} bytes, more than there are")
     index, window, base = Index(), b"", place
@@ -100,9 +102,7 @@ def read_index(descriptor):
     while place + head_size <= length_of_file:
         at = place - base
         if at + head_size >= len(window):
-            window, base, at = os.pread(descriptor, WINDOW, place), place, 0
-            if len(window) < head_size:
-                break
+            window, base, at = system.pread_all(descriptor, min(WINDOW, length_of_file - place), place), place, 0
         size, stamp = unpack(window, at)
         place += head_size
         if place + size > length_of_file:
@@ -117,7 +117,7 @@ def read_index(descriptor):
 
 def left_after(descriptor, index):
     """The number of bytes after the last whole record of a file."""
-    end = index.starts[-1] + index.sizes[-1] if len(index) else parse_head(os.pread(descriptor, HEAD.size, 0))[1]
+    end = index.starts[-1] + index.sizes[-1] if len(index) else parse_head(system.pread(descriptor, HEAD.size, 0))[1]
     return max(0, os.fstat(descriptor).st_size - end)
 
 

@@ -10,6 +10,7 @@ import subprocess
 import tempfile
 import time
 
+from .. import system
 from . import parts
 from .cat import Failed
 from .progress import say
@@ -23,6 +24,8 @@ INSTALL = "apt-get install parallel rsync openssh-client here, and rsync openssh
 
 def check_here():
     """What is needed on this machine."""
+    if system.IS_WINDOWS:
+        raise Failed("--sshlogin needs GNU parallel, which Windows does not have: leave it out, and this machine decodes")
     missing = [name for name in ("parallel", "rsync", "ssh") if shutil.which(name) is None]
     if missing:
         raise Failed(f"{' and '.join(missing)} must be installed for --sshlogin: {INSTALL}")

@@ -10,6 +10,7 @@ packets in front, and serves it first; it is left out when the parts are joined.
 import os
 from typing import NamedTuple
 
+from .. import system
 from . import ivf
 from ..session.errors import Refused
 from ..session.lines import lines_in, words_of
@@ -109,7 +110,7 @@ class Room:
     def write(self, number, part):
         """Writes the stream and the requests of a part."""
         leads = part.first > self.first.number
-        with open(self.path(number, "list"), "w", encoding="ascii") as file:
+        with open(self.path(number, "list"), "w", encoding="ascii", newline="\n") as file:
             if part.packets is None:
                 file.write(f"script {self.script}\n")
                 frames = ([self.first.number] if leads else []) + list(range(part.first, part.end))
@@ -134,7 +135,7 @@ class Room:
         streams = self.sources or [self.path(number, "ivf")]
         words = [program, streams[0], self.path(number, "list"), self.path(number, "y4m")]
         if len(streams) > 1:
-            words += ["--sources", ":".join(streams[1:])]
+            words += ["--sources", system.SEPARATOR.join(streams[1:])]
         if not self.sources:
             # A part is decoded once, in order.
             words += ["--cache", "1"]

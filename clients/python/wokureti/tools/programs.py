@@ -5,22 +5,29 @@ import os
 import pathlib
 import shutil
 
+from .. import system
+
 HERE = pathlib.Path(__file__).resolve()
 TREE = HERE.parents[4]
 
 
 def installed(name):
-    """The program that a wheel installed together with this package, if it did: below one folder are bin/, lib/wokureti/ and this package."""
+    """The program that a wheel installed together with this package, if it did: below one folder are bin/, lib/wokureti/ and this package, or on Windows
+    Scripts and this package."""
     for folder in HERE.parents:
-        if (folder / "lib/wokureti" / f"{name}-x86-64-v2").is_file() and (folder / "bin" / name).is_file():
+        if system.IS_WINDOWS and (folder / "Scripts" / f"{name}.exe").is_file():
+            return str(folder / "Scripts" / f"{name}.exe")
+        # A wheel with builds for several processors has a launcher in bin/, another one the program.
+        marks = (folder / "lib/wokureti" / mark for mark in (f"{name}-x86-64-v2", system.LIBRARY))
+        if any(mark.is_file() for mark in marks) and (folder / "bin" / name).is_file():
             return str(folder / "bin" / name)
     return None
 
 
 def missing(word):
     """The error of a program that is not there."""
-    name = "vp8list" if os.path.basename(word) == "vp8list" else "vp8serve"
-    where = f"{name} is not on the PATH" if os.sep not in word else f"there is no {word}"
+    name = "vp8list" if os.path.basename(word) in ("vp8list", system.program_file("vp8list")) else "vp8serve"
+    where = f"{name} is not on the PATH" if os.path.basename(word) == word else f"there is no {word}"
     return FileNotFoundError(errno.ENOENT, f"{where}: install it, or name it in the variable {name.upper()}")
 
 
@@ -29,5 +36,5 @@ def find(name):
     found = os.environ.get(name.upper()) or installed(name) or shutil.which(name)
     if found:
         return found
-    built = (TREE / "bin" / name, TREE / "crates" / name / "out" / name)
+    built = (TREE / "bin" / system.program_file(name), TREE / "crates" / name / "out" / name)
     return next((str(path) for path in built if path.is_file()), name)

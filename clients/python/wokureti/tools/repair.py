@@ -9,6 +9,7 @@ import os
 import statistics
 from typing import NamedTuple
 
+from .. import system
 from . import facts, ivf, runs, salvage, times
 from .differences import Lasting, edits_between
 
@@ -127,7 +128,7 @@ class Repair:
             self.of_parts[key] = (packets, found)
             return found
 
-        pool = concurrent.futures.ThreadPoolExecutor(min(AT_A_TIME, len(os.sched_getaffinity(0))))
+        pool = concurrent.futures.ThreadPoolExecutor(min(AT_A_TIME, system.processors()))
         try:
             for done, found in enumerate(pool.map(run, parts), 1):
                 self.stage(f"{what}, {done} of {len(parts)} parts")
