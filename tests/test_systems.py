@@ -296,13 +296,14 @@ def at_a_time(place):
 
 
 def locked_list(place):
-    """A list of edits has one session at a time."""
-    page = Page(place, "open", "clip.ivf", "--no-browser")
+    """A list of edits has one session at a time, and goes if nothing was edited."""
+    page = Page(place, "open", "cut.ivf", "--no-browser")
     try:
-        status, out, errors = place.run("-m", "wokureti", "open", "clip.ivf", "--no-browser")
+        status, out, errors = place.run("-m", "wokureti", "open", "cut.ivf", "--no-browser")
         expect(f"{place.system}: a second session", (status, out, "is the list of another session that is open" in errors), (2, b"", True))
     finally:
-        page.end()
+        expect(f"{place.system}: the end of a session without edits", page.end()[0], 0)
+    expect(f"{place.system}: a list without edits", (place.folder / "cut.edits").exists(), False)
 
 
 def main():

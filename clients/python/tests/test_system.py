@@ -278,7 +278,7 @@ class Files(Case):
             WINDOWS.replace("new", "old")
         self.assertEqual(len(tries), 4)
         with mock.patch.object(WINDOWS.os, "replace", side_effect=PermissionError(errno.EACCES, "Permission denied", "new")), mock.patch.object(WINDOWS, "MOST_BUSY", 0.1):
-            with self.assertRaisesRegex(PermissionError, "close it in the programs that have it open") as caught:
+            with self.assertRaisesRegex(PermissionError, "it cannot be replaced: another program has it open") as caught:
                 WINDOWS.replace("new", "old")
         self.assertEqual(caught.exception.filename, "old")
         # Elsewhere that is no question of time.

@@ -122,7 +122,7 @@ def replace(source, target):
             if not IS_WINDOWS:
                 raise
             if time.monotonic() > limit:
-                raise PermissionError(error.errno, "it cannot be replaced: close it in the programs that have it open", os.fspath(target)) from None
+                raise PermissionError(error.errno, "it cannot be replaced: another program has it open, or it must not be written", os.fspath(target)) from None
             time.sleep(0.05)
 
 
@@ -271,8 +271,9 @@ def started_apart():
 
 
 def interrupt(process):
-    """Ends a command as Ctrl-C does."""
-    process.send_signal(signal.CTRL_BREAK_EVENT if IS_WINDOWS else signal.SIGINT)
+    """Ends a command as Ctrl-C does. Windows refuses that without a console."""
+    with contextlib.suppress(OSError):
+        process.send_signal(signal.CTRL_BREAK_EVENT if IS_WINDOWS else signal.SIGINT)
 
 
 def is_closed_pipe(error):
