@@ -83,7 +83,7 @@ class Package(unittest.TestCase):
         self.assertEqual(found - ALLOWED, set())
         # The check finds what is there.
         self.assertEqual(ALLOWED - found, set())
-        self.assertLess({"fcntl", "msvcrt", "select", "platform", "os.killpg", "os.umask", "signal.SIGKILL", "sys.platform", "/dev/stdin"}, set(of_systems(PACKAGE / "system.py")))
+        self.assertLess({"fcntl", "msvcrt", "select", "os.killpg", "os.umask", "signal.SIGKILL", "sys.platform", "/dev/stdin"}, set(of_systems(PACKAGE / "system.py")))
 
     def test_files_are_opened_as_bytes(self):
         """`os.open` without O_BINARY changes line ends on Windows."""
@@ -102,7 +102,7 @@ class Names(unittest.TestCase):
         self.assertEqual([one.LIBRARY for one in (system, WINDOWS, MACOS)], ["libwokureti.so.0", "wokureti.dll", "libwokureti.0.dylib"])
         self.assertEqual([one.program_file("vp8list") for one in (system, WINDOWS, MACOS)], ["vp8list", "vp8list.exe", "vp8list"])
         self.assertEqual((WINDOWS.builds(), MACOS.builds()), ([""], [""]))
-        with mock.patch.object(system.platform, "machine", return_value="aarch64"):
+        with mock.patch.object(os, "uname", return_value=types.SimpleNamespace(machine="aarch64")):
             self.assertEqual(system.builds(), [""])
 
     def test_lists_of_sources(self):
