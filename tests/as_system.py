@@ -157,6 +157,13 @@ def locking(descriptor, mode, size):
         raise PermissionError(errno.EACCES, "Permission denied") from None
 
 
+def temporary_file(mode="w+b", dir=None, **more):
+    """A file that goes when it is closed, as one that was opened with O_TEMPORARY."""
+    descriptor, name = tempfile.mkstemp(dir=dir)
+    real.unlink(name)
+    return real.file(descriptor, mode, **more)
+
+
 class Process(subprocess.Popen):
     """A process gets no descriptors but those of its standard streams."""
 
@@ -191,7 +198,7 @@ def become_windows():
     signal.SIGBREAK = signal.CTRL_BREAK_EVENT = BREAK
     sys.modules["msvcrt"] = types.SimpleNamespace(LK_NBLCK=2, locking=locking)
     subprocess.Popen, subprocess.CREATE_NEW_PROCESS_GROUP = Process, 0
-    tempfile.TemporaryFile = tempfile.NamedTemporaryFile
+    tempfile.TemporaryFile = temporary_file
     for file in (sys.stdout, sys.stderr):
         file.reconfigure(newline="\r\n")
 

@@ -50,7 +50,7 @@ class Sources(argparse.Action):
 def add_sources(parser):
     """The arguments that name other streams."""
     parser.add_argument("--source", action="append", default=[], metavar="B", help="another stream: source 1, 2, and so on")
-    parser.add_argument("--sources", action=Sources, default=argparse.SUPPRESS, metavar="LIST", help="several of them: `B;C`, or `B:C` but on Windows")
+    parser.add_argument("--sources", action=Sources, default=argparse.SUPPRESS, metavar="LIST", help="several of them, separated by `;`, or by `:` except on Windows")
 
 
 def add_edits(parser):

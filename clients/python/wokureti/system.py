@@ -4,12 +4,12 @@ import contextlib
 import errno
 import ntpath
 import os
-import platform
 import re
 import select
 import shlex
 import shutil
 import signal
+import socket
 import stat
 import subprocess
 import sys
@@ -122,7 +122,7 @@ def replace(source, target):
             if not IS_WINDOWS:
                 raise
             if time.monotonic() > limit:
-                raise PermissionError(error.errno, "it cannot be replaced: close it in the programs that have it open", os.fspath(target)) from None
+                raise PermissionError(error.errno, "it cannot be replaced: another program has it open, or it must not be written", os.fspath(target)) from None
             time.sleep(0.05)
 
 
@@ -239,16 +239,20 @@ def ready(reading, writing, milliseconds):
     return [one for one in reading if events.get(one, 0) & readable], [one for one in writing if one in events]
 
 
-def is_readable(socket):
+def is_readable(connection):
     """Whether a socket has bytes, or was closed, now. Elsewhere than on Windows `select` refuses descriptors from 1024 on."""
-    return bool(ready([socket.fileno()], [], 0)[0] if hasattr(select, "poll") else select.select([socket], [], [], 0)[0])
+    return bool(ready([connection.fileno()], [], 0)[0] if hasattr(select, "poll") else select.select([connection], [], [], 0)[0])
 
 
-def prepare_pipe(descriptor, size):
-    """Calls on a pipe do not wait, and it takes so many bytes, if the system has that."""
-    os.set_blocking(descriptor, False)
+def enlarge(descriptor, size):
+    """Makes a pipe so large, if the system does that."""
     with contextlib.suppress(OSError):
         fcntl.fcntl(descriptor, F_SETPIPE_SZ, size)
+
+
+def do_not_wait(descriptor):
+    """Calls on a pipe return at once."""
+    os.set_blocking(descriptor, False)
 
 
 def kill_group(process):
@@ -271,8 +275,9 @@ def started_apart():
 
 
 def interrupt(process):
-    """Ends a command as Ctrl-C does."""
-    process.send_signal(signal.CTRL_BREAK_EVENT if IS_WINDOWS else signal.SIGINT)
+    """Ends a command as Ctrl-C does. Windows refuses that without a console."""
+    with contextlib.suppress(OSError):
+        process.send_signal(signal.CTRL_BREAK_EVENT if IS_WINDOWS else signal.SIGINT)
 
 
 def is_closed_pipe(error):
@@ -304,7 +309,7 @@ def process_text(pid, is_locked=False):
     """A text that names a process, and no other one: on this machine, since it was started, among the processes that this one sees."""
     if HAS_PROCESSES:
         return "\n".join([*process_space(), str(pid), process_start(pid), ""])
-    return "\n".join([LOCKED if is_locked else "not locked", platform.node(), str(pid), ""])
+    return "\n".join([LOCKED if is_locked else "not locked", socket.gethostname(), str(pid), ""])
 
 
 def process_space():
@@ -335,7 +340,7 @@ def is_abandoned(descriptor):
     """Whether the process whose text is in a file is certainly gone. Where processes are not listed, the lock of the file says so, if it was made on this machine:
     a system, or a file system, that cannot lock says nothing."""
     text = os.read(descriptor, MOST_OWNER).decode("utf-8", "replace")
-    if not (is_gone(text) if HAS_PROCESSES else text.split("\n")[:2] == [LOCKED, platform.node()] and text.count("\n") == 3):
+    if not (is_gone(text) if HAS_PROCESSES else text.split("\n")[:2] == [LOCKED, socket.gethostname()] and text.count("\n") == 3):
         return False
     try:
         lock(descriptor)
@@ -368,7 +373,7 @@ def program_file(name):
 
 def builds():
     """The processors for which there are builds that run here, the best one first; one of no name where there is only one build."""
-    if NAME != "Linux" or platform.machine() != "x86_64":
+    if NAME != "Linux" or os.uname().machine != "x86_64":
         return [""]
     try:
         with open("/proc/cpuinfo", encoding="ascii", errors="replace") as file:

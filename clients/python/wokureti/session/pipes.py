@@ -84,7 +84,9 @@ class Pipes:
         self.descriptors = [lines, replies, errors, frames]
         self.finalizer = weakref.finalize(self, end, self.process, self.descriptors, self.owner)
         for descriptor in self.descriptors:
-            system.prepare_pipe(descriptor, PIPE_BYTES)
+            system.do_not_wait(descriptor)
+        for descriptor in (lines, replies, frames):
+            system.enlarge(descriptor, PIPE_BYTES)
         self.reader = FrameReader(frames)
         self.read = bytearray()
         self.said = bytearray()

@@ -11,7 +11,7 @@ import xml.etree.ElementTree as xml
 from typing import NamedTuple
 
 from .. import system
-from . import compare, containers, convert, rooms, y4m
+from . import compare, containers, convert, files, rooms, y4m
 from ..session.errors import Ended, sentence
 from ..session.frames import size_of
 
@@ -132,4 +132,4 @@ def write_junit(path, command, found, is_anyway=False):
             xml.SubElement(case, "failure", message=one.lines[0]).text = "\n".join(one.lines)
         if one in errors:
             xml.SubElement(case, "error", message=one.damage[0]).text = "\n".join(one.damage)
-    xml.ElementTree(suite).write(path, encoding="utf-8", xml_declaration=True)
+    files.write_whole(path, [xml.tostring(suite, encoding="utf-8", xml_declaration=True)])

@@ -87,6 +87,9 @@ def save_file(path, between, media, spans, sound, say):
     """The same of an IVF file with the time stamps that the packets shall have."""
     with open(between, "rb") as file:
         head, index = ivf.read_index(file.fileno())
+        shown = sum(bool(tags & ivf.SHOWN) for tags in index.tags)
+        if shown != len(spans):
+            raise ValueError(f"{os.fsdecode(path)} was not written: {shown} of {len(spans)} frames were read of the packets for it")
         end = sum(span.length for span in spans)
         size = first_size(file, index) or (head.width, head.height)
         video = muxing.Video(packets_of(file, head, index), end, size, rate_of(spans, head, index, media), media)
