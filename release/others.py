@@ -3,7 +3,7 @@
 Each is a module with FOLDER, its folder below bin/, and the functions `missing`, `linker`, `programs` and `build`, as release/arm.py has them.
 """
 
-from . import arm
-from .targets import ARM
+from . import arm, windows
+from .targets import ARM, WINDOWS
 
-BUILDERS = {ARM: arm}
+BUILDERS = {ARM: arm, WINDOWS: windows}
