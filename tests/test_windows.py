@@ -25,7 +25,8 @@ import test_library  # noqa: E402
 FOLDER = pathlib.Path(os.environ.get("WOKURETI_WINDOWS") or TOP / "bin/windows")
 SERVE, LIST = (os.environ.get(name) or str(TOP / "bin" / name.lower()) for name in ("VP8SERVE", "VP8LIST"))
 CLIPS = TOP / "crates/gate_clips/data"
-SMALL, OTHER, LARGE = (CLIPS / f"{name}.ivf" for name in ("small", "odd-size", "scene-cuts"))
+SMALL, OTHER = CLIPS / "small.ivf", CLIPS / "odd-size.ivf"
+LARGE = max(CLIPS.glob("*.ivf"), key=lambda path: path.stat().st_size)
 COMPILER = "x86_64-w64-mingw32-gcc"
 C_OPTIONS = ["-std=gnu11", "-O1", "-Wall", "-Wextra", "-Werror"]
 SUITES = ("row ", "clip ", "findings", "stored run")
@@ -136,17 +137,17 @@ def relative(wine, folder):
 
 
 def sources(wine, folder):
-    """Lists of files: of drives, separated by `;`, and a file that is missing."""
+    """Lists of files: of drives, separated by `;`, and a file that is missing. The current drive is W: here."""
     for name, clip in (("a", SMALL), ("b", OTHER)):
         shutil.copyfile(clip, folder / f"{name}.ivf")
     data = b"script source 1; source 2; splice 0 1\ncount\nframe 0\nuse 2\ncount\n"
-    for number, (given, wanted) in enumerate((("W:\\a.ivf;W:\\b.ivf", "{0}/a.ivf:{0}/b.ivf"), ("W:/b.ivf;w:\\a.ivf", "{0}/b.ivf:{0}/a.ivf"), ("a.ivf;b.ivf", "a.ivf:b.ivf"), (f"{folder}/a.ivf:{folder}/b.ivf", "a.ivf:b.ivf"))):
+    for number, (given, wanted) in enumerate((("W:\\a.ivf;W:\\b.ivf", "{0}/a.ivf:{0}/b.ivf"), ("W:/b.ivf;w:\\a.ivf", "{0}/b.ivf:{0}/a.ivf"), ("a.ivf;b.ivf", "a.ivf:b.ivf"), ("\\b.ivf:a.ivf", "b.ivf:a.ivf"))):
         mine, other = folder / f"mine{number}.y4m", folder / f"native{number}.y4m"
-        done = wine.run("vp8serve.exe", SMALL, "-", mine, "--sources", given, data=data, cwd=folder)
+        done = wine.run("vp8serve.exe", f"Z:{SMALL}", "-", mine.name, "--sources", given, data=data, cwd=folder)
         yield from unlike(f"--sources {given}", done, native(SMALL, "-", other, "--sources", wanted.format(folder), data=data, cwd=folder))
         if mine.read_bytes() != other.read_bytes():
             yield f"--sources {given}: another .y4m"
-    done = wine.run("vp8serve.exe", SMALL, "-", "-", "--sources", "W:\\a.ivf;W:\\no.ivf")
+    done = wine.run("vp8serve.exe", f"Z:{SMALL}", "-", "-", "--sources", "W:\\a.ivf;W:\\no.ivf")
     yield from unlike("a missing source", done, native(SMALL, "-", "-", "--sources", f"{folder}/a.ivf:{folder}/no.ivf"), [("W|/no.ivf", folder / "no.ivf")])
 
 
@@ -173,11 +174,11 @@ def over_open_files(wine, folder):
         path = place / f"saved{len(words)}.ivf"
         path.write_bytes(OLD)
         with held(wine, holder, path, *words):
-            done = wine.run("vp8serve.exe", SMALL, "-", "-", "--save", path, data=b"delete 1\n")
+            done = wine.run("vp8serve.exe", SMALL, "-", "-", "--save", path, "--explain", data=b"delete 1\n")
             found = path.read_bytes()
         wanted = (place / "wanted.ivf").read_bytes()
-        message = f"{path}: Permission denied".encode()
-        is_right = (found == wanted) if done.returncode == 0 else (found == OLD and message in done.stderr)
+        is_refused = found == OLD and str(path).encode() in done.stderr and b"Permission denied" in done.stderr
+        is_right = found == wanted if done.returncode == 0 else is_refused
         if not is_right or unfinished(place):
             yield f"a save over an open file, {words}: status {done.returncode}, {done.stderr!r}, {len(found)} bytes, {unfinished(place)}"
         if wine.run("vp8serve.exe", SMALL, "-", "-", "--save", path, data=b"delete 1\n").returncode or path.read_bytes() != wanted:
@@ -186,9 +187,9 @@ def over_open_files(wine, folder):
 
 @contextlib.contextmanager
 def volume(folder):
-    """A volume of 64 KB, or None."""
+    """A volume of 32 KB, less than the largest clip has, or None."""
     folder.mkdir()
-    is_there = subprocess.run(["mount", "-t", "tmpfs", "-o", "size=64k", "tmpfs", folder], capture_output=True, check=False).returncode == 0
+    is_there = subprocess.run(["mount", "-t", "tmpfs", "-o", "size=32k", "tmpfs", folder], capture_output=True, check=False).returncode == 0
     try:
         yield folder if is_there else None
     finally:
@@ -207,11 +208,12 @@ def full_disk(wine, folder):
         saved.write_bytes(OLD)
         for what, given, own in (("a save", ["-", "-", "--save", "V:\\saved.ivf"], ["-", "-", "--save", saved]), ("an output", ["-", "V:\\out.y4m"], ["-", disk / "out.y4m"])):
             data = b"frame 0\nframe 1\nframe 2\n"
-            wanted, after = native(LARGE, *own, data=data), sorted(path.name for path in disk.iterdir())
+            wanted, after = native(LARGE, *own, "--explain", data=data), sorted(path.name for path in disk.iterdir())
             (disk / "out.y4m").unlink(missing_ok=True)
-            mine = wine.run("vp8serve.exe", LARGE, *given, data=data)
+            saved.write_bytes(OLD)
+            mine = wine.run("vp8serve.exe", LARGE, *given, "--explain", data=data)
             yield from unlike(f"a full disk, {what}", mine, wanted, names)
-            if not wanted.returncode or b"No space left on device" not in mine.stderr:
+            if not wanted.returncode or b"disk" not in mine.stderr:
                 yield f"a full disk, {what}: {mine.stderr!r}"
             if saved.read_bytes() != OLD or sorted(path.name for path in disk.iterdir()) != after:
                 yield f"a full disk, {what}: {sorted(path.name for path in disk.iterdir())}"
@@ -233,7 +235,8 @@ def interrupted(wine, folder):
             except subprocess.TimeoutExpired:
                 process.kill()
                 yield f"{number.name}: the program did not end"
-        if process.returncode == 0 or path.read_bytes() != OLD:
+        # wine ends a program with status 0 at Ctrl-C.
+        if path.read_bytes() != OLD:
             yield f"{number.name}: status {process.returncode}, {path.read_bytes()[:40]!r}"
     for name in unfinished(folder):
         (folder / name).unlink()
