@@ -283,8 +283,12 @@ def verify_here(dist, objects, room):
 
 def verify_other(target, builder, dist, room):
     """Compares what dist/ has for another system. Returns a sentence if that could not be done."""
+    from release.others import sources
+
     if name_of(target.programs[0], target.builds[0]) not in dist:
         return f"dist/ has nothing for {target.name}"
+    if sources(builder) != dist[f"sources for {target.builds[0]}"]:
+        return f"what dist/ has for {target.name} is of an earlier state of version {dist['version']}, so it is not compared"
     if builder.missing():
         return f"what dist/ has for {target.name} is not compared: {builder.missing()}"
     if builder.linker() != dist[f"C library for {target.builds[0]}"]:
@@ -296,7 +300,7 @@ def verify_other(target, builder, dist, room):
 def verify():
     """Compares dist/ with the programs and the library of the current sources. Returns the exit status."""
     from release import library
-    from release.others import BUILDERS
+    from release.others import with_wheels
 
     dist, sources = read_names(), digest(needed())
     if dist.get("version") != version():
@@ -311,7 +315,7 @@ def verify():
         return 0
     with objects_of() as (objects, room):
         left = {targets.X86_64: verify_here(dist, objects, room)}
-        left |= {target: verify_other(target, builder, dist, room) for target, builder in BUILDERS.items()}
+        left |= {target: verify_other(target, builder, dist, room) for target, builder in with_wheels().items()}
     for text in filter(None, left.values()):
         say(text)
     whole = [target.name for target, text in left.items() if not text]
@@ -323,14 +327,14 @@ def verify():
 def made_for_all(objects, room):
     """The programs and libraries for each system that has a wheel, and the lines of dist/SOURCES about them."""
     from release import library, linked
-    from release.others import BUILDERS
+    from release.others import sources, with_wheels
 
     programs, libraries = link_all(objects, room), library.shared(room, CPUS, Built.is_there, say)
     names = {**names_of(digest(needed()), objects, programs, libraries), "C library": linked.c_library()}
     made = {targets.X86_64: {**programs, **libraries}}
-    for target, builder in BUILDERS.items():
+    for target, builder in with_wheels().items():
         made[target] = builder.programs(room, Built.is_there, say)[0]
-        names[f"C library for {target.builds[0]}"] = builder.linker()
+        names |= {f"sources for {target.builds[0]}": sources(builder), f"C library for {target.builds[0]}": builder.linker()}
         names |= {name_of(name, cpu): sum_of(path) for (name, cpu), path in made[target].items()}
     return made, names
 
@@ -338,13 +342,13 @@ def made_for_all(objects, room):
 def make_dist():
     """Writes a new dist/, with a wheel for each system."""
     from release import linked, manuals
-    from release.others import BUILDERS
+    from release.others import with_wheels
 
     if read_names().get("version") == version():
         raise Failed(f"dist/ has version {version()} already: one dist/ a version; change VERSION first")
     if linked.c_library() is None:
         raise Failed("the programs are linked with gcc and the C library's libc.a: install gcc and libc6-dev")
-    for target, builder in BUILDERS.items():
+    for target, builder in with_wheels().items():
         if builder.missing():
             raise Failed(f"dist/ has a wheel for {target.name}, too: {builder.missing()}")
     check_kit()
@@ -376,10 +380,12 @@ def pack(made, names, shared):
 
 def make_for(builder):
     """Builds the programs and the library for another system into its folder below bin/."""
+    from release.others import sources
+
     check_kit()
     with room_to_build() as room:
         builder.build(room, BIN / builder.FOLDER, Built.is_there, say)
-    write_names({"sources": digest(needed()), "version": version()}, BIN / builder.FOLDER / STAMP.name)
+    write_names({"sources": sources(builder), "version": version()}, BIN / builder.FOLDER / STAMP.name)
     return 0
 
 
@@ -398,7 +404,8 @@ def make_others():
 
 def main():
     parser = argparse.ArgumentParser(description=__doc__, formatter_class=argparse.RawDescriptionHelpFormatter)
-    parser.add_argument("--cpu", default=os.environ.get("WOKURETI_CPU", ""), metavar="NAME", help="x86-64-v2 or x86-64-v3, or aarch64 on such a machine; also the variable WOKURETI_CPU")
+    cpus = "x86-64-v2 or x86-64-v3, or aarch64 on such a machine; also the variable WOKURETI_CPU"
+    parser.add_argument("--cpu", default=os.environ.get("WOKURETI_CPU", ""), metavar="NAME", help=cpus)
     parser.add_argument("--built", action="store_true", help="with all others but --ready: rt ci has proved the crates here")
     parser.add_argument("--room", type=pathlib.Path, metavar="DIR", help="with --built: keeps what is built in this folder, and takes from it what an earlier call built there")
     what = parser.add_mutually_exclusive_group()

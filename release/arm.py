@@ -22,6 +22,7 @@ CPU = ARM.builds[0]
 FOLDER = "arm"
 CRATES = (*PROGRAMS, library.CRATE)
 SOURCES = ("kit_heap", "kit_os")
+FILES = tuple(TOP / "release" / f"{name}.c" for name in SOURCES)
 PACKAGES = "gcc-aarch64-linux-gnu and libc6-dev-arm64-cross"
 # What the library may ask of the system, and the newest glibc that it may ask it of: the one that the wheel's tag names.
 ASKED = {"memcpy", "memmove", "memset", "malloc", "realloc", "free"}
@@ -57,7 +58,7 @@ def folders(room, is_proved, say, log):
 
 
 def compiled(room, is_proved, say):
-    """The object file of each program and the archive of the library, by the names of their crates: those in `room`, if they were built there of these sources."""
+    """The object file of each program and the archive of the library, by the names of their crates: those in `room`, if they are of these sources."""
     mark = hashlib.sha256(f"{digest(needed(CRATES))} {kit_here()}".encode()).hexdigest()[:16]
     made = {name: room / f"{name}-{CPU}-{mark}.{'a' if name == library.CRATE else 'o'}" for name in CRATES}
     if all(path.is_file() for path in made.values()):
@@ -102,7 +103,8 @@ def check_program(path):
 
 
 def check_library(path):
-    """Refuses a library that asks the system for other functions than those of ASKED, for newer ones than the wheel's tag allows, or that exports other calls than the header's."""
+    """Refuses a library that asks the system for other functions than those of ASKED, or for newer ones than the wheel's tag allows, and one that exports other calls
+    than the header has."""
     lines = [line.split() for line in ran(f"{PREFIX}nm", "-D", "--with-symbol-versions", path).splitlines()]
     asked = {words[-1].partition("@") for words in lines if words[-2] == "U"}
     if {name for name, _, _ in asked} != ASKED:

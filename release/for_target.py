@@ -1,6 +1,7 @@
 """Proves a program or a static library for another target, and compiles it: for_target.py RT FOLDER TRIPLE OUT
 
-It is `rt run` or `rt lib` in the crate FOLDER as far as the object file or the archive, which is OUT. The libraries below the crate have no target; they are proved before.
+It is `rt run` or `rt lib` in the crate FOLDER as far as the object file or the archive, which is OUT. The libraries below the crate have no target; they are
+proved before.
 """
 
 import pathlib

@@ -12,8 +12,8 @@ PARTS = ("crt1.o", "crti.o", "crtbeginT.o", "crtend.o", "crtn.o", "libc.a", "lib
 
 
 def c_library(prefix=""):
-    """Which C library is linked here: the linker's line, and a digest of the files. None without gcc or without libc.a. The names of the compiler for another system begin
-    with a prefix."""
+    """Which C library is linked here: the linker's line, and a digest of the files. None without gcc or without libc.a. The names of a compiler for another
+    system begin with a prefix."""
     if shutil.which(f"{prefix}gcc") is None:
         return None
     found = hashlib.sha256()

@@ -13,10 +13,11 @@ VERDICT = "proved by the kit's verdict for this target"
 
 @dataclass(frozen=True)
 class Target:
-    """A system. `builds` are the processors that its files are made for, the most general one first; `system` and `machines` are what Python's `platform` calls it.
+    """A system. `builds` are the processors that its files are made for, the most general one first; `system` and `machines` are the names that Python's `platform`
+    has for it.
 
-    Without `tags` there is no wheel for it. `place` is a file's place in the wheel's folder of data: `data/` is installed below the environment's folder, `scripts/`
-    among its commands. With a launcher, a script of each program's name starts the file for the processor."""
+    Without `tags` there is no wheel for it. `place` is a file's place in the wheel's folder of data: `data/` is installed below the environment's folder,
+    `scripts/` among its commands. With a launcher, a script of each program's name starts the file for the processor."""
 
     name: str
     installed: str

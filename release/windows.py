@@ -18,6 +18,7 @@ TARGET, CPU, PREFIX = "x86_64-windows", "x86-64", "x86_64-w64-mingw32-"
 PACKAGE = "gcc-mingw-w64-x86-64"
 LIBRARY = "wokureti.dll"
 PORT = TOP / "release/port"
+FILES = (*sorted(PORT.iterdir()), TOP / "release/retarget.py", TOP / "release/windows.py", library.HEADER)
 C_OPTIONS = ("-std=gnu11", "-O2", "-ffunction-sections", "-Wall", "-Wextra", "-Werror")
 # The linker is the kit's: that of binutils takes minutes for so many sections. Without the time of the build in it, the same objects make the same file.
 LINKING = ("-m", "i386pep", "-Bstatic", "-s", "--gc-sections", "--no-insert-timestamp", "--dynamicbase", "--high-entropy-va", "--nxcompat")
@@ -116,8 +117,7 @@ def linked(bitcodes, made):
 
 def mark_of(bitcodes):
     """A text that changes with each file that the results are made from."""
-    sources = [*bitcodes.values(), *sorted(PORT.iterdir()), TOP / "release/retarget.py", TOP / "release/windows.py", library.HEADER]
-    return hashlib.sha256(" ".join([linker(), *map(sum_of, sources)]).encode()).hexdigest()[:16]
+    return hashlib.sha256(" ".join([linker(), *map(sum_of, [*bitcodes.values(), *FILES])]).encode()).hexdigest()[:16]
 
 
 def programs(room, is_proved, say):

@@ -29,6 +29,8 @@ CRATES = TOP / "crates"
 CLIENT = TOP / "clients/python/tests"
 SERVE, LIST = (os.environ.get(name, "") for name in ("VP8SERVE", "VP8LIST"))
 LIMIT = 900
+# Tests whose parts are run side by side.
+PARTS = {"tests/test_arm.py": ("programs", "saving", "library")}
 # Tests of what the version in dist/ may not have yet, by a text of the help that has it.
 LATER = {"tests/test_questions.py": "check FIRST COUNT", "tests/test_long_lines.py": "--fail-refused"}
 
@@ -226,6 +228,9 @@ def all_tests():
     found |= {f"clients/python/tests/{name}.py, by the library": by_the_library(name) for name in names}
     found |= {f"tests/{path.name}": script(f"tests/{path.name}") for path in sorted(HERE.glob("test_*.py"))}
     found |= {path: later(text, path) for path, text in LATER.items()}
+    found |= {f"{path} {part}": script(path, part) for path, parts in PARTS.items() for part in parts}
+    for path in PARTS:
+        del found[path]
     found |= {name: script(name) for name in ("conformance/records.py", "conformance/check")}
     found |= {name: script(name, "--quiet") for name in ("compare/definitions.py", "compare/first_command.py", "compare/options.py")}
     found |= {"docs/draw.py": script("docs/draw.py", "--check")}

@@ -4,7 +4,7 @@ samples and the same files of `--save` and `--export`. 1,000 more lists are answ
 
 The C program is clients/c/session.c, compiled with `-fsanitize=address,undefined` where the compiler has it. The library is that of the variable
 LIBWOKURETI, or bin/libwokureti.so.0. It prints what differs and ends with 1, or prints nothing and ends with 0; a line `skipped: ..` names what
-could not be run.
+could not be run. For a library of another processor the variable WOKURETI_CC names its compiler, and WOKURETI_EMULATOR what its programs are started by.
 """
 
 import ctypes
@@ -12,6 +12,7 @@ import os
 import pathlib
 import random
 import re
+import shlex
 import shutil
 import subprocess
 import sys
@@ -20,6 +21,8 @@ import tempfile
 TOP = pathlib.Path(__file__).resolve().parent.parent
 sys.dont_write_bytecode = True
 sys.path.insert(0, str(TOP / "clients/python"))
+sys.path.insert(1, str(TOP / "compare"))
+from library.request_lists import requests  # noqa: E402
 from wokureti.session import library  # noqa: E402
 
 CLIPS = TOP / "crates/gate_clips/data"
@@ -28,17 +31,18 @@ LISTS, LIVE_LISTS, LIMIT = 60, 1000, 120
 MOST_BYTES = 40_000
 SERVE = os.environ.get("VP8SERVE") or str(TOP / "bin/vp8serve")
 REASON = re.compile(r"vp8serve: frame (?P<frame>\d+) is (changed by node (?P<node>\d+)|refused: ((source (?P<source>\d+) )?packet (?P<packet>\d+) .*|CropOutside))")
+CC, EMULATOR = os.environ.get("WOKURETI_CC") or "gcc", shlex.split(os.environ.get("WOKURETI_EMULATOR", ""))
 LIBRARY = pathlib.Path(os.environ.get("LIBWOKURETI") or TOP / "bin/libwokureti.so.0")
 
 
 def compiled(folder):
-    """The C program, and how it was compiled."""
-    words = ["gcc", "-std=c11", "-D_GNU_SOURCE", "-O1", "-g", "-Wall", "-Wextra", "-Werror", "-I", TOP / "clients/c/include", TOP / "clients/c/session.c", LIBRARY]
+    """The words that start the C program, and whether its accesses to memory are checked. An emulator does not run such checks."""
+    words = [CC, "-std=c11", "-D_GNU_SOURCE", "-O1", "-g", "-Wall", "-Wextra", "-Werror", "-I", TOP / "clients/c/include", TOP / "clients/c/session.c", LIBRARY]
     made = folder / "session"
-    for checks in (["-fsanitize=address,undefined", "-fno-sanitize-recover=all"], []):
+    for checks in ([] if EMULATOR else ["-fsanitize=address,undefined", "-fno-sanitize-recover=all"], []):
         ran = subprocess.run([*map(str, words), *checks, "-o", str(made), f"-Wl,-rpath,{LIBRARY.parent}"], capture_output=True, text=True, check=False)
         if ran.returncode == 0:
-            return made, bool(checks)
+            return [*EMULATOR, made], bool(checks)
     raise SystemExit(f"the C program does not compile: {ran.stderr}")
 
 
@@ -49,10 +53,10 @@ def checks(folder):
         print(f"skipped: {archive.name} is not next to the library")
         return
     made = folder / "checks"
-    words = ["gcc", "-std=c11", "-D_GNU_SOURCE", "-O1", "-g", "-Wall", "-Wextra", "-Werror", "-I", TOP / "clients/c/include", TOP / "clients/c/checks.c", archive, "-pthread", "-Wl,--wrap=malloc,--wrap=realloc", "-o", made]
+    words = [CC, "-std=c11", "-D_GNU_SOURCE", "-O1", "-g", "-Wall", "-Wextra", "-Werror", "-I", TOP / "clients/c/include", TOP / "clients/c/checks.c", archive, "-pthread", "-Wl,--wrap=malloc,--wrap=realloc", "-o", made]
     subprocess.run(list(map(str, words)), check=True, timeout=LIMIT)
     for what, clip in (("growths", "small"), ("rooms", "small"), ("rooms", "odd-size"), ("threads", "small"), ("fuzz", "small")):
-        done = subprocess.run([made, what, CLIPS / f"{clip}.ivf"], capture_output=True, text=True, timeout=5 * LIMIT, check=False)
+        done = subprocess.run([*EMULATOR, made, what, CLIPS / f"{clip}.ivf"], capture_output=True, text=True, timeout=5 * LIMIT, check=False)
         if done.returncode != 0:
             yield f"checks {what} {clip}: status {done.returncode}: {done.stdout}{done.stderr}"
 
@@ -65,9 +69,9 @@ def of_readme(folder):
     text = "\n".join(lines[start : end + 1])
     source, made, clip = folder / "readme.c", folder / "readme", TOP / "examples/mandelbrot.ivf"
     source.write_text(README % text)
-    words = ["gcc", "-std=c11", "-O1", "-Wall", "-Wextra", "-Werror", "-I", TOP / "clients/c/include", source, LIBRARY, "-o", made, f"-Wl,-rpath,{LIBRARY.parent}"]
+    words = [CC, "-std=c11", "-O1", "-Wall", "-Wextra", "-Werror", "-I", TOP / "clients/c/include", source, LIBRARY, "-o", made, f"-Wl,-rpath,{LIBRARY.parent}"]
     subprocess.run(list(map(str, words)), check=True, timeout=LIMIT)
-    done = subprocess.run([made, clip], capture_output=True, timeout=LIMIT, check=False)
+    done = subprocess.run([*EMULATOR, made, clip], capture_output=True, timeout=LIMIT, check=False)
     y4m = folder / "readme.y4m"
     subprocess.run([SERVE, clip, "-", y4m], input=b"frame 12\n", capture_output=True, timeout=LIMIT, check=True)
     head, _, rest = y4m.read_bytes().partition(b"\n")
@@ -121,21 +125,6 @@ def cmake(folder):
                 yield f"cmake: the example reports version {said.strip()}"
 
 
-def requests(chance, sources, packets, counts):
-    """A list of requests: frames, edits of every kind, scripts, and lines that are none. The number of steps is asked for if it `counts`."""
-    lines = []
-    for _ in range(chance.randrange(1, 40)):
-        at = chance.randrange(packets + 3)
-        other = chance.randrange(sources + 1)
-        lines.append(chance.choice([
-            f"frame {at}", f"frame {at}", f"frame {at}", f"delete {at}", f"move {at} {chance.randrange(packets)}", f"copy {other} {at} {chance.randrange(packets)}",
-            f"blank {at} {chance.choice((16, 176, 175))} {chance.choice((16, 144, 143))}", f"hold {at}", f"insert {at} {at} {chance.choice(('-', '1100', '110000', 'zz'))}",
-            f"replace {at} {chance.choice(('-', '300000', '110000'))}", f"use {other}", f"script trim {other} {at} {at + 9}", "script -",
-            f"script trim 0 0 20; fade 1 2 {chance.randrange(1, 9)} 256 0", "script crop 0 0 0 16 16", "script splice 0 9", "count", "stats" if counts else "count", "", "# nothing", "frame", f"frame 0{at}\r",
-        ]))
-    return "\n".join(lines) + "\n"
-
-
 def frames_of(text):
     """The samples of a YUV4MPEG2 text."""
     if not text:
@@ -160,7 +149,7 @@ def compare(chance, session, folder, number):
     padded, restamped = ["--pad"] * pads, ["--restamp"] * restamps
     served = subprocess.run([SERVE, clips[0], asked, y4m, *more, "--cache", str(states), "--save", saved, *padded, *restamped], capture_output=True, timeout=LIMIT, check=False)
     exported = subprocess.run([SERVE, clips[0], asked, "-", *more, "--export", its, *padded], capture_output=True, timeout=LIMIT, check=False)
-    words = [session, "-" if counts else samples, str(states), mine, ours, "o" + "p" * pads + "r" * restamps, *clips]
+    words = [*session, "-" if counts else samples, str(states), mine, ours, "o" + "p" * pads + "r" * restamps, *clips]
     done = subprocess.run(words, input=text.encode(), capture_output=True, timeout=LIMIT, check=False)
     where = f"list {number} over {', '.join(clip.name for clip in clips)}"
     if served.returncode or done.returncode:
@@ -236,14 +225,14 @@ def refusals(session, folder):
         ([clip], 4097, "opened 1 source 0 cause 0"), ([clip] * 9, 32, "opened 1 source 0 cause 0"),
     ]
     for files, states, line in wanted:
-        done = subprocess.run([session, "-", str(states), "-", "-", "o", *files], input=b"", capture_output=True, timeout=LIMIT, check=False)
+        done = subprocess.run([*session, "-", str(states), "-", "-", "o", *files], input=b"", capture_output=True, timeout=LIMIT, check=False)
         if (done.returncode, done.stdout.decode()) != (3, line + "\n"):
             yield f"{len(files)} files and {states} states: {done.stdout!r} {done.stderr!r}"
 
 
 def main():
-    if shutil.which("gcc") is None:
-        print("skipped: gcc is not there")
+    if shutil.which(CC) is None:
+        print(f"skipped: {CC} is not there")
         return 0
     if not LIBRARY.is_file():
         print("skipped: the library is not built: ./build.py --library makes it")
@@ -252,12 +241,14 @@ def main():
     with tempfile.TemporaryDirectory() as name:
         folder = pathlib.Path(name)
         session, is_checked = compiled(folder)
-        if not is_checked:
+        if EMULATOR:
+            print(f"skipped: {LIVE_LISTS} lists in this process, CMake, -fsanitize=address: the library is for another processor")
+        elif not is_checked:
             print("skipped: the compiler has no -fsanitize=address")
-        differ += [*refusals(session, folder), *checks(folder), *cmake(folder), *of_readme(folder)]
+        differ += [*refusals(session, folder), *checks(folder), *([] if EMULATOR else cmake(folder)), *of_readme(folder)]
         for number in range(LISTS):
             differ += compare(chance, session, folder, number)
-        for number in range(LIVE_LISTS):
+        for number in range(0 if EMULATOR else LIVE_LISTS):
             differ += live(chance, folder, number)
     print("".join(line + "\n" for line in differ), end="")
     return 1 if differ else 0

@@ -1,5 +1,6 @@
 #!/usr/bin/env python3
-"""Tests dist/: each wheel whole and as dist/SOURCES has it; that of this system installed by pip in a new environment, its programs, launcher, manual pages and completion.
+"""Tests dist/: each wheel whole and as dist/SOURCES has it; that of this system installed by pip in a new environment, its programs, launcher, manual pages and
+completion.
 
 It prints what differs and ends with 1, or prints nothing but what it skipped, and ends with 0.
 """
