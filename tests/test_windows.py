@@ -284,7 +284,7 @@ def by_the_library(wine, folder):
     shutil.copyfile(FOLDER / "wokureti.dll", folder / "wokureti.dll")
     include = TOP / "clients/c/include"
     compiled(folder / "session.exe", ["-include", TOP / "tests/windows_lines.h", "-I", include, TOP / "clients/c/session.c", folder / "wokureti.dll"])
-    session, chance, room = wine.script(folder / "session.exe", "session"), random.Random(94), folder / "lists"
+    session, chance, room = [wine.script(folder / "session.exe", "session")], random.Random(94), folder / "lists"
     room.mkdir()
     yield from test_library.refusals(session, room)
     for number in range(LISTS):
