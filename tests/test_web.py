@@ -296,6 +296,18 @@ def colour_of(path):
     return [*rgb[at : at + 3], 255]
 
 
+def wide(folder):
+    """The functions for numbers of 128 bits, over those of gcc."""
+    if shutil.which("gcc") is None:
+        print("skipped: numbers of 128 bits: gcc is not there")
+        return
+    made = folder / "wide"
+    built = ran("gcc", "-std=gnu11", "-O1", "-Wall", "-Wextra", "-Werror", TOP / "tests/wide_numbers.c", "-o", made)
+    status = built.returncode or ran(made).returncode
+    if status:
+        yield f"numbers of 128 bits: status {status} {built.stderr.decode()[-300:]}"
+
+
 def stale():
     """Files of the page that are not those of clients/web."""
     own = [path for path in (TOP / "clients/web").iterdir() if path.suffix != ".c"]
@@ -310,6 +322,7 @@ def main():
     wrong, chance = stale(), random.Random(75)
     with tempfile.TemporaryDirectory() as name:
         folder = pathlib.Path(name)
+        wrong += wide(folder)
         if shutil.which("node") is None:
             print("skipped: Node is not there")
         else:
