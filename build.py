@@ -1,5 +1,5 @@
 #!/usr/bin/env python3
-"""Proves and builds vp8serve and vp8list: build.py [--cpu x86-64-v2|x86-64-v3] [--ready | --verify | --dist | --library | --web | --arm | --others]
+"""Proves and builds vp8serve and vp8list: build.py [--cpu x86-64-v2|x86-64-v3] [--ready | --verify | --dist | --library | --web | --arm | --windows | --macos | --wasi | --others]
 
 Without an option it proves the crates that the two programs need, builds both for this processor, and puts them into bin/, next to
 bin/wokureti, which starts the Python client. It works on a copy of these crates outside the checkout, so it can be interrupted: what was
@@ -13,10 +13,13 @@ proved by then is kept. If nothing has changed since the last time, it does noth
   --library builds the C library into bin/: libwokureti.so.0, libwokureti.a, wokureti.h and files for pkg-config and CMake. --built as above
   --web     builds the page without a server into bin/web: the library's LLVM module, compiled for WebAssembly, outside the verdict. --built as above
   --arm     proves and builds the programs and the C library for Linux on ARM into bin/arm. --built as above
-  --others  the same for each other system whose compiler is here, and names those that it skips
+  --windows compiles the LLVM modules of the programs and of the library for Windows into bin/windows, outside the verdict. --built as above
+  --macos   the same for macOS, as assembly, into bin/macos; nobody has run it
+  --wasi    the same for WASI, the programs only, into bin/wasi: tests/targets.py compares them with the native ones
+  --others  builds for ARM and for Windows, if the compilers are here, and names those that it skips
 
 Python 3.9 and its standard library suffice for --ready; the others need the Rattle kit, --verify, --dist and --library gcc too, and the first two of them the C
-library's libc.a. --arm needs gcc-aarch64-linux-gnu.
+library's libc.a. --arm needs gcc-aarch64-linux-gnu, --windows gcc-mingw-w64-x86-64, --wasi wasi-libc.
 """
 
 import argparse
@@ -24,6 +27,7 @@ import contextlib
 import datetime
 import fcntl
 import hashlib
+import importlib
 import os
 import pathlib
 import shutil
@@ -36,6 +40,8 @@ from release import proving, targets, wheel  # noqa: E402
 from release.sources import CPUS, DIST, PROGRAMS, TOP, Failed, digest, kit, kit_here, needed, read_names, sum_of, version, write_names  # noqa: E402
 
 BIN = TOP / "bin"
+# Options that build for another system: a module of release/ has the name of each.
+ELSEWHERE = ("arm", "windows", "macos", "wasi")
 STAMP = BIN / ".built"
 WOKURETI = """#!/bin/sh
 # Starts the Python client of this checkout: wokureti --help
@@ -400,7 +406,7 @@ def main():
     parser = argparse.ArgumentParser(description=__doc__, formatter_class=argparse.RawDescriptionHelpFormatter)
     cpus = "x86-64-v2 or x86-64-v3, or aarch64 on such a machine; also the variable WOKURETI_CPU"
     parser.add_argument("--cpu", default=os.environ.get("WOKURETI_CPU", ""), metavar="NAME", help=cpus)
-    parser.add_argument("--built", action="store_true", help="with --verify, --dist, --library, --web, --arm and --others: rt ci has proved the crates here")
+    parser.add_argument("--built", action="store_true", help="with all others but --ready: rt ci has proved the crates here")
     parser.add_argument("--room", type=pathlib.Path, metavar="DIR", help="with --built: keeps what is built in this folder, and takes from it what an earlier call built there")
     what = parser.add_mutually_exclusive_group()
     what.add_argument("--ready", nargs="?", const="build.py", metavar="SCRIPT")
@@ -408,7 +414,8 @@ def main():
     what.add_argument("--dist", action="store_true")
     what.add_argument("--library", action="store_true")
     what.add_argument("--web", action="store_true")
-    what.add_argument("--arm", action="store_true")
+    for name in ELSEWHERE:
+        what.add_argument(f"--{name}", action="store_true")
     what.add_argument("--others", action="store_true")
     given = parser.parse_args()
     Built.is_there, Built.folder = given.built, given.room
@@ -421,10 +428,9 @@ def main():
             return make_library(processor(given.cpu))
         if given.web:
             return make_web(processor(given.cpu))
-        if given.arm:
-            from release import arm
-
-            return make_for(arm)
+        for name in ELSEWHERE:
+            if getattr(given, name):
+                return make_for(importlib.import_module(f"release.{name}"))
         if given.others:
             return make_others()
         Speaker.name = given.ready or Speaker.name

@@ -6,11 +6,11 @@ Each is a module with FOLDER, its folder below bin/, FILES, the files besides cr
 
 import hashlib
 
-from . import arm, library
+from . import arm, library, windows
 from .sources import PROGRAMS, digest, needed, sum_of
-from .targets import ARM
+from .targets import ARM, WINDOWS
 
-BUILDERS = {ARM: arm}
+BUILDERS = {ARM: arm, WINDOWS: windows}
 
 
 def with_wheels():

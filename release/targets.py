@@ -103,7 +103,7 @@ PAGE = Target(
 )
 MACOS = Target(
     name="macOS",
-    installed="not shipped: use the page; `release/` makes assembly for `cc`",
+    installed="not shipped: use the page; `./build.py --macos` makes assembly for `cc`",
     proof="not proved: the same LLVM module, compiled for another system",
     tested="it links; it was never run by us",
     system="Darwin",

@@ -32,31 +32,18 @@ STREAMS = sorted((TOP / "conformance/streams").rglob("*.ivf"))
 EXAMPLE = TOP / "examples/mandelbrot.ivf"
 LIMIT, LISTS = 300, 40
 EDITED = ("hidden-altref", "scene-cuts", "golden-references", "small", "odd-size", "hidden-and-dropped")
-MEMORY = "--experimental-wasm-memory64"
 
 
 def ran(*words, **more):
     return subprocess.run(list(map(str, words)), capture_output=True, timeout=LIMIT, check=False, **more)
 
 
-def node_words():
-    """Node, with the flag that it needs for 64-bit memory; None if it has no such memory."""
-    text = "new WebAssembly.Memory({ initial: 1, index: 'i64' }); new WebAssembly.Module(Uint8Array.of(0, 97, 115, 109, 1, 0, 0, 0, 5, 3, 1, 4, 1))"
-    for flags in ([], [MEMORY]):
-        if ran("node", *flags, "-e", text).returncode == 0:
-            return ["node", *flags]
-    return None
-
-
 class Node:
     """The page's scripts in Node."""
 
-    def __init__(self, words):
-        self.words = words
-
     def tasks(self, tasks):
         """The result of each task."""
-        done = ran(*self.words, TOP / "tests/web_session.js", PAGE, input="".join(json.dumps(task, default=str) + "\n" for task in tasks), text=True)
+        done = ran("node", TOP / "tests/web_session.js", PAGE, input="".join(json.dumps(task, default=str) + "\n" for task in tasks), text=True)
         lines = done.stdout.splitlines()
         if done.returncode or len(lines) != len(tasks):
             raise SystemExit(f"Node: status {done.returncode}, {len(lines)} of {len(tasks)} results: {done.stderr[-1000:]}")
@@ -325,9 +312,21 @@ def colour_of(path):
     return [*rgb[at : at + 3], 255]
 
 
+def wide(folder):
+    """The functions for numbers of 128 bits, over those of gcc."""
+    if shutil.which("gcc") is None:
+        print("skipped: numbers of 128 bits: gcc is not there")
+        return
+    made = folder / "wide"
+    built = ran("gcc", "-std=gnu11", "-O1", "-Wall", "-Wextra", "-Werror", TOP / "tests/wide_numbers.c", "-o", made)
+    status = built.returncode or ran(made).returncode
+    if status:
+        yield f"numbers of 128 bits: status {status} {built.stderr.decode()[-300:]}"
+
+
 def stale():
     """Files of the page that are not those of clients/web."""
-    own = [path for path in (TOP / "clients/web").iterdir() if path.name != "heap.c"]
+    own = [path for path in (TOP / "clients/web").iterdir() if path.suffix != ".c"]
     differ = [path.name for path in own if not (PAGE / path.name).is_file() or (PAGE / path.name).read_bytes() != path.read_bytes()]
     return [f"{PAGE} has another {name} than clients/web: ./build.py --web" for name in sorted(differ)]
 
@@ -337,13 +336,13 @@ def main():
         print("skipped: the page without a server is not built: ./build.py --web makes it")
         return 0
     wrong, chance = stale(), random.Random(75)
-    words = node_words() if shutil.which("node") else None
     with tempfile.TemporaryDirectory() as name:
         folder = pathlib.Path(name)
-        if words is None:
-            print("skipped: Node with 64-bit memory in WebAssembly is not there")
+        wrong += wide(folder)
+        if shutil.which("node") is None:
+            print("skipped: Node is not there")
         else:
-            node = Node(words)
+            node = Node()
             wrong += [*frames(node), *lists(node, chance, folder), *questions(node, folder), *bounded(node, folder), *edited(node, chance, folder), *repaired(node, folder)]
         with browser_of() as browser:
             if browser is not None:

@@ -1,5 +1,5 @@
 "use strict";
-/* The page's scripts in Node: node [--experimental-wasm-memory64] web_session.js FOLDER, with a task in JSON in each line of standard input, and its result in
+/* The page's scripts in Node: node web_session.js FOLDER, with a task in JSON in each line of standard input, and its result in
  * each line of standard output.
  *
  * { file, states, lines, out, save }   answers request lines as vp8serve does: replies, and the bytes of the module's memory; the samples of the frames go to `out`, the

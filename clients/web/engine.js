@@ -10,7 +10,7 @@ class Refused extends Error {
   }
 }
 
-/** A session in this thread: the calls of wokureti.h, over the module in WebAssembly. */
+/** A session in this thread: the calls of wokureti.h, over the module in WebAssembly. Addresses have 32 bits and are numbers here; sizes have 64 bits and are BigInts. */
 class Engine {
   /** The compiled module. `text` is the module, compressed by gzip, in base 64. */
   static async compile(text) {
@@ -25,22 +25,22 @@ class Engine {
     this.fault = this.room(16);
     this.shown = this.room(40);
     this.length = this.room(8);
-    this.samples = { at: 0n, size: 0 };
+    this.samples = { at: 0, size: 0 };
     this.view(this.handle, 8).setBigUint64(0, 0n, true);
   }
 
   room(size) {
-    const at = this.calls.wk_room(BigInt(size));
-    if (at === 0n) throw new RangeError("out of memory");
+    const at = this.calls.wk_room(BigInt(size)) >>> 0;
+    if (at === 0) throw new RangeError("out of memory");
     return at;
   }
 
   view(at, size) {
-    return new DataView(this.calls.memory.buffer, Number(at), size);
+    return new DataView(this.calls.memory.buffer, at, size);
   }
 
   bytes(at, size) {
-    return new Uint8Array(this.calls.memory.buffer, Number(at), size);
+    return new Uint8Array(this.calls.memory.buffer, at, size);
   }
 
   /** The number that a call wrote. */
@@ -64,7 +64,7 @@ class Engine {
   open(file, { states, bytes }) {
     const [open, limit] = bytes === undefined ? [this.calls.wk_open, states] : [this.calls.wk_open_bytes, BigInt(bytes)];
     const status = this.with(file, (at, size) =>
-      this.with(new Uint8Array(BigUint64Array.of(size).buffer), (ends) => open(this.handle, at, size, ends, 1n, limit, 0n, 0n, this.fault)),
+      this.with(new Uint8Array(BigUint64Array.of(size).buffer), (ends) => open(this.handle, at, size, ends, 1n, limit, 0, 0n, this.fault)),
     );
     const cause = ["", "Header", "Magic", "FourCc", "HeaderLength", "TooMany", "NoMemory", "DocType", "NoTracks", "NoVideo", "Encoded", "Scale"][this.view(this.fault, 16).getUint32(8, true)];
     if (status === 2) throw new Refused(`the file is no IVF or WebM file of VP8: ${cause}`);
@@ -106,7 +106,7 @@ class Engine {
 
   /** A frame without its samples: the size. Refused if it is refused. */
   size(n) {
-    const status = this.calls.wk_frame(this.handle, BigInt(n), 0n, 0n, 0n, 0n, 0n, 0n, this.shown);
+    const status = this.calls.wk_frame(this.handle, BigInt(n), 0, 0n, 0, 0n, 0, 0n, this.shown);
     if (status === 5) return [this.view(this.shown, 40).getUint32(16, true), this.view(this.shown, 40).getUint32(20, true)];
     if (status === 4) throw new Refused("no file is open");
     const packet = status === 24 ? Number(this.view(this.shown, 40).getBigUint64(32, true)) : -1;
@@ -122,13 +122,13 @@ class Engine {
     const size = luma + 2 * chroma;
     if (size > this.samples.size) {
       this.calls.wk_free(this.samples.at);
-      this.samples = { at: 0n, size: 0 };
+      this.samples = { at: 0, size: 0 };
       this.samples = { at: this.room(size), size };
     }
     this.view(this.shown, 40).setBigUint64(0, BigInt(width), true);
     this.view(this.shown, 40).setBigUint64(8, BigInt(across), true);
     const y = this.samples.at;
-    const [cb, cr] = [y + BigInt(luma), y + BigInt(luma + chroma)];
+    const [cb, cr] = [y + luma, y + luma + chroma];
     const status = this.calls.wk_frame(this.handle, BigInt(n), y, BigInt(luma), cb, BigInt(chroma), cr, BigInt(chroma), this.shown);
     if (status) throw new Refused(`frame ${n} was served, and then not (${status})`);
     return { width, height, samples: this.bytes(y, size) };

@@ -18,7 +18,7 @@ class Page {
     this.playing = null;
     this.revision = 0;
     this.started = this.client.call("start", MODULE);
-    this.started.catch((error) => this.say(`The engine does not start: ${error.message}. It needs 64-bit memory in WebAssembly, as Chromium 133 and Firefox 134 have it.`, true));
+    this.started.catch((error) => this.say(`The engine does not start: ${error.message}. It needs WebAssembly with vectors, as Chromium 91, Firefox 113 and Safari 16.4 have it.`, true));
     this.listen();
   }
 
