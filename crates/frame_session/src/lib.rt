@@ -22,7 +22,7 @@ pub use lossless_cuts::CutFault;
 pub use observer::{Observer, Unobserved};
 pub use refusal::Refusal;
 pub use request_lines::Edit;
-pub use serving::{RunFault, answer_line, run, run_over};
+pub use serving::{RunFault, answer_line, read_sources, run, run_over};
 pub use session::{ExportFault, Session};
 pub use settings::Settings;
 pub use size::Size;
