@@ -3,6 +3,7 @@
 import ast
 import errno
 import fcntl
+import hashlib
 import importlib.util
 import json
 import ntpath
@@ -245,6 +246,8 @@ class Positions(Case):
             self.addCleanup(found.close)
             self.assertEqual([found.read(number) for number in range(len(found.records()))], packets_of(SMALL))
             self.assertEqual(found.whole(1 << 20), SMALL.read_bytes())
+            digest = hashlib.sha256(b"".join(len(data).to_bytes(4, "little") + data for data in packets_of(SMALL))).hexdigest()
+            self.assertEqual((found.digest(), inputs.Input("-").digest()), (digest, hashlib.sha256(b"").hexdigest()))
         size = SMALL.stat().st_size
         with open(SMALL, "rb") as file, mock.patch.object(system, "pread", lambda descriptor, count, place: os.pread(descriptor, count, place)[: max(0, size // 2 - place)]):
             with self.assertRaisesRegex(OSError, "the file ends at byte"):
