@@ -3,6 +3,7 @@
 import ast
 import errno
 import fcntl
+import hashlib
 import importlib.util
 import json
 import ntpath
@@ -22,7 +23,7 @@ from support import SMALL, TOP, Case, command, packets_of
 from wokureti import system
 from wokureti.page import opening
 from wokureti.session import checks, inputs, library, named
-from wokureti.tools import cat, files, ivf, muxing, rooms
+from wokureti.tools import cat, files, ivf, muxing, programs, rooms
 
 PACKAGE = pathlib.Path(system.__file__).parent
 # Modules, and names of modules, that Windows or macOS does not have, or that mean something else there.
@@ -104,6 +105,20 @@ class Names(unittest.TestCase):
         self.assertEqual((WINDOWS.builds(), MACOS.builds()), ([""], [""]))
         with mock.patch.object(os, "uname", return_value=types.SimpleNamespace(machine="aarch64")):
             self.assertEqual(system.builds(), [""])
+
+    def test_what_a_wheel_installs_is_found(self):
+        """On Windows, in an environment or for one user: the library in its folder of data, the programs in Scripts."""
+        with tempfile.TemporaryDirectory() as room:
+            for number, (package, scripts) in enumerate((("Lib/site-packages", "Scripts"), ("Python311/site-packages", "Python311/Scripts"))):
+                folder = pathlib.Path(room, str(number))
+                paths = [folder / "lib/wokureti/wokureti.dll", *(folder / scripts / f"{name}.exe" for name in ("vp8serve", "vp8list"))]
+                for path in paths:
+                    path.parent.mkdir(parents=True, exist_ok=True)
+                    path.touch()
+                where = mock.patch.object(programs, "HERE", folder / package / "wokureti/tools/programs.py")
+                windows = mock.patch.multiple(system, IS_WINDOWS=True, LIBRARY=WINDOWS.LIBRARY, builds=WINDOWS.builds)
+                with where, windows, mock.patch.dict(os.environ, {"VP8SERVE": "", "VP8LIST": "", "LIBWOKURETI": ""}):
+                    self.assertEqual([library.find(), programs.find("vp8serve"), programs.find("vp8list")], list(map(str, paths)))
 
     def test_lists_of_sources(self):
         with tempfile.TemporaryDirectory() as folder:
@@ -231,6 +246,8 @@ class Positions(Case):
             self.addCleanup(found.close)
             self.assertEqual([found.read(number) for number in range(len(found.records()))], packets_of(SMALL))
             self.assertEqual(found.whole(1 << 20), SMALL.read_bytes())
+            digest = hashlib.sha256(b"".join(len(data).to_bytes(4, "little") + data for data in packets_of(SMALL))).hexdigest()
+            self.assertEqual((found.digest(), inputs.Input("-").digest()), (digest, hashlib.sha256(b"").hexdigest()))
         size = SMALL.stat().st_size
         with open(SMALL, "rb") as file, mock.patch.object(system, "pread", lambda descriptor, count, place: os.pread(descriptor, count, place)[: max(0, size // 2 - place)]):
             with self.assertRaisesRegex(OSError, "the file ends at byte"):

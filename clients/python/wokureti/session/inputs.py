@@ -147,7 +147,7 @@ class Input:
 
     def read_digest(self):
         index, found = self.records(), hashlib.sha256()
-        window, base, end = b"", 0, os.fstat(self.opened()).st_size
+        window, base, end = b"", 0, index.starts[-1] + index.sizes[-1] if len(index) else 0
         for start, size in zip(index.starts, index.sizes):
             if start < base or start + size > base + len(window):
                 window, base = self.bytes_at(min(max(size, WINDOW), end - start), start), start
