@@ -19,8 +19,8 @@ sys.dont_write_bytecode = True
 sys.path[:0] = [str(TOP), str(TOP / "compare")]
 import build  # noqa: E402
 import targets as compared  # noqa: E402
-from release import arm, others, targets  # noqa: E402
-from release.sources import Failed  # noqa: E402
+from release import arm, others, targets, wheel  # noqa: E402
+from release.sources import Failed, sum_of  # noqa: E402
 
 LIMIT = 60
 # The functions that a library may ask for, each called once.
@@ -107,6 +107,26 @@ def check_missing(folder):
     expect("what was built before", old.exists(), False)
 
 
+def check_dist(folder):
+    """A dist/ with a wheel for each system passes as it was written; not with another file, a changed wheel, or the digest of another program."""
+    dist, made, names = folder / "dist", {}, {"version": build.version()}
+    for target in targets.SHIPPED:
+        made[target] = {(name, cpu): folder / f"{name} for {cpu}" for name in target.files for cpu in target.builds}
+        for (name, cpu), path in made[target].items():
+            path.write_text(f"{name} for {cpu}")
+            names[build.name_of(name, cpu)] = sum_of(path)
+    with mock.patch.object(build, "DIST", dist), mock.patch.object(wheel, "DIST", dist), contextlib.redirect_stderr(io.StringIO()) as errors:
+        build.pack(made, names, {})
+        expect("what a version adds to git", errors.getvalue().count(" MB"), len(targets.SHIPPED) + 1)
+        expect("a dist/ as it was written", refused(lambda _: build.check_wheels(names), ""), "")
+        expect("another digest", refused(lambda _: build.check_wheels({**names, "program vp8list for aarch64": "-"}), ""), "the wheel's vp8list for aarch64 is not the one of dist/SOURCES")
+        (dist / "wokureti-0.1.0.whl").write_text("an earlier one")
+        expect("another file", refused(lambda _: build.check_wheels(names), ""), "dist/ has files that dist/SOURCES does not name: wokureti-0.1.0.whl")
+        file = targets.ARM.wheel(build.version())
+        (dist / file).write_bytes((dist / file).read_bytes() + b"x")
+        expect("a changed wheel", refused(lambda _: build.check_wheels(names), ""), f"dist/{file} is not the wheel for Linux on ARM of dist/SOURCES")
+
+
 def check_comparison(folder):
     """A program that differs in one byte, in its status, or in a file that it writes is reported, and one that is the same is not."""
     case = compared.Case("vp8serve", ["a.ivf", "-", "out.y4m"], "frame 0\n", {"a.ivf": (TOP / "examples/mandelbrot.ivf").read_bytes()}, ("out.y4m",))
@@ -136,6 +156,7 @@ def main():
         else:
             check_refusals(folder)
         check_missing(folder)
+        check_dist(folder)
         check_comparison(folder)
     print(*wrong, sep="\n", end="\n" if wrong else "")
     return 1 if wrong else 0
