@@ -30,7 +30,7 @@ CLIENT = TOP / "clients/python/tests"
 SERVE, LIST = (os.environ.get(name, "") for name in ("VP8SERVE", "VP8LIST"))
 LIMIT = 900
 # Tests whose parts are run side by side.
-PARTS = {"tests/test_arm.py": ("programs", "saving", "library")}
+PARTS = {"tests/test_arm.py": ("programs", "options", "saving", "library")}
 # Tests of what the version in dist/ may not have yet, by a text of the help that has it.
 LATER = {"tests/test_questions.py": "check FIRST COUNT", "tests/test_long_lines.py": "--fail-refused"}
 

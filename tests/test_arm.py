@@ -2,7 +2,7 @@
 """Tests the programs and the library for Linux on ARM under `qemu-aarch64`: rows, clips, findings, stored runs, conformance, options, saving, and the
 library's tests in C against the vp8serve of this machine.
 
-    test_arm.py [programs | saving | library]
+    test_arm.py [programs | options | saving | library]
 
 They are those of bin/arm, which `./build.py --arm` makes, or of the wheel in dist/, if it is of these sources. It prints what fails and ends with 1, or prints
 nothing and ends with 0; a line `skipped: ..` names what could not be run.
@@ -28,7 +28,7 @@ from release.targets import ARM  # noqa: E402
 LIMIT = 800
 QEMU, ROOT, MADE = "qemu-aarch64", "/usr/aarch64-linux-gnu", TOP / "bin/arm"
 CPU = ARM.builds[0]
-TESTS = ("row ", "clip ", "findings", "stored run", "conformance/", "compare/options", "test_written_files")
+TESTS = ("row ", "clip ", "findings", "stored run", "conformance/", "test_written_files")
 
 
 def programs(folder):
@@ -70,6 +70,10 @@ def of_programs(there, folder):
     return ran([TOP / "tests/run.py", *TESTS], started_by_qemu(there, folder))
 
 
+def of_options(there, folder):
+    return ran([TOP / "compare/options.py", "--quiet", "--few"], started_by_qemu(there, folder))
+
+
 def of_saving(there, folder):
     return ran([TOP / "compare/saving.py", "--quiet"], started_by_qemu(there, folder))
 
@@ -82,7 +86,7 @@ def of_library(there, _):
     return ran([TOP / "tests/test_library.py"], variables)
 
 
-PARTS = {"programs": of_programs, "saving": of_saving, "library": of_library}
+PARTS = {"programs": of_programs, "options": of_options, "saving": of_saving, "library": of_library}
 
 
 def main(names):
