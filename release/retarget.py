@@ -72,6 +72,11 @@ def text_of(bitcode):
     return clang("-x", "ir", bitcode, "-S", "-emit-llvm", "-Xclang", "-disable-llvm-passes", "-o", "-")
 
 
+def given_text(path):
+    """The text of a module in bitcode, or in a file of text that ends in .ll."""
+    return path.read_text(encoding="utf-8") if path.suffix == ".ll" else text_of(path)
+
+
 @functools.lru_cache(maxsize=None)
 def header_of(triple):
     """The lines of a module that name the target."""
