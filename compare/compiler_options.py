@@ -45,7 +45,7 @@ def main():
     parser.add_argument("--target", default="wasm32", choices=sorted(retarget.TARGETS))
     parser.add_argument("bitcode", type=pathlib.Path)
     given = parser.parse_args()
-    text = retarget.for_target(retarget.text_of(given.bitcode), given.target)
+    text = retarget.for_target(retarget.given_text(given.bitcode), given.target)
     with tempfile.TemporaryDirectory() as name:
         out = pathlib.Path(name, "module.s")
         wanted = compiled(text, given.target, None, out)

@@ -1,5 +1,5 @@
 #!/usr/bin/env python3
-"""Plants faults in the module for WebAssembly, and sees whether the comparison of its frames with those of vp8serve notices each: wrong_modules.py [--each N] BITCODE
+"""Plants faults in the module for WebAssembly, and sees whether the comparisons of tests/test_web.py with vp8serve notice each: wrong_modules.py [--each N] BITCODE
 
 The faults: a pointer that is read from the other half of its 8 bytes, in a function that decodes; and an instruction that saturates to signed bytes instead of unsigned
 ones, N of them (12 without --each) one at a time, evenly spaced. BITCODE is the LLVM module of the library that `build.py --web --room DIR` leaves in DIR. It ends with 1 if a pointer, or
@@ -7,20 +7,21 @@ no saturating instruction, goes unnoticed.
 """
 
 import argparse
+import itertools
 import pathlib
+import random
 import re
 import sys
 import tempfile
 
 TOP = pathlib.Path(__file__).resolve().parent.parent
 sys.dont_write_bytecode = True
-sys.path[1:1] = [str(TOP), str(TOP / "tests"), str(TOP / "clients/python")]
+sys.path[1:1] = [str(TOP), str(TOP / "compare"), str(TOP / "tests"), str(TOP / "clients/python")]
 import test_web  # noqa: E402
+from library import wasm_code  # noqa: E402
 from release import retarget, web  # noqa: E402
 
 POINTER = re.compile(r"^( *)(%\S+) = load ptr, ptr (%\S+), align 8", re.M)
-SATURATED, WRONG = "i8x16.narrow_i16x8_u", "i8x16.narrow_i16x8_s"
-STREAMS = test_web.CLIPS
 
 
 def with_wrong_pointer(text):
@@ -33,39 +34,29 @@ def with_wrong_pointer(text):
     return text[: found.start()] + wrong + text[found.end() :]
 
 
-def assembled(text, folder, options=()):
-    """The assembly of a module's text."""
-    return retarget.compile_text(text, web.TARGET, folder / "library.s", options).read_text(encoding="utf-8")
+def compiled(text, folder, options=()):
+    """The module in WebAssembly of a module's text."""
+    return web.linked(retarget.compile_text(text, web.TARGET, folder / "library.o", options), folder)
 
 
-def page_of(assembly, folder):
-    """The page over a module in assembly."""
-    source, own = folder / "planted.s", folder / "library.o"
-    source.write_text(assembly, encoding="utf-8")
-    target = retarget.TARGETS[web.TARGET]
-    retarget.clang(f"--target={target.triple}", *target.options, "-c", source, "-o", own)
-    made = folder / "page"
-    web.pack(web.linked(own, folder), made)
-    return made
-
-
-def is_noticed(page, wanted):
-    """Whether a frame of a clip is another one, or the module fails."""
-    test_web.PAGE = page
+def is_noticed(module, folder):
+    """Whether tests/test_web.py reports a difference of a frame or of a random request list, or the module fails."""
+    test_web.PAGE = folder / "page"
+    web.pack(module, test_web.PAGE)
+    node, chance = test_web.Node(), random.Random(75)
     try:
-        results = test_web.Node().tasks([{"file": path} for path in STREAMS])
+        return any(itertools.chain(test_web.frames(node), test_web.lists(node, chance, folder)))
     except SystemExit:
         return True
-    return any(result.get("found") != frames for result, frames in zip(results, wanted))
 
 
-def planted(assembly, count):
-    """The assembly with one instruction that saturates wrongly, for `count` of them."""
-    places = [found.start() for found in re.finditer(rf"\b{re.escape(SATURATED)}\b", assembly)]
+def planted(module, count):
+    """The module with one instruction that saturates to signed bytes, for `count` of them."""
+    places = wasm_code.narrowing(module)
+    print(f"{len(places)} instructions saturate to unsigned bytes", flush=True)
     for number in range(min(count, len(places))):
         at = places[number * len(places) // min(count, len(places))]
-        yield assembly[:at] + WRONG + assembly[at + len(SATURATED) :]
-    print(f"{len(places)} instructions {SATURATED}")
+        yield module[:at] + bytes([wasm_code.NARROW_SIGNED]) + module[at + 1 :]
 
 
 def main():
@@ -73,16 +64,15 @@ def main():
     parser.add_argument("--each", type=int, default=12, metavar="N")
     parser.add_argument("bitcode", type=pathlib.Path)
     given = parser.parse_args()
-    wanted = [test_web.served(path) for path in STREAMS]
     with tempfile.TemporaryDirectory() as name:
         folder = pathlib.Path(name)
-        text = retarget.for_target(retarget.text_of(given.bitcode), web.TARGET)
-        assembly = assembled(text, folder)
-        if is_noticed(page_of(assembly, folder), wanted):
+        text = retarget.for_target(retarget.given_text(given.bitcode), web.TARGET)
+        module = compiled(text, folder)
+        if is_noticed(module, folder):
             sys.exit("the module differs from vp8serve before anything is planted")
-        pointer = is_noticed(page_of(assembled(with_wrong_pointer(text), folder, ("-O1",)), folder), wanted)
+        found = [is_noticed(wrong, folder) for wrong in planted(module, given.each)]
+        pointer = is_noticed(compiled(with_wrong_pointer(text), folder, ("-O0",)), folder)
         print(f"a pointer read from its wrong half: {'noticed' if pointer else 'NOT noticed'}", flush=True)
-        found = [is_noticed(page_of(wrong, folder), wanted) for wrong in planted(assembly, given.each)]
         print(f"a wrong saturating instruction: {sum(found)} of {len(found)} noticed")
     return 0 if pointer and any(found) else 1
 

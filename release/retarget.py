@@ -1,10 +1,11 @@
 """Compiles an LLVM module that rattle makes for Linux on x86-64 for another target. No proof covers the result.
 
-For example, `b"..bc"` of the library for `wasm32`: the module's text gets the target's triple and data layout, its pointers of 8 bytes become pointers of 4 bytes, and the
-kit's clang compiles it with the options that rattle passes.
+For example, the module of the library for `wasm32`: its text gets the target's triple and data layout, its pointers of 8 bytes become pointers of 4 bytes, and
+the kit's clang compiles it with the options that rattle passes.
 
-What a module has of Linux on x86-64: the data layout, attributes of the processor, and the numbers of some C functions (flags of `open`, error numbers, the fields of
-`statx`). These functions get the prefix `wokureti_os_`; the files in release/port define them. It has no instruction of x86 and makes no pointer of a number.
+What a module has of Linux on x86-64: the data layout, attributes of the processor, and the numbers of some C functions (flags of `open`, error numbers, the
+fields of `statx`). These functions get the prefix `wokureti_os_`; the files in release/port define them. It has no instruction of x86 and makes no pointer of a
+number.
 """
 
 import functools
@@ -70,6 +71,11 @@ def clang(*words, name="clang", data=None):
 def text_of(bitcode):
     """The text of a module as rattle made it, before any pass."""
     return clang("-x", "ir", bitcode, "-S", "-emit-llvm", "-Xclang", "-disable-llvm-passes", "-o", "-")
+
+
+def given_text(path):
+    """The text of a module in bitcode, or in a file of text that ends in .ll."""
+    return path.read_text(encoding="utf-8") if path.suffix == ".ll" else text_of(path)
 
 
 @functools.lru_cache(maxsize=None)
@@ -144,8 +150,8 @@ def narrow_line(line):
 
 
 def narrowed(text):
-    """The text for pointers of 4 bytes. In all of rattle's layouts a pointer has 8 bytes, and it is in the first 4 of them. Sizes and places are counted in bytes, so
-    nothing moves. This is done before any pass of clang, which would make vectors of pointers."""
+    """The text for pointers of 4 bytes. In all of rattle's layouts a pointer has 8 bytes, and it is in the first 4 of them. Sizes and places are counted in
+    bytes, so nothing moves. This is done before any pass of clang, which would make vectors of pointers."""
     return "\n".join(map(narrow_line, text.split("\n")))
 
 
