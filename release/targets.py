@@ -70,9 +70,9 @@ X86_64 = Target(
 )
 ARM = Target(
     name="Linux on ARM",
-    installed="the wheel, or `./serve.sh` in a checkout",
+    installed="`./build.py --arm`, with the kit; the next version has a wheel",
     proof=VERDICT,
-    tested="under `qemu-aarch64`: rows, clips, conformance, options, saving, the library's tests in C; under musl its library is not run",
+    tested="under `qemu-aarch64`: conformance, findings and options of `vp8list`; of `vp8serve` only an unproved build of the same sources was run: rows, clips, saving",
     caution="run by us under an emulator only",
     tags=("manylinux_2_17_aarch64", "musllinux_1_1_aarch64"),
     builds=("aarch64",),
@@ -81,7 +81,7 @@ ARM = Target(
 )
 WINDOWS = Target(
     name="Windows on x86-64 (preview)",
-    installed="the wheel",
+    installed="`./build.py --windows`, with the kit; the next version has a wheel",
     proof="not proved: the same LLVM module, compiled for another system",
     tested="under `wine64` on Linux: rows, clips, saving; the client by a test that takes away what Python lacks there",
     caution="tested under wine; never installed on Windows by us; preview",
@@ -105,7 +105,7 @@ MACOS = Target(
     name="macOS",
     installed="not shipped: use the page; `./build.py --macos` makes assembly for `cc`",
     proof="not proved: the same LLVM module, compiled for another system",
-    tested="it links; it was never run by us",
+    tested="a small module links; it was never run by us",
     system="Darwin",
     machines=("arm64", "x86_64"),
 )
