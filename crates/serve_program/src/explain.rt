@@ -287,6 +287,28 @@ fn explain_head<E: Write>(
             head.len()
         ),
         StreamReason::NoIvf => explain_unknown(path, messages.errors),
+        StreamReason::HeaderLength(length) => writeln!(
+            messages.errors,
+            "{shown} claims a header of {length} bytes, not 32 to the length of the file"
+        ),
+        StreamReason::TooMany => writeln!(messages.errors, "{shown} has more than 1048576 packets"),
+        StreamReason::NoMemory => writeln!(
+            messages.errors,
+            "{shown}: out of memory for its packets"
+        ),
+        reason => explain_webm(path, head, reason, messages),
+    }
+}
+
+/// Explains why a file that begins as a WebM file is not a stream.
+fn explain_webm<E: Write>(
+    path: &str,
+    head: &[u8],
+    reason: StreamReason,
+    messages: &mut Messages<'_, E>,
+) -> io::Result<()> {
+    let shown = InLine(path);
+    match reason {
         StreamReason::NoHeader => writeln!(
             messages.errors,
             "{shown} begins as a WebM file, but its EBML header is cut off or damaged"
@@ -308,19 +330,11 @@ fn explain_head<E: Write>(
             messages.errors,
             "{shown} has a unit of time of 0, or of 4294967296 nanoseconds or more"
         ),
-        StreamReason::HeaderLength(length) => writeln!(
-            messages.errors,
-            "{shown} claims a header of {length} bytes, not 32 to the length of the file"
-        ),
-        StreamReason::TooMany => writeln!(messages.errors, "{shown} has more than 1048576 packets"),
         StreamReason::TooManyParts => writeln!(
             messages.errors,
             "{shown} has more than 1048576 packets of its video, 16777216 elements or 127 tracks"
         ),
-        StreamReason::NoMemory => writeln!(
-            messages.errors,
-            "{shown}: out of memory for its packets"
-        ),
+        _ => Ok(()),
     }
 }
 
