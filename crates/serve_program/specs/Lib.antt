@@ -4,4 +4,3 @@ pub mod Noted
 pub mod Frames
 pub mod Reports
 pub mod Saved
-pub mod Outs

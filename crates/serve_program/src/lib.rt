@@ -4,7 +4,6 @@
 
 mod explain;
 mod exports;
-mod frames;
 mod host;
 mod live;
 mod messages;
