@@ -333,13 +333,13 @@ fn explains_files(rt: HostRuntime) {
     expect_end(
         &rt,
         "vp8serve a.webm --explain",
-        "vp8serve: input Header\na.webm is a WebM or Matroska file: ffmpeg -i a.webm -an -c copy -copyts out.ivf\nits time stamps count milliseconds, so OUT has 1000 frames a second: ffmpeg -r 30 -i OUT reads 30\n",
+        "vp8serve: input Header\na.webm begins as a WebM file, but its EBML header is cut off or damaged\n",
         1,
     );
     expect_end(
         &rt,
         "vp8serve --explain --sources -:b.webm",
-        "vp8serve: source 2 Magic\nb.webm is a WebM or Matroska file: ffmpeg -i b.webm -an -c copy -copyts out.ivf\nits time stamps count milliseconds, so OUT has 1000 frames a second: ffmpeg -r 30 -i OUT reads 30\n",
+        "vp8serve: source 2 Header\nb.webm begins as a WebM file, but its EBML header is cut off or damaged\n",
         1,
     );
     expect_end(

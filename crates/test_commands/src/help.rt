@@ -7,7 +7,8 @@ use std::process::Abort;
 use stream_checks::Unwatched;
 
 const HELP: &str = "\
-Serves frames of a VP8 stream (IVF) as YUV4MPEG2, while you edit its packets.
+Serves frames of a VP8 stream (IVF, WebM or Matroska) as YUV4MPEG2, while you edit
+its packets.
 
 Copy this line to see it work. It forges a grey key frame, repeats its picture
 in a second packet, saves both as IVF and writes both frames:
@@ -38,12 +39,12 @@ the file of another argument. Paths under /dev/ may be named twice.
 Usage: vp8serve [OPTIONS] [IN] [REQUESTS] [OUT]
 
 Arguments:
-  [IN]        IVF file; `-` for a stream with no packets [default: -]
+  [IN]        IVF or WebM file; `-` for a stream with no packets [default: -]
   [REQUESTS]  File of request lines; `-` for standard input [default: -]
   [OUT]       YUV4MPEG2 file for the frames; `-` drops them [default: -]
 
 Options:
-      --sources <LIST>      IVF files of sources 1 to 7, separated by `:`
+      --sources <LIST>      IVF or WebM files of sources 1 to 7, separated by `:`
       --cache <N>           Most decoded frames to cache, 1 to 4096 [default: 32]
       --cache-bytes <SIZE>  Most bytes of decoded frames to cache instead, for example 64M (K, M, G)
       --tables <FILE>       3012 bytes to use instead of RFC 6386's long tables
