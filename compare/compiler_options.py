@@ -14,6 +14,7 @@ import tempfile
 TOP = pathlib.Path(__file__).resolve().parent.parent
 sys.dont_write_bytecode = True
 sys.path.insert(1, str(TOP))
+import results  # noqa: E402
 from release import retarget  # noqa: E402
 
 # A label that the compiler numbers in order of the file.
@@ -46,6 +47,7 @@ def main():
     parser.add_argument("bitcode", type=pathlib.Path)
     given = parser.parse_args()
     text = retarget.for_target(retarget.given_text(given.bitcode), given.target)
+    changing = []
     with tempfile.TemporaryDirectory() as name:
         out = pathlib.Path(name, "module.s")
         wanted = compiled(text, given.target, None, out)
@@ -54,6 +56,8 @@ def main():
             found = compiled(text, given.target, left, out)
             differ = sorted(key for key in wanted.keys() | found.keys() if wanted.get(key) != found.get(key))
             print(f"without {left}: {f'{len(differ)} functions differ, the first is {differ[0]}' if differ else 'no instruction differs'}", flush=True)
+            changing += [left] if differ else []
+    results.total(f"{given.target}: options that change an instruction: {' '.join(changing) or 'none'}", version=results.version_of_programs())
 
 
 if __name__ == "__main__":

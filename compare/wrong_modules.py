@@ -18,6 +18,7 @@ TOP = pathlib.Path(__file__).resolve().parent.parent
 sys.dont_write_bytecode = True
 sys.path[1:1] = [str(TOP), str(TOP / "compare"), str(TOP / "tests"), str(TOP / "clients/python")]
 import test_web  # noqa: E402
+import results  # noqa: E402
 from library import wasm_code  # noqa: E402
 from release import retarget, web  # noqa: E402
 
@@ -73,7 +74,7 @@ def main():
         found = [is_noticed(wrong, folder) for wrong in planted(module, given.each)]
         pointer = is_noticed(compiled(with_wrong_pointer(text), folder, ("-O0",)), folder)
         print(f"a pointer read from its wrong half: {'noticed' if pointer else 'NOT noticed'}", flush=True)
-        print(f"a wrong saturating instruction: {sum(found)} of {len(found)} noticed")
+        results.total(f"a wrong pointer and {sum(found)} of {len(found)} wrong saturating instructions are noticed", not pointer or not any(found))
     return 0 if pointer and any(found) else 1
 
 
