@@ -301,6 +301,8 @@ def as_webm(browser):
     said = browser.run("return page.open(new File([Uint8Array.from(atob(args[0]), (letter) => letter.charCodeAt(0))], 'other.webm')).catch((error) => error.message)", coded)
     if "NoVideo" not in said:
         yield f"chromium: a WebM file of VP9: {said}"
+    if browser.run("return (await page.client.call('samples', 1)).samples.length") < 1:
+        yield "chromium: after a file that is refused, the one before it is not open"
 
 
 def colour_of(path):

@@ -12,9 +12,14 @@ class Editor {
     this.steps = [];
   }
 
-  /** Opens an IVF or WebM file. */
+  /** Opens an IVF or WebM file. If it is refused, the file that was open is open as it was. */
   open(file) {
-    this.engine.open(file, Editor.LIMIT);
+    try {
+      this.engine.open(file, Editor.LIMIT);
+    } catch (error) {
+      if (this.file) this.goTo(this.steps);
+      throw error;
+    }
     this.file = file;
     this.opened = this.engine.save(false);
     this.steps = [];
