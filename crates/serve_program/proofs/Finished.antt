@@ -2,7 +2,7 @@
 use Rattle.std.proofs.Common.{◌≡◌, ◌≤◌, ◌⊎◌, ◌∙◌, inl, inr, ℕ, List, [], ◌++◌, Option, Some, None, Result, Ok, Err, Bool, true, false, refl, sym, ap, subst, arith, append-nil}
 use Rattle.std.proofs.lemmas.Bool.{false≢true}
 use Rattle.std.specs.Borrow.{Bor}
-use Rattle.std.specs.Prelude.{IfOk, IfSome, MatchBool, codes, is_some}
+use Rattle.std.specs.Prelude.{IfErr, IfOk, IfSome, MatchBool, OnOk, codes, is_some}
 use Rattle.std.specs.Io.KnownBytes.{Appends, IsAtEnd, Keeps, append_known}
 use Rattle.std.proofs.KnownBytes.{Appends-kept, Keeps-refl, Keeps-trans}
 use Rattle.clap.specs.declared.error.Error.{Error}
@@ -24,6 +24,7 @@ use Rattle.serve_arguments.specs.declared.words.Words.{Words}
 use Rattle.serve_program.specs.Done.{IsDone, IsExitStatus, IsServedAs}
 use Rattle.serve_program.specs.Endings.{AreLiveReplied, AreReplied, Gained, IsLiveReplied, IsOut, IsOver, IsReplied, IsServed, OverSources, RunFiles, cached_by}
 use Rattle.serve_program.specs.Noted.{AreLiveNoted, AreNoted, IsLiveNoted, IsNoted, IsNotedAs}
+use Rattle.serve_program.specs.Outs.{IsFlushed}
 use Rattle.serve_program.specs.Saved.{ArePacketsSaved, AreSaved, IsExportSaved, SavedAt, exported_text}
 use Rattle.serve_program.proofs.Flushed.{flushed, flushed_noted}
 
@@ -105,6 +106,22 @@ module _ {F : Type 0} (contents : F → Option (List ℕ)) (is_made : List ℕ �
       means = live_around tables sources given given' (contents file) (append_known (contents file) buffer) f' (contents file') r r' r' end (buffer_kept (contents file) buffer before) means
           (Keeps-trans f' (append_known (contents file') buffer') (contents file') flush (kept_buffer (contents file') buffer' after)) (Keeps-refl r');
     }
+
+-- ---- frames that are flushed after a run
+
+-- the run answered its requests, and its frames were flushed
+pub ended : {T E : Type 0} (unflushed : E) (answered result : Result T E) (P Q : T → Type 0) (flushed kept : Type 0) → ((value : T) → P value → flushed → kept → Q value) → IsFlushed unflushed answered result → IfOk answered P → OnOk result flushed → OnOk result kept → IfOk result Q
+ended unflushed (Ok value) (Ok same) P Q flushed kept so is p f k = subst Q (sym is) (so value p f k)
+ended unflushed (Ok value) (Err fault) P Q flushed kept so is p f k = tt
+ended unflushed (Err fault) (Ok value) P Q flushed kept so is p f k = absurd is
+ended unflushed (Err fault) (Err same) P Q flushed kept so is p f k = tt
+
+-- it failed, or its frames were not flushed
+pub ended_badly : {T E : Type 0} (unflushed : E) (answered result : Result T E) (P : T → Type 0) (Q R : E → Type 0) → ((value : T) → P value → R unflushed) → ((fault : E) → Q fault → R fault) → IsFlushed unflushed answered result → IfOk answered P → IfErr answered Q → IfErr result R
+ended_badly unflushed (Ok value) (Ok same) P Q R so so' is p q = tt
+ended_badly unflushed (Ok value) (Err fault) P Q R so so' is p q = subst R (sym is) (so value p)
+ended_badly unflushed (Err fault) (Ok value) P Q R so so' is p q = tt
+ended_badly unflushed (Err fault) (Err same) P Q R so so' is p q = subst R (sym is) (so' fault q)
 
 -- ---- replies that are flushed after the answers
 

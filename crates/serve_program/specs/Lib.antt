@@ -4,3 +4,4 @@ pub mod Noted
 pub mod Frames
 pub mod Reports
 pub mod Saved
+pub mod Outs

@@ -4,6 +4,7 @@
 
 mod explain;
 mod exports;
+mod frames;
 mod host;
 mod live;
 mod messages;

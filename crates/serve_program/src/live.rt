@@ -7,16 +7,17 @@ ghost use Rattle.serve_program.specs.Noted.{AreLiveNoted, IsLiveNoted};
 ghost use Rattle.serve_program.specs.Saved.{AreSaved};
 
 use crate::exports::with_export;
+use crate::frames::{Unmade, end_frames, make_frames};
 use crate::host::RunHost;
 use crate::messages::Messages;
-use crate::program::{BYTES_AT_ONCE, Served, finish, flush_buffer, taken_by};
+use crate::program::{Served, finish};
 use crate::runs::{Over, live_fault, settings_with, shared};
 use crate::saving::{Saves, abandon_saves, begin_saves};
 use command_lines::{NO_FILE, NamedFiles};
 use frame_session::{LiveFault, Session, run_live_over};
-use output_files::{Counted, SavedFiles};
+use output_files::SavedFiles;
 use serve_arguments::{Accepted, Fault, FilesRead, read_files};
-use std::io::{self, BufRead, BufReader, BufWriter, Read, Write};
+use std::io::{self, BufRead, BufReader, Read, Write};
 use std::rc::RcSlice;
 
 /// Answers the lines of `requests` with frames that go to the file at `path`, which is created now, or nowhere.
@@ -36,31 +37,25 @@ fn run_to_path<R: NamedFiles + AllocGlobal, I: BufRead, P: Write, E: Write>(
     ensures capacity { IfOk result (λ session. session.cache.capacity ≡ over.entry.settings.capacity) }
     ensures fault { IfErr result (IsLiveFault over.entry.settings.tables (map rc_slice_items over.entry.sources.now) (I.remaining requests.old) (P.contents replies.old) (P.contents replies.new)) }
 {
-    let alloc = rt.alloc();
     let Over { settings, sources } = over;
-    if path == NO_FILE {
-        return run_live_over(
-            alloc,
-            settings,
-            sources,
-            requests,
-            &mut io::sink(),
-            replies,
-            messages,
-        );
-    }
-    let file = match rt.make_named(path) {
-        Ok(file) => file,
-        Err(error) => {
-            messages.cannot_create(error);
-            return Err(LiveFault::Write);
+    let mut frames = match make_frames(rt, path, messages) {
+        Ok(Some(frames)) => frames,
+        Ok(None) => {
+            return run_live_over(
+                rt.alloc(),
+                settings,
+                sources,
+                requests,
+                &mut io::sink(),
+                replies,
+                messages,
+            );
         }
+        Err(Unmade::File) => return Err(LiveFault::Write),
+        Err(Unmade::Memory) => return Err(LiveFault::NoMemory),
     };
-    let mut frames = BufWriter::with_capacity(alloc, BYTES_AT_ONCE, Counted::new(file)).map_err(
-        |_| LiveFault::NoMemory,
-    )?;
     let answered = run_live_over(
-        alloc,
+        rt.alloc(),
         settings,
         sources,
         requests,
@@ -68,18 +63,7 @@ fn run_to_path<R: NamedFiles + AllocGlobal, I: BufRead, P: Write, E: Write>(
         replies,
         messages,
     );
-    match answered {
-        Ok(session) => {
-            if flush_buffer(&mut frames).is_err() {
-                return Err(LiveFault::Write);
-            }
-            Ok(session)
-        }
-        Err(fault) => {
-            messages.taken = Some(taken_by(&mut frames));
-            Err(fault)
-        }
-    }
+    end_frames(&mut frames, answered, LiveFault::Write, messages)
 }
 
 /// Answers the lines of a reader that is not buffered, through a buffer.

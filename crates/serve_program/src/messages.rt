@@ -87,15 +87,6 @@ impl<'a, E: Write> Messages<'a, E> {
         self.has_refused
     }
 
-    /// The error of a file for the frames that could not be created.
-    pub fn cannot_create(&mut self, error: io::Error) -> Fault<'static>
-        ensures fault { result ≡ Fault.CannotWrite }
-        ensures refused { self.new.refused ≡ Some error }
-    {
-        self.refused = Some(error);
-        Fault::CannotWrite
-    }
-
     /// The error of a file that was not saved.
     pub fn not_saved(&mut self, file: UnsavedFile) -> Fault<'static>
         ensures fault { result ≡ fault_of file.why }

@@ -14,14 +14,15 @@ ghost use Rattle.serve_program.specs.Saved.{ArePacketsSaved, AreSaved, IsExportS
 
 use crate::explain::{explain_end, explain_export, explain_fault, is_asked};
 use crate::exports::{Answered, with_export};
+use crate::frames::{Unmade, end_frames, make_frames};
 use crate::host::RunHost;
 use crate::live::answer_live;
 use crate::messages::Messages;
 use crate::runs::{Over, run_fault, settings_with, shared};
 use crate::saving::{Saves, begin_saves, finish_saves};
-use command_lines::{NO_FILE, NamedFiles, exit_status, help_or_mistake};
+use command_lines::{NamedFiles, exit_status, help_or_mistake};
 use frame_session::{Observer, Session, run_over};
-use output_files::{Counted, SavedFiles, Taken};
+use output_files::SavedFiles;
 use serve_arguments::{
     Accepted, Fault, FilesRead, Inputs, Words, check_places, read_inputs, report_cache,
 };
@@ -30,9 +31,6 @@ use std::convert::AsStr;
 use std::io::{self, BufWriter, Read, Write};
 use std::rc::RcSlice;
 use stream_files::FileBytes;
-
-/// The number of bytes of frames that are buffered.
-pub const BYTES_AT_ONCE: usize = 65_536;
 
 /// Runs the requests over the files of the sources, 1 to 8, whose bytes are borrowed or shared, and flushes the frames and then the replies. The
 /// packets of shared bytes are not copied. Returns the session after the last request.
@@ -85,28 +83,17 @@ fn run_to_path<R: NamedFiles + AllocGlobal, P: Write, E: Write>(
     ensures capacity { IfOk result (λ session. session.cache.capacity ≡ over.entry.settings.capacity) }
     ensures refused { IfErr result (IsUnreplied (map rc_slice_items over.entry.sources.now) (IsStopped over.entry.settings.tables (map rc_slice_items over.entry.sources.now) requests.now (P.contents replies.old) (P.contents replies.new)) (P.contents replies.old) (P.contents replies.new)) }
 {
-    let alloc = rt.alloc();
-    if path == NO_FILE {
-        return run_to(alloc, over, requests, &mut io::sink(), replies, messages);
-    }
-    let file = match rt.make_named(path) {
-        Ok(file) => file,
-        Err(error) => return Err(messages.cannot_create(error)),
+    let mut frames = match make_frames(rt, path, messages) {
+        Ok(Some(frames)) => frames,
+        Ok(None) => {
+            let alloc = rt.alloc();
+            return run_to(alloc, over, requests, &mut io::sink(), replies, messages);
+        }
+        Err(Unmade::File) => return Err(Fault::CannotWrite),
+        Err(Unmade::Memory) => return Err(Fault::NoMemory),
     };
-    let mut frames = BufWriter::with_capacity(alloc, BYTES_AT_ONCE, Counted::new(file)).map_err(
-        |_| Fault::NoMemory,
-    )?;
-    let answered = run_to(alloc, over, requests, &mut frames, replies, messages);
-    match answered {
-        Ok(session) => {
-            flush_buffer(&mut frames)?;
-            Ok(session)
-        }
-        Err(fault) => {
-            messages.taken = Some(taken_by(&mut frames));
-            Err(fault)
-        }
-    }
+    let answered = run_to(rt.alloc(), over, requests, &mut frames, replies, messages);
+    end_frames(&mut frames, answered, Fault::CannotWrite, messages)
 }
 
 /// Flushes a buffer.
@@ -116,12 +103,6 @@ pub fn flush_buffer<O: Write + Drop>(output: &mut BufWriter<O>) -> Result<(), Fa
     ensures fault { IfErr result (λ fault. fault ≡ Fault.CannotWrite) }
 {
     output.flush().map_err(|_| Fault::CannotWrite)
-}
-
-/// How many bytes a file took of a run that failed: what is left in the buffer is written now.
-pub fn taken_by<W: Write + Drop>(frames: &mut BufWriter<Counted<W>>) -> Taken {
-    let _ = frames.flush();
-    frames.get_ref().taken()
 }
 
 /// Reports the number of trailing bytes of all sources, if there are any.

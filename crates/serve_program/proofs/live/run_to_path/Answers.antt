@@ -1,21 +1,19 @@
-use Rattle.std.proofs.Common.{◌≡◌, [], map, rules, subst, sym}
+use Rattle.std.proofs.Common.{Some, map, subst}
 use Rattle.std.specs.Io.Buffered.{writer_buffer}
-use Rattle.std.specs.Io.KnownBytes.{IsAtEnd}
 use Rattle.std.specs.Rc.{rc_slice_items}
-use Rattle.serve_program.proofs.Finished.{live_gained}
+use Rattle.frame_session.specs.declared.live.LiveFault.TheVariants.{Write}
+use Rattle.serve_program.specs.Outs.{IsMadeAt}
+use Rattle.serve_program.proofs.Finished.{ended, live_gained}
 use Rattle.serve_program.proofs.live.run_to_path.Goals as goal
 
-pub returns-in-Ok-answered-clause-replied : goal.returns-in-Ok-answered-clause-replied
-returns-in-Ok-answered-clause-replied g c =
+pub returns-clause-replied : goal.returns-clause-replied
+returns-clause-replied g c =
     let contents = g.R.Made.Write.contents in
     let is_made = g.R.NamedFiles.is_made_at c.args.rt.now in
-    let path = c.args.path.now in
-    let frames = c.in_ok-frames.frames in
-    let flushed = c.flush_buffer.new.output in
-    let replies = g.P.Write.contents in
-    let same : frames.inner.inner ≡ c.in-Ok.file = search rules in
-    let before : writer_buffer frames ≡ [] = search rules in
-    let after : writer_buffer flushed ≡ [] = search rules in
-    live_gained contents is_made path c.args.over.settings.tables (map rc_slice_items c.args.over.sources.now) (replies c.args.replies.now) (replies c.run_live_over-answered.new.replies) c.in-Ok-answered.session.state
-    frames.inner.inner flushed.inner.inner (subst (λ file. is_made path file) (sym same) c.in-Ok.ensures.made) (subst (λ file. IsAtEnd (contents file)) (sym same) c.in-Ok.ensures.empty)
-    (writer_buffer frames) (writer_buffer flushed) _ before c.flush_buffer.ensures.kept after _ _ c.in-Ok-answered.ensures.means
+    let frames = c.in-Ok-Some.frames in
+    let flushed = c.end_frames.new.frames in
+    let made : IsMadeAt contents is_made c.args.path.now (Some frames) = subst (λ found. IsMadeAt contents is_made c.args.path.now found) c.in-Ok-Some.field-0-is c.in-Ok-Some.ensures.made in
+    ended Write c.run_live_over-answered.result c.end_frames.result _ _ _ _
+    (λ session means buffer kept. live_gained contents is_made c.args.path.now c.args.over.settings.tables (map rc_slice_items c.args.over.sources.now) (g.P.Write.contents c.args.replies.now) _ session.state
+    frames.inner.inner flushed.inner.inner made.0 made.1 (writer_buffer frames) (writer_buffer flushed) _ made.2 kept buffer _ _ means)
+    c.end_frames.ensures.result c.run_live_over-answered.ensures.means c.end_frames.ensures.flushed c.end_frames.ensures.kept
