@@ -1,0 +1,40 @@
+-- The list of an IVF file is by the byte at which its first record begins.
+use Rattle.std.proofs.Common.{◌≡◌, ◌++◌, ℕ, List, Option, Bool, false, ap, subst, ◌∙◌}
+use Rattle.std.specs.List.{flat_map}
+use Rattle.std.specs.Io.KnownBytes.{Appends}
+use Rattle.macroblock_lists.specs.declared.layouts.Form.{Form}
+use Rattle.macroblock_lists.specs.declared.layouts.Form.TheVariants.{Lines, Objects}
+use Rattle.stream_facts.proofs.PlaceLemmas.{all_in_records}
+use Rattle.stream_facts.specs.declared.facts.Facts.{Facts}
+use Rattle.stream_facts.specs.Facts.{facts_in}
+use Rattle.stream_facts.specs.Json.{object_of}
+use Rattle.stream_facts.specs.Lines.{head_line, line_of}
+use Rattle.stream_files.specs.Ivf.{IsIvf, header_length}
+use Rattle.stream_files.specs.declared.packets.Packet.{Packet}
+use Rattle.stream_files.specs.declared.streams.Stream.{Stream}
+use Rattle.stream_sources.proofs.OneStream.{other_source_is_ivf}
+use Rattle.stream_sources.specs.Sources.{IsIvfSource}
+use Rattle.webm_files.specs.Files.{is_marked}
+use Rattle.webm_files.specs.Media.{Kept}
+use Rattle.list_program.specs.Lists.{IsListed, listed_text, places_of}
+
+of_ivf : (form : Form) (bytes : List ℕ) (output output' : Option (List ℕ)) → is_marked bytes ≡ false → (listed : IsListed form bytes output output') → IsIvfSource bytes listed.source
+of_ivf form bytes output output' not listed = (other_source_is_ivf bytes listed.source not).0 listed.read
+
+pub ivf_lines : (bytes : List ℕ) (output output' : Option (List ℕ)) → is_marked bytes ≡ false → IsListed Lines bytes output output'
+    → (file : Stream) × IsIvf bytes file × Appends output output' (head_line ++ flat_map line_of (facts_in (header_length bytes) file.packets))
+ivf_lines bytes output output' not listed =
+    let is = of_ivf Lines bytes output output' not listed in
+    let packets : List Packet = listed.source.stream.packets in
+    let begins = header_length bytes in
+    let written = subst (λ (media : Option Kept). Appends output output' (listed_text Lines (places_of bytes media) packets)) is.1 listed.listed in
+    (listed.source.stream, is.0, subst (λ (facts : List Facts). Appends output output' (head_line ++ flat_map line_of facts)) (all_in_records begins (facts_in begins packets)) written)
+
+pub ivf_objects : (bytes : List ℕ) (output output' : Option (List ℕ)) → is_marked bytes ≡ false → IsListed Objects bytes output output'
+    → (file : Stream) × IsIvf bytes file × Appends output output' (flat_map object_of (facts_in (header_length bytes) file.packets))
+ivf_objects bytes output output' not listed =
+    let is = of_ivf Objects bytes output output' not listed in
+    let packets : List Packet = listed.source.stream.packets in
+    let begins = header_length bytes in
+    let written = subst (λ (media : Option Kept). Appends output output' (listed_text Objects (places_of bytes media) packets)) is.1 listed.listed in
+    (listed.source.stream, is.0, subst (λ (facts : List Facts). Appends output output' (flat_map object_of facts)) (all_in_records begins (facts_in begins packets)) written)
