@@ -5,12 +5,14 @@ import itertools
 import mmap
 import os
 import signal
+import subprocess
 import sys
 import tempfile
 import threading
 import traceback
 
 from . import __version__, system
+from .calls import recordings
 from .session import checks, named
 from .tools import cat, containers, convert, excerpts, files, ivf, muxing, programs, rooms, sounds, versions
 from .session.errors import Ended, Lost, Refused, sentence
@@ -31,7 +33,7 @@ PACKETS = (".webm", ".mkv", ".ivf", ".mp4", ".m4v", ".mov", ".avi", ".ogv", ".og
 
 
 # What each command reads.
-STREAM = "IVF file, or WebM, MKV, AVI or MP4 if python3-av, ffmpeg or mkvtoolnix is there; `-` is standard input"
+STREAM = "IVF file, or WebM, MKV, AVI or MP4 if python3-av, ffmpeg or mkvtoolnix is there, or a capture of RTP (pcap, pcapng, rtpdump, Janus's .mjr); `-` is standard input"
 
 
 def stop(text):
@@ -53,9 +55,15 @@ def add_sources(parser):
     parser.add_argument("--sources", action=Sources, default=argparse.SUPPRESS, metavar="LIST", help="several of them, separated by `;`, or by `:` except on Windows")
 
 
+def add_number(parser):
+    """The argument that names a stream of a capture."""
+    parser.add_argument("--stream", dest="stream_number", type=int, metavar="N", help="of a capture with several streams of VP8: stream N, from 1; the one with the most bytes if missing")
+
+
 def add_edits(parser):
     """The arguments that name other streams, and edits."""
     add_sources(parser)
+    add_number(parser)
     parser.add_argument("--edits", metavar="FILE", help="a list of edits, made first")
     parser.add_argument("--anyway", action="store_true", help="makes the edits of a list that is of another stream, and damage of a file is no exit status")
     parser.add_argument("--script", metavar="TEXT", help="the script, for example 'trim 0 0 50'")
@@ -170,6 +178,7 @@ def add_served(parser):
     """The arguments of a server."""
     parser.add_argument("stream", metavar="IN", help=f"{STREAM}; /dev/null is an empty stream")
     add_sources(parser)
+    add_number(parser)
     parser.add_argument("--cache", type=int, metavar="N", help="number of decoded states that are cached")
     parser.add_argument("--port", type=int, default=0, metavar="N", help="the port; a free one if missing")
     parser.add_argument("--tables", metavar="FILE", help="3012 bytes that replace the long tables of RFC 6386")
@@ -298,6 +307,7 @@ def add_export_options(parser, script=False):
     if script:
         add_edits(parser)
     else:
+        add_number(parser)
         parser.add_argument("--anyway", action="store_true", help="damage of a file that is read is no exit status")
         parser.add_argument("--tables", metavar="FILE", help="3012 bytes that replace the long tables of RFC 6386")
     parser.add_argument("--no-pad", action="store_true", help="packets that hold the picture are written as they are, and libvpx does not show them")
@@ -312,6 +322,29 @@ EXPORTED = (
 )
 
 
+def add_coding(parser):
+    """The arguments of frames that are coded again."""
+    parser.add_argument(
+        "--code-changed",
+        action="store_true",
+        help="frames that the script changes, by a fade or a crop, are coded again as VP8, by ffmpeg or vpxenc; all others stay as they are",
+    )
+    parser.add_argument("--psnr", type=decibels, default=None, metavar="DB", help="what each frame that is coded again has at least against the script's frame, 20 to 60 dB; 45 if missing")
+    parser.add_argument(
+        "--lead",
+        choices=("exact", "coded"),
+        default="exact",
+        help="of a part that begins between key packets: all packets since the key packet come before it, hidden (exact), or its frames up to the next key packet are coded again",
+    )
+
+
+def decibels(text):
+    value = float(text)
+    if not 20 <= value <= 60:
+        raise argparse.ArgumentTypeError(f"{text} is not 20 to 60")
+    return value
+
+
 def add_cut(commands):
     parser = commands.add_parser(
         "cut",
@@ -324,6 +357,9 @@ def add_cut(commands):
     parser.add_argument("--from", dest="starts", action="append", default=[], metavar="F", help="a time of the player, as 3.3 or 0:03.3, or a frame, as f83; the beginning if missing")
     parser.add_argument("--to", dest="ends", action="append", default=[], metavar="T", help="the same for the first frame that is left out; the end if missing")
     parser.add_argument("--cuts", metavar="FILE", help="the parts as LosslessCut's CSV: a line for each, its beginning, its end and a label, in seconds")
+    parser.add_argument("--fade-in", metavar="TIME", help="the beginning of OUT comes out of black, for so long; these frames are coded again, as with --code-changed")
+    parser.add_argument("--fade-out", metavar="TIME", help="the same for the end of OUT, into black")
+    add_coding(parser)
     add_export_options(parser)
     parser.set_defaults(run=run_cut)
 
@@ -409,6 +445,7 @@ def add_export(commands):
     )
     parser.add_argument("stream", metavar="IN", help=STREAM)
     parser.add_argument("out", metavar="OUT", help="the file to write")
+    add_coding(parser)
     add_export_options(parser, script=True)
     parser.set_defaults(run=run_export)
 
@@ -441,13 +478,86 @@ def run_script(given, streams, script_of, inputs=()):
         with cat.open_session(paths[0], paths[1:], edits, script, given.tables, program, given.anyway) as session:
             if script_of is not None:
                 session.request(f"script {script_of(exports.Frames(session.edits.contents()))}")
+            add_fades(given, session)
             stages.stage(f"exporting {session.count().frames:,} frames")
             out = exports.Output(given.out, not given.no_pad, given.sound, say, stages)
-            told = exports.export(session.edits.contents(), list(session.edits), out, room)
+            told, coded = export_session(given, session, out, room)
             status = status_of(session, given.anyway)
     if not getattr(given, "is_step", False):
         print(told.text())
+        if coded is not None:
+            print(coded.text(told.frames))
     return max(status, getattr(given, "status", 0))
+
+
+def add_fades(given, session):
+    """Fades the beginning and the end of what the session serves, if that was asked for."""
+    from .tools import exports
+
+    fades = [getattr(given, name, None) for name in ("fade_in", "fade_out")]
+    if not any(fades) or getattr(given, "is_step", False):
+        return
+    contents, count = session.edits.contents(), session.count().frames
+    served = exports.Frames(contents).served()
+    lengths = [0 if text is None else exports.frames_within(contents, served if number == 0 else served[::-1], text) for number, text in enumerate(fades)]
+    if sum(lengths) > count:
+        raise cat.Failed(f"the fades have {lengths[0]} and {lengths[1]} frames, and OUT has {count}")
+    session.request(f"script {exports.fade_script(contents.script, count, lengths)}")
+
+
+def export_session(given, session, out, room):
+    """Exports what a session serves: what was written, and what was coded again, None if nothing was."""
+    from .tools import coding, exports
+
+    fades = any(getattr(given, name, None) for name in ("fade_in", "fade_out"))
+    if getattr(given, "is_step", False) or not (fades or getattr(given, "code_changed", False) or getattr(given, "lead", "exact") == "coded"):
+        if getattr(given, "psnr", None) is not None:
+            raise cat.Failed("--psnr is together with --code-changed, --fade-in, --fade-out or --lead coded")
+        return exports.export(session.edits.contents(), list(session.edits), out, room), None
+
+    def open_session(path):
+        return cat.open_session(path, [], None, None, None, programs.find("vp8serve"))
+
+    least = coding.USUAL if given.psnr is None else given.psnr
+    return coding.export(session, open_session, out, coding.How(least, given.lead == "coded", say), room)
+
+
+def add_listed(parser):
+    add_number(parser)
+    parser.add_argument("stream", metavar="IN", help=STREAM)
+    parser.add_argument("options", metavar="OPTION", nargs=argparse.REMAINDER, help="options of vp8list, after IN: see vp8list --help")
+
+
+def add_list(commands):
+    parser = commands.add_parser(
+        "list",
+        help="what each packet is",
+        description="Prints what vp8list prints of the packets of IN: a line for each, or with its options their headers, macroblocks and hashes. Exit status "
+        "1 if IN ends in the middle or is damaged.",
+    )
+    add_listed(parser)
+    parser.set_defaults(run=lambda given: run_lister(given, []))
+
+
+def add_check(commands):
+    parser = commands.add_parser(
+        "check",
+        help="the damage of a stream",
+        description="Prints what `vp8list --check` prints of the packets of IN, and what is damaged of the file around them; of a capture, which packets of RTP are "
+        "missing. Exit status 0 if nothing was found, 1 if IN is damaged.",
+    )
+    add_listed(parser)
+    parser.set_defaults(run=lambda given: run_lister(given, ["--check"]))
+
+
+def run_lister(given, words):
+    """Runs vp8list on the packets of IN. What is said of the file is on standard error, and what is missing of a capture is among the findings."""
+    with rooms.Room() as folder:
+        path = convert.as_ivf(given.stream, folder)
+        for one in recordings.missing.get(path, ()) if words else ():
+            print(one.json() if "--json" in given.options else f"damage: {one.text()}", flush=True)
+        done = subprocess.run([programs.find("vp8list"), path, *words, *given.options], stdin=subprocess.DEVNULL, check=False)
+        return max(done.returncode, int(bool(containers.damage_of(path))))
 
 
 def add_repair(commands):
@@ -462,7 +572,8 @@ def add_repair(commands):
     )
     parser.add_argument("stream", metavar="IN", help=STREAM)
     parser.add_argument("out", metavar="OUT", help="the mended IVF file; WebM or Matroska, with the sound of IN, if it ends in .webm or .mkv")
-    parser.add_argument("--second", metavar="FILE", help="a second recording of the same packets")
+    parser.add_argument("--second", metavar="FILE", help="a second recording of the same packets; of two captures of a call, packets of RTP are joined")
+    add_number(parser)
     parser.add_argument("--edits", metavar="FILE", help="writes the edits that make OUT of IN, which `vp8serve IN FILE - --save OUT` runs")
     parser.add_argument("--no-scan", action="store_true", help="records that are lost are not searched")
     parser.add_argument("--no-double", action="store_true", help="packets that are there twice stay")
@@ -489,8 +600,13 @@ def run_repair(given):
     try:
         with rooms.Room() as folder, progress.Stages() as stages:
             stages.stage("searching the packets")
-            path, searched = convert.searched(given.stream, folder, stages) if "scan" in steps else (convert.as_ivf(given.stream, folder, watch=stages), None)
-            other = given.second and convert.searched(given.second, folder, stages)[0]
+            joins = given.second is not None and all(map(recordings.is_capture, (given.stream, given.second)))
+            is_searched = "scan" in steps or recordings.is_capture(given.stream)
+            if is_searched:
+                path, searched = convert.searched(given.stream, folder, stages, given.second if joins else None)
+            else:
+                path, searched = convert.as_ivf(given.stream, folder, watch=stages), None
+            other = second_of(given.second, folder, stages) if given.second and not joins else None
             data, second = (path and read_all(path) for path in (path, other))
             tools = (programs.find("vp8serve"), programs.find("vp8list"))
             found = repair.repair(data, *tools, second, given.tables, steps, stages.stage, as_file(path), searched)
@@ -508,6 +624,11 @@ def run_repair(given):
     before = len(salvage_count(data))
     print(f"{len(packets)} packets written, {before} are read without repair; {found.changes} changes")
     return 2 if found.left else 1 if found.changes else 0
+
+
+def second_of(path, folder, stages):
+    """The second recording as IVF. Of a capture these are the frames that are whole."""
+    return recordings.whole_frames(path, os.path.join(folder, "second.ivf")) if recordings.is_capture(path) else convert.searched(path, folder, stages)[0]
 
 
 def write_repaired(given, path, head, packets):
@@ -653,6 +774,8 @@ def parser_of():
     add_cut(commands)
     add_join(commands)
     add_export(commands)
+    add_list(commands)
+    add_check(commands)
     add_repair(commands)
     add_compare(commands)
     add_cat(commands)
@@ -664,6 +787,7 @@ def main(words=None):
     """Runs a command line, and returns the exit status."""
     system.prepare_output()
     given = parser_of().parse_args(words)
+    recordings.chosen = getattr(given, "stream_number", None)
     end_by_signals()
     rooms.sweep()
     try:

@@ -7,9 +7,14 @@ import shutil
 import stat
 
 from .. import system
+from ..calls import captures, recordings
 from . import blocks, containers, ivf, looks
 from ..session import checks
 from .progress import Stages, say
+
+
+# A file of network packets, in which a stream of RTP is.
+CAPTURE = "capture of RTP"
 
 
 class Container(ValueError):
@@ -28,7 +33,7 @@ def kind_of(head):
         return "Ogg"
     if head[:3] == b"FLV":
         return "FLV"
-    return None
+    return CAPTURE if captures.kind_of(head) is not None else None
 
 
 def is_container(path):
@@ -36,7 +41,7 @@ def is_container(path):
     if not os.path.isfile(path):
         return False
     with open(path, "rb") as file:
-        return kind_of(file.read(12)) is not None
+        return kind_of(file.read(12)) not in (None, CAPTURE)
 
 
 def spooled(path, folder):
@@ -91,12 +96,16 @@ def as_file(path, folder):
     return given if stat.S_ISREG(found.st_mode) else spooled(given, folder), name, True
 
 
-def searched(path, folder, watch=None):
+def searched(path, folder, watch=None, second=None):
     """The path of a stream as IVF, as `as_ivf` has it. A WebM or Matroska file that is damaged is searched for its packets, and then also the head, the
-    packets, the gaps, and the length of the file, else None."""
+    packets, the gaps, and the length of the file, else None. Of a capture the frames that can be decoded, with those of a `second` capture."""
     given, name, is_file = as_file(path, folder)
     if not is_file:
         return given, None
+    if recordings.is_capture(given):
+        found, out = recordings.Searched(given, name, second and as_file(second, folder)[0], second), new_name(folder, "ivf")
+        found.write(out)
+        return out, found
     with open(given, "rb") as file:
         head = file.read(12)
         if head[:4] == b"DKIF" or (kind_of(head) or "WebM or Matroska") != "WebM or Matroska":
@@ -122,6 +131,11 @@ def taken_out(path, folder, name, kind, is_quiet, watch=None):
     out = new_name(folder, "ivf")
     with contextlib.nullcontext(watch or containers.NOBODY) if watch is not None or is_quiet else Stages() as stages:
         stages.stage(f"taking the packets out of {name}")
+        if kind == CAPTURE:
+            containers.damaged[out] = recordings.read(path, out, name, is_quiet)
+            if not is_quiet:
+                say_damage(out, "fills what is missing, also from a second capture")
+            return out
         tool = read(path, out, name, kind, stages)
         stages.stage(f"looking for damage of {name}")
         containers.damaged[out] = damage_of(path, name, kind)
@@ -130,9 +144,15 @@ def taken_out(path, folder, name, kind, is_quiet, watch=None):
         say(f"{name} is a {kind} file; {tool} took its packets out without coding them again{sound_text(media)}")
     if media is not None and media.said and not containers.damaged[out]:
         containers.damaged[out] = [f"{tool} complains of {name}: {'; '.join(media.said.splitlines()[:3])}"]
-    for text in containers.damaged[out]:
-        say(f"{text}. `wokureti repair` searches a damaged file for all its packets")
+    say_damage(out, "searches a damaged file for all its packets")
     return out
+
+
+def say_damage(out, helps):
+    """Says what is damaged of a file that was read, and what `wokureti repair` does with it."""
+    texts = containers.damaged[out]
+    for place, text in enumerate(texts):
+        say(f"{text}. `wokureti repair` {helps}" if place == len(texts) - 1 else text)
 
 
 def read(path, out, name, kind, watch):

@@ -147,6 +147,31 @@ def cut_script(frames, parts):
     return f"parts {' '.join(pieces)}"
 
 
+def frames_within(contents, served, text):
+    """How many of these frames, one at least, are within a time from their beginning; or a number of frames, as f24."""
+    if re.fullmatch("f[0-9]+", text):
+        return max(1, min(int(text[1:]), len(served)))
+    wanted, clock = nanoseconds(text), 0
+    for place, (_, duration, source) in enumerate(served):
+        if clock >= wanted:
+            return max(1, place)
+        clock += times.nano(duration, contents.inputs.all[source].head)
+    return len(served)
+
+
+def fade_script(script, count, fades):
+    """A script with a fade in at its beginning and out at its end, of so many frames each; `count` is how many frames it serves."""
+    nodes = [] if script == "-" else script.split("; ")
+    for frames, is_end in zip(fades, (False, True)):
+        if frames == 0:
+            continue
+        frames = min(frames, count)
+        # The first frame of a fade in and the last one of a fade out are black.
+        span = f"{count - frames} {max(1, frames - 1)} 256 0" if is_end else f"0 {max(1, frames - 1)} 0 256"
+        nodes.append(f"fade {len(nodes)} {span}")
+    return "; ".join(nodes) or "-"
+
+
 def join_script(count):
     """The script of so many sources, one after the other."""
     if count == 1:
@@ -167,18 +192,33 @@ class Output(NamedTuple):
     watch: progress.Watch = progress.Watch()
 
 
-def export(contents, lines, out, room):
+class Added(NamedTuple):
+    """A source that is exported with those of a session: its path, and the frames of the session's own script, which say the times and the sound."""
+
+    path: str
+    served: list
+
+
+class With(NamedTuple):
+    """The inputs of a session with one more."""
+
+    words: list
+    shared: tuple
+
+
+def export(contents, lines, out, room, added=None):
     """Writes the frames that a session with these contents and edits serves as packets: an IVF file, or WebM or Matroska with their sound. Returns what was
     written. Files that are made on the way are in the folder `room`."""
     check_program(contents.program)
     between = os.path.join(room, "exported.ivf")
+    inputs = contents.inputs if added is None else With([*contents.inputs.words, added.path], contents.inputs.shared)
     try:
-        run(contents.program, contents.inputs, lines, between, out.pad, contents.tables, watch=out.watch)
+        run(contents.program, inputs, lines, between, out.pad, contents.tables, watch=out.watch)
     except Ended as ended:
         # The file on the way has a name that says nothing.
         text = ended.text.replace(f"--export {between}", os.path.basename(os.fsdecode(out.path))).removeprefix("vp8serve: ")
         raise Ended(ended.status, text) from None
-    served = Frames(contents).served()
+    served = Frames(contents).served() if added is None else added.served
     with open(between, "rb") as file:
         head, index = ivf.read_index(file.fileno())
         spans = excerpts.of_frames(contents, served)

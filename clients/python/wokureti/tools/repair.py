@@ -40,12 +40,14 @@ class NoKeyFrame(ValueError):
 
 
 class Packet(NamedTuple):
-    """A packet, and what is known of it: whether it comes right before bytes that are lost, and whether one or more were lost before it."""
+    """A packet, and what is known of it: whether it comes right before bytes that are lost, whether one or more were lost before it, and whether its
+    end is missing."""
 
     stamp: int
     data: bytes
     before_gap: bool = False
     after_gap: bool = False
+    is_cut: bool = False
 
 
 class Outline(NamedTuple):
@@ -406,7 +408,9 @@ class Repair:
 
     def hold(self):
         """Holds the last picture for packets that are refused or lost, up to the next key frame."""
-        outlines, past = self.outlines(), self.damaged()
+        outlines = self.outlines()
+        # A packet without its end says nothing of those before it.
+        past = {place: text for place, text in self.damaged().items() if not self.packets[place].is_cut}
         step = self.step(outlines)
         kept, size, place, changes = [], None, 0, self.changes
         while place < len(self.packets):
@@ -642,14 +646,16 @@ def packets_of(data, scan=True):
 
 def repair(data, program, lister, second=None, tables=None, steps=frozenset(("scan", "double", "sort", "hold")), stage=None, path=None, searched=None):
     """Mends a stream, and returns a `Repair`. `stage` is called with what is done next, and `path` is a file with the data, if there is one. `searched` is
-    what was found of a damaged container: the head, the packets, the gaps, and the length of the file."""
+    what was found of a damaged container: the head, the packets, the gaps, and the length of the file; or the frames of a capture."""
     found = Repair(program, lister, tables)
     found.stage = stage or found.stage
     found.stage("searching the packets")
     if searched is None:
         found.read(data, "scan" in steps, path)
-    else:
+    elif isinstance(searched, tuple):
         found.take(*searched, "block")
+    else:
+        searched.give(found, Packet)
     if "double" in steps:
         found.drop_doubles()
     if "sort" in steps:

@@ -1,0 +1,204 @@
+"""Frames that are coded again: those that a script changes and no others, how good they are, and what is said where that cannot be done."""
+
+import os
+import re
+import shutil
+import signal
+import subprocess
+import time
+import unittest
+
+from support import CLIP, SLOW, Case, command, frames_of, packets_of, start
+from wokureti import Session
+from wokureti.session.origins import Run
+from wokureti.tools import coding, ivf
+from wokureti.tools.coding import Piece
+
+FRAMES = len([data for data in packets_of(CLIP) if ivf.is_shown(data)])
+HAS_ENCODER = shutil.which("ffmpeg") is not None
+
+
+def all_frames(path):
+    """The size and the samples of each frame of a file, by vp8serve."""
+    with Session(path) as session:
+        return [(width, height, bytes(samples)) for width, height, samples in session.pictures(range(session.count().frames))]
+
+
+def served(*lines):
+    """The samples of each frame of a script over the clip."""
+    return frames_of(CLIP, range(FRAMES), *lines)
+
+
+def by_ffmpeg(path):
+    """The MD5 of each frame of a file, by ffmpeg."""
+    words = ["ffmpeg", "-nostdin", "-v", "error", "-i", path, "-map", "0:v", "-fps_mode", "passthrough", "-f", "framemd5", "-"]
+    text = subprocess.run(words, capture_output=True, text=True, timeout=20 * SLOW, check=True).stdout
+    return [line.rsplit(",", 1)[1].strip() for line in text.splitlines() if not line.startswith("#")]
+
+
+class Pieces(Case):
+    def test_pieces(self):
+        runs = [Run(10, 0, 5, ()), Run(3, 0, 15, (2,)), Run(2, 1, 0, (2, 3)), Run(4, 1, 2, ()), Run(5, 1, 6, ())]
+        self.assertEqual(
+            coding.pieces_of(runs),
+            [Piece(0, 10, False, 0, 5), Piece(10, 5, True, 0, 15), Piece(15, 9, False, 1, 2)],
+        )
+        self.assertEqual(
+            coding.pieces_of(runs, [(0, 2), (15, 18)]),
+            [Piece(0, 2, True, 0, 5), Piece(2, 8, False, 0, 7), Piece(10, 8, True, 0, 15), Piece(18, 6, False, 1, 5)],
+        )
+        self.assertEqual(coding.pieces_of([Run(4, 0, 0, (1,))]), [Piece(0, 4, True, 0, 0)])
+        self.assertEqual(coding.pieces_of([Run(4, 0, 0, ())], [(1, 3)]), [Piece(0, 1, False, 0, 0), Piece(1, 2, True, 0, 1), Piece(3, 1, False, 0, 3)])
+
+
+@unittest.skipUnless(HAS_ENCODER, "no ffmpeg")
+class Coded(Case):
+    LIMIT = 90
+
+    def setUp(self):
+        super().setUp()
+        self.room = self.folder()
+        self.out = self.room / "out.ivf"
+
+    def run_it(self, *words, **options):
+        status, text, errors = command(*words, **options)
+        self.assertEqual(status, 0, errors)
+        return text.decode(), errors
+
+    def assertCoded(self, coded, script, least=45.0, out=None):
+        """The frames of `coded` are as good as was asked for, and all others are those of the script, sample for sample."""
+        true, found = served(f"script {script}"), [one[2] for one in all_frames(out or self.out)]
+        self.assertEqual(len(found), len(true))
+        for number, (one, other) in enumerate(zip(found, true)):
+            if number in coded:
+                squares = sum((left - right) ** 2 for left, right in zip(one, other))
+                self.assertLessEqual(squares * 10 ** (least / 10), 255 * 255 * len(other) * 1.01, number)
+            else:
+                self.assertTrue(one == other, number)
+        # ffmpeg shows the same frames of the packets that were not coded.
+        theirs, ours = by_ffmpeg(out or self.out), by_ffmpeg(CLIP)
+        self.assertEqual([one for number, one in enumerate(theirs) if number not in coded], [one for number, one in enumerate(ours) if number not in coded])
+
+    def test_a_fade_at_the_end(self):
+        script = f"fade 0 {FRAMES - 12} 11 256 0"
+        text, _ = self.run_it("export", CLIP, self.out, "--code-changed", "--script", script)
+        found = re.search(r"(\d+) of (\d+) frames are coded again, in ([\d,]+) bytes, PSNR ([\d.]+) dB at least and ([\d.]+) dB in the mean", text)
+        # The first frame of the fade has weight 256: it is as it was.
+        self.assertEqual(found.groups()[:2], ("11", str(FRAMES)))
+        self.assertGreaterEqual(float(found.group(4)), 45)
+        coded = range(FRAMES - 11, FRAMES)
+        self.assertCoded(coded, script)
+        size = sum(map(len, packets_of(self.out)[-11:]))
+        self.assertEqual(size, int(found.group(3).replace(",", "")))
+
+    def test_several_runs_and_less_quality(self):
+        script = "fade 0 0 5 0 256; fade 1 20 6 256 0"
+        self.run_it("export", CLIP, self.out, "--code-changed", "--psnr", "36", "--script", script)
+        small = self.out.stat().st_size
+        self.assertCoded({*range(0, 5), *range(21, FRAMES)}, script, 36.0)
+        self.run_it("export", CLIP, self.out, "-y", "--code-changed", "--psnr", "48", "--script", script)
+        self.assertGreater(self.out.stat().st_size, small)
+
+    def test_nothing_is_changed(self):
+        text, _ = self.run_it("export", CLIP, self.out, "--code-changed", "--script", "trim 0 0 10")
+        self.assertNotIn("coded again", text)
+        self.assertEqual(packets_of(self.out), packets_of(CLIP)[:10])
+
+    def test_a_crop_codes_all(self):
+        text, errors = self.run_it("export", CLIP, self.out, "--code-changed", "--psnr", "35", "--script", "crop 0 16 16 64 48")
+        self.assertIn(f"the script changes each of the {FRAMES} frames: all of them are coded again", errors)
+        self.assertIn(f"{FRAMES} of {FRAMES} frames are coded again", text)
+        self.assertEqual({one[:2] for one in all_frames(self.out)}, {(64, 48)})
+
+    def test_fades_of_a_cut(self):
+        self.run_it("cut", CLIP, self.out, "--from", "f6", "--to", "f30", "--fade-in", "f4", "--fade-out", "f5")
+        found = [one[2] for one in all_frames(self.out)]
+        true = frames_of(CLIP, range(24), "script trim 0 6 24; fade 1 0 3 0 256; fade 2 19 4 256 0")
+        self.assertEqual(len(found), 24)
+        # Frame 3 has weight 256 again, and so has frame 19.
+        same = [number for number in range(24) if found[number] == true[number]]
+        self.assertTrue(set(range(3, 20)) <= set(same), same)
+        for number in (0, 23):
+            luma = found[number][: 320 * 180]
+            self.assertLess(max(luma) - 16, 12, number)
+        status, _, errors = command("cut", CLIP, self.out, "-y", "--from", "f6", "--to", "f10", "--fade-in", "f4", "--fade-out", "f5")
+        self.assertEqual((status, "the fades have 4 and 4 frames, and OUT has 4" in errors), (2, True), errors)
+
+    def test_coded_leads(self):
+        # One key packet: an exact cut has all packets before it, hidden.
+        text, errors = self.run_it("cut", CLIP, self.out, "--from", "f30")
+        self.assertIn("30 of them hidden", text)
+        text, errors = self.run_it("cut", CLIP, self.out, "-y", "--from", "f30", "--lead", "coded", "--psnr", "38")
+        self.assertIn("none of them hidden", text)
+        self.assertIn(f"{FRAMES - 30} of {FRAMES - 30} frames are coded again", text)
+        self.assertIn("exactly, 30 hidden packets of", errors)
+        self.assertEqual(len(all_frames(self.out)), FRAMES - 30)
+
+    def test_the_sound_stays(self):
+        clip, out = self.room / "clip.webm", self.room / "out.webm"
+        words = ["ffmpeg", "-nostdin", "-v", "error", "-i", CLIP, "-f", "lavfi", "-i", "sine=440:d=2", "-c:v", "copy", "-c:a", "libopus", "-shortest", clip]
+        subprocess.run(words, check=True, timeout=20 * SLOW)
+        self.run_it("export", clip, out, "--code-changed", "--script", f"fade 0 {FRAMES - 6} 5 256 0")
+
+        def sound(path):
+            words = ["ffprobe", "-v", "error", "-select_streams", "a", "-show_entries", "packet=size", "-of", "csv=p=0", path]
+            return subprocess.run(words, capture_output=True, text=True, timeout=20 * SLOW, check=True).stdout.split()
+
+        self.assertEqual(sound(out)[:40], sound(clip)[:40])
+        self.assertGreater(len(sound(out)), 50)
+        self.assertEqual(by_ffmpeg(out)[: FRAMES - 5], by_ffmpeg(CLIP)[: FRAMES - 5])
+
+    def test_times_stay(self):
+        # Frames that are coded are shown as long as those that they replace, also at the end.
+        path, packets = self.room / "uneven.ivf", packets_of(CLIP)[:12]
+        stamps = [0, 3, 4, 9, 10, 11, 20, 21, 25, 26, 27, 33]
+        with open(path, "wb") as file:
+            file.writelines(ivf.pieces(ivf.Head(320, 180, 30, 1), 12, zip(stamps, packets)))
+        self.run_it("export", path, self.out, "--code-changed", "--psnr", "36", "--script", "fade 0 2 3 256 0")
+        self.assertEqual([stamp for stamp, _ in ivf.read_packets(self.out)[1]], stamps)
+
+    def test_vpxenc(self):
+        if shutil.which("vpxenc") is None:
+            self.skipTest("no vpxenc")
+        folder = self.room / "path"
+        folder.mkdir()
+        for name in ("vpxenc", "python3"):
+            os.symlink(shutil.which(name), folder / name)
+        script = f"fade 0 {FRAMES - 6} 5 256 0"
+        self.run_it("export", CLIP, self.out, "--code-changed", "--script", script, env={"PATH": str(folder)})
+        self.assertCoded(range(FRAMES - 5, FRAMES), script)
+
+    def test_no_encoder(self):
+        status, _, errors = command("export", CLIP, self.out, "--code-changed", "--script", "fade 0 0 5 0 256", env={"PATH": str(self.room)})
+        self.assertEqual((status, "install ffmpeg (with libvpx), or vpx-tools" in errors, self.out.exists()), (2, True, False), errors)
+
+    def test_more_than_can_be(self):
+        noise = self.room / "noise.ivf"
+        words = ["ffmpeg", "-nostdin", "-v", "error", "-f", "lavfi", "-i", "nullsrc=s=64x64:r=25,geq=random(1)*255:128:128", "-frames:v", "6", "-c:v", "libvpx", "-qmin", "0", "-qmax", "4", "-b:v", "50M", noise]
+        subprocess.run(words, check=True, timeout=20 * SLOW)
+        status, _, errors = command("export", noise, self.out, "--code-changed", "--psnr", "60", "--script", "fade 0 0 5 128 250")
+        self.assertEqual((status, "cannot be coded with 60 dB" in errors, self.out.exists()), (2, True, False), errors)
+        for words in (("--psnr", "70"), ("--psnr", "x")):
+            self.assertEqual(command("export", CLIP, self.out, "--code-changed", *words)[0], 2)
+        status, _, errors = command("export", CLIP, self.out, "--psnr", "40")
+        self.assertEqual((status, "--psnr is together with" in errors), (2, True), errors)
+
+    def test_without_coding_it_is_refused_as_before(self):
+        status, _, errors = command("export", CLIP, self.out, "--script", "fade 0 0 5 0 256")
+        self.assertEqual((status, "frame 0 is changed by node 1" in errors, self.out.exists()), (2, True, False), errors)
+
+    def test_stopped_in_the_middle(self):
+        temporary = self.room / "temporary"
+        temporary.mkdir()
+        process = start("export", CLIP, self.out, "--code-changed", "--script", "fade 0 0 40 0 256", env={"TMPDIR": str(temporary)}, stderr=subprocess.DEVNULL, stdout=subprocess.DEVNULL)
+        limit = time.monotonic() + 20 * SLOW
+        while not list(temporary.rglob("coded.ivf")):
+            self.assertLess(time.monotonic(), limit)
+            time.sleep(0.02)
+        process.send_signal(signal.SIGINT)
+        self.assertEqual(process.wait(20 * SLOW), 130)
+        self.assertEqual((self.out.exists(), list(temporary.iterdir())), (False, []))
+
+
+if __name__ == "__main__":
+    unittest.main()

@@ -1,0 +1,1 @@
+"""Recordings of calls: captures of RTP, and the streams of VP8 in them."""

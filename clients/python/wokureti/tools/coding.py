@@ -1,0 +1,334 @@
+"""wokureti export --code-changed: the frames that a script changes are coded again as VP8, and all others stay the packets that they are.
+
+The coded frames are a source more, each run of them with a key packet first, and the script that is exported has the parts of all sources one after the other. How good
+they are is measured: they are decoded and compared with what the script serves, and coded again with more bits until each is good enough."""
+
+import math
+import operator
+import os
+import shutil
+import subprocess
+from array import array
+from typing import NamedTuple
+
+from . import exports, ivf, runs, times
+from ..session.errors import Ended
+from ..session.frames import size_of
+from ..session.lines import is_refusal
+from ..session.origins import runs_of
+
+try:
+    import numpy
+except ImportError:
+    numpy = None
+
+# Decibels that each coded frame has at least if nothing is said.
+USUAL = 45.0
+# Quantizers of the encoder, the finest one first; seconds that it may take for a run.
+FINEST, COARSEST, MOST_TIME = 0, 50, 3600
+# Frames that are asked for together, and nodes of a script.
+TOGETHER, MOST_NODES = 8, 16
+# Decibels of a frame that is the same.
+BEST = 99.0
+NO_ENCODER = "no encoder of VP8 was found: install ffmpeg (with libvpx), or vpx-tools, which has vpxenc. Nothing was written"
+
+
+class Failed(ValueError):
+    """Frames that cannot be coded as it was asked for."""
+
+
+class Piece(NamedTuple):
+    """Frames of the output that follow each other: how many, from which on; and whether they are coded, or come from a source, from one of its frames on."""
+
+    first: int
+    count: int
+    is_coded: bool
+    source: int = 0
+    start: int = 0
+
+
+class Coded(NamedTuple):
+    """What was coded: the path of the IVF file, the number of frames, their bytes, and the PSNR of each."""
+
+    path: str
+    frames: int
+    bytes: int
+    psnr: list
+
+    def text(self, count):
+        mean = sum(self.psnr) / len(self.psnr)
+        return f"{self.frames:,} of {count:,} frames are coded again, in {self.bytes:,} bytes, PSNR {min(self.psnr):.1f} dB at least and {mean:.1f} dB in the mean; all others stay as they are"
+
+
+# Which frames
+
+
+def pieces_of(found, leads=()):
+    """The pieces of the frames of a script, which are runs as `origins.runs_of` has them. Frames that the script changes are coded, and those in `leads`, ranges."""
+    pieces, first = [], 0
+    for run in found:
+        for start, end, is_coded in marked(first, first + run.count, leads, bool(run.changed)):
+            add(pieces, Piece(start, end - start, is_coded, run.source, run.first + start - first))
+        first += run.count
+    return pieces
+
+
+def marked(first, end, leads, is_changed):
+    """Parts of a range of frames, each with whether it is coded."""
+    if is_changed:
+        yield first, end, True
+        return
+    for start, stop in leads:
+        start, stop = max(first, start), min(end, stop)
+        if start < stop:
+            if first < start:
+                yield first, start, False
+            yield start, stop, True
+            first = stop
+    if first < end:
+        yield first, end, False
+
+
+def add(pieces, piece):
+    """Adds a piece, to the last one if it goes on from there."""
+    last = pieces[-1] if pieces else None
+    goes_on = last is not None and last.is_coded == piece.is_coded
+    if goes_on and (piece.is_coded or (last.source == piece.source and last.start + last.count == piece.start)):
+        pieces[-1] = last._replace(count=last.count + piece.count)
+    else:
+        pieces.append(piece)
+
+
+def leads_of(contents, found):
+    """For each run of frames that begins between key packets: the frames from there up to the next key packet, as a range, the number of hidden packets that an exact cut has
+    before them, and their bytes."""
+    contents.listing.learn()
+    leads, first, before = [], 0, None
+    for run in found:
+        goes_on = before is not None and before.source == run.source and before.first + before.count == run.first and not before.changed
+        if not run.changed and not goes_on:
+            stream = contents.streams[run.source]
+            shown = [place for place, number in enumerate(stream) if contents.is_shown(number)]
+            place = begin = shown[run.first]
+            while begin and not contents.has_key_tag(stream[begin]):
+                begin -= 1
+            if begin < place:
+                end = next((number for number in range(run.first, run.first + run.count) if contents.has_key_tag(stream[shown[number]])), run.first + run.count)
+                size = sum(contents.size(stream[number]) for number in range(begin, place))
+                leads.append(((first, first + end - run.first), place - begin, size))
+        first, before = first + run.count, run
+    return leads
+
+
+def script_of(pieces, coded, program):
+    """The script of pieces, of which source `coded` has those that are coded."""
+    sources = sorted({piece.source for piece in pieces if not piece.is_coded} | {coded})
+    nodes, number, place = [], {0: 0}, 0
+    for source in sources:
+        if source:
+            nodes.append(f"source {source}")
+            number[source] = len(nodes)
+    triples = []
+    for piece in pieces:
+        source, start = (coded, place) if piece.is_coded else (piece.source, piece.start)
+        place += piece.count if piece.is_coded else 0
+        triples.append((number[source], start, piece.count))
+    if knows_parts(program):
+        return "; ".join([*nodes, "parts " + " ".join(f"{node} {start} {count}" for node, start, count in triples)])
+    last = None
+    for node, start, count in triples:
+        nodes.append(f"trim {node} {start} {count}")
+        if last is not None:
+            nodes.append(f"splice {last} {len(nodes)}")
+        last = len(nodes)
+    if len(nodes) > MOST_NODES:
+        raise Failed(f"{program} has no script for {len(triples)} parts: install a newer vp8serve")
+    return "; ".join(nodes)
+
+
+def knows_parts(program):
+    """Whether a script of the program may have a node `parts`."""
+    return not is_refusal(runs.run([program, "-", "-", "-"], ["script parts 0 0 1"])[0])
+
+
+# Coding
+
+
+def encoder():
+    """The name of the program that codes."""
+    found = next((name for name in ("ffmpeg", "vpxenc") if shutil.which(name)), None)
+    if found is None:
+        raise Failed(NO_ENCODER)
+    return found
+
+
+def encode(name, frames, out, quantizer):
+    """Codes a YUV4MPEG2 file as an IVF file, whose packets all have this quantizer of the encoder, 0 to 63."""
+    number = str(quantizer)
+    if name == "ffmpeg":
+        rates = ["-qmin", number, "-qmax", number, "-b:v", "500M", "-g", "99999", "-keyint_min", "0"]
+        words = ["ffmpeg", "-nostdin", "-v", "error", "-y", "-f", "yuv4mpegpipe", "-i", f"file:{frames}", "-c:v", "libvpx", *rates]
+        words += ["-auto-alt-ref", "0", "-lag-in-frames", "0", "-deadline", "good", "-cpu-used", "1", "-fps_mode", "passthrough", "-f", "ivf", f"file:{out}"]
+    else:
+        words = ["vpxenc", "--codec=vp8", "--ivf", "--quiet", "--passes=1", "--good", "--cpu-used=1", "--auto-alt-ref=0", "--lag-in-frames=0", "--drop-frame=0", "--disable-warning-prompt"]
+        words += ["--end-usage=vbr", "--target-bitrate=500000", f"--min-q={number}", f"--max-q={number}", "--kf-max-dist=99999", "-o", out, frames]
+    try:
+        done = subprocess.run(words, stdin=subprocess.DEVNULL, capture_output=True, timeout=MOST_TIME, check=False)
+    except subprocess.TimeoutExpired:
+        raise Ended(None, f"{name} took longer than {MOST_TIME} seconds") from None
+    if done.returncode != 0:
+        said = done.stderr.decode(errors="replace").strip()
+        raise Failed(f"{name} could not code the frames: {said[-300:]}" + ("; install ffmpeg with libvpx" if "Unknown encoder" in said else ""))
+
+
+def pictures(session, first, count):
+    """The width, height and samples of frames, some asked for at a time."""
+    for start in range(first, first + count, TOGETHER):
+        yield from session.pictures(range(start, min(start + TOGETHER, first + count)))
+
+
+def write_frames(session, piece, path):
+    """Writes the frames of a piece as YUV4MPEG2. `Failed` if their size changes."""
+    size = None
+    with open(path, "wb") as file:
+        for number, (width, height, samples) in enumerate(pictures(session, piece.first, piece.count), piece.first):
+            if size is None:
+                size = (width, height)
+                file.write(f"YUV4MPEG2 W{width} H{height} F30:1 Ip C420jpeg\n".encode())
+            if (width, height) != size:
+                raise Failed(f"frame {number} is {width}x{height} and those before it are {size[0]}x{size[1]}: frames that are coded together have one size")
+            file.write(b"FRAME\n")
+            file.write(samples)
+    return size
+
+
+def difference(one, other):
+    """The sum of the squares of the differences of samples."""
+    if numpy is not None:
+        far = numpy.frombuffer(one, numpy.uint8).astype(numpy.int32) - numpy.frombuffer(other, numpy.uint8)
+        return int((far * far).sum(dtype=numpy.int64))
+    far = list(map(operator.sub, one, other))
+    return sum(map(operator.mul, far, far))
+
+
+def measure(frames, size, session):
+    """The PSNR of each frame that a session serves, over all samples, against the frames of a YUV4MPEG2 file, one after the other."""
+    samples = size_of(*size)
+    with open(frames, "rb") as file:
+        file.readline()
+        for _, _, decoded in pictures(session, 0, session.count().frames):
+            file.read(len(b"FRAME\n"))
+            squares = difference(file.read(samples), bytes(decoded))
+            yield BEST if squares == 0 else min(BEST, 10 * math.log10(255 * 255 * samples / squares))
+
+
+class Coder:
+    """Codes runs of frames, and keeps the packets in an IVF file for all of them."""
+
+    def __init__(self, room, open_session, least, say, watch):
+        self.room, self.open_session, self.least, self.say, self.watch = room, open_session, least, say, watch
+        self.name, self.packets, self.psnr = encoder(), [], []
+
+    def code(self, session, piece):
+        """Codes a piece: with the coarsest quantizer by which each frame is good enough. `Failed` if even the finest one is not."""
+        frames, out = (os.path.join(self.room, name) for name in ("frames.y4m", "coded.ivf"))
+        size = write_frames(session, piece, frames)
+        best, low, high = None, FINEST, COARSEST
+        while low <= high:
+            quantizer = (low + high) // 2
+            found = self.attempt(frames, size, out, quantizer, piece)
+            if min(found[1]) >= self.least:
+                best, low = found, quantizer + 1
+            else:
+                high = quantizer - 1
+                least = min(found[1])
+        if best is None:
+            last = piece.first + piece.count - 1
+            raise Failed(f"frames {piece.first} to {last} cannot be coded with {self.least:g} dB: one of them has {least:.1f} dB with the finest quantizer; --psnr asks for less. Nothing was written")
+        os.unlink(frames)
+        self.packets += best[0]
+        self.psnr += best[1]
+
+    def attempt(self, frames, size, out, quantizer, piece):
+        """The packets of a run coded with a quantizer, and the PSNR of each frame."""
+        self.watch.stage(f"coding {piece.count:,} frames from frame {piece.first:,} on with quantizer {quantizer}")
+        encode(self.name, frames, out, quantizer)
+        packets = [data for _, data in ivf.read_packets(out)[1]]
+        if len(packets) != piece.count or not all(map(ivf.is_shown, packets)) or not ivf.is_key(packets[0]):
+            raise Failed(f"{self.name} made {len(packets)} packets of {piece.count} frames")
+        found = []
+        with self.open_session(out) as session:
+            for decibels in measure(frames, size, session):
+                found.append(decibels)
+                if decibels < self.least:
+                    # The rest is not looked at.
+                    break
+        return packets, found
+
+    def write(self, head, durations):
+        """Writes the packets, with these durations in the time base of a head."""
+        path, clock, stamps = os.path.join(self.room, "coded-frames.ivf"), 0, array("Q")
+        for duration in durations:
+            stamps.append(clock)
+            clock += duration
+        # What follows says how long the last one is shown; no script has it.
+        packets = [*zip(stamps, self.packets), (clock, b"")]
+        with open(path, "wb") as file:
+            file.writelines(ivf.pieces(head, len(packets), packets))
+        return Coded(path, len(self.packets), sum(map(len, self.packets)), self.psnr)
+
+
+def durations_of(served, contents, pieces):
+    """The durations of the frames that are coded, in the time base of source 0: sums are rounded, and not each."""
+    heads = [item.head for item in contents.inputs.all]
+    base, clock, found, due = times.base_of(heads[0]), 0, [], 0
+    for piece in pieces:
+        for _, duration, source in served[piece.first : piece.first + piece.count] if piece.is_coded else ():
+            rate, scale = times.base_of(heads[source])
+            # In units of both bases, so that nothing is lost.
+            due += duration * scale * base[0] / (rate * base[1])
+            step = max(1, round(due) - clock)
+            found.append(step)
+            clock += step
+    return found
+
+
+def export(session, open_session, out, how, room):
+    """Writes the frames that a session serves: those that its script changes are coded again, and those of leads, if that is asked for. Returns what was written, and what
+    was coded, None if nothing had to be."""
+    contents = session.edits.contents()
+    if len(contents.inputs.all) >= exports.MOST_STREAMS:
+        raise Failed(f"{len(contents.inputs.all)} sources are read, and the coded frames are one more: {exports.MOST_STREAMS} are the most; join some first")
+    found = runs_of(session)
+    leads = leads_of(contents, found)
+    how.say_leads(leads)
+    pieces = pieces_of(found, [lead[0] for lead in leads] if how.codes_leads else ())
+    if not any(piece.is_coded for piece in pieces):
+        return exports.export(contents, list(session.edits), out, room), None
+    count = sum(piece.count for piece in pieces)
+    wanted = sum(piece.count for piece in pieces if piece.is_coded)
+    if wanted == count:
+        out.say(f"the script changes each of the {count:,} frames: all of them are coded again")
+    coder = Coder(room, open_session, how.least, out.say, out.watch)
+    for piece in pieces:
+        if piece.is_coded:
+            coder.code(session, piece)
+    served = exports.Frames(contents).served()
+    coded = coder.write(contents.inputs.all[0].head, durations_of(served, contents, pieces))
+    script = script_of(pieces, len(contents.inputs.all), contents.program)
+    lines = [*session.edits, f"script {script}"]
+    return exports.export(contents, lines, out, room, exports.Added(coded.path, served)), coded
+
+
+class How(NamedTuple):
+    """How frames are coded: the least PSNR, whether the frames of leads are, and who hears what each way costs."""
+
+    least: float
+    codes_leads: bool
+    say: object
+
+    def say_leads(self, leads):
+        """Says what a part that begins between key packets costs, if it costs much."""
+        for (first, end), packets, size in leads:
+            other = f"coded, its first {end - first:,} frames are new" if self.codes_leads else f"--lead coded codes {end - first:,} frames in place of them"
+            self.say(f"frame {first} is between key packets: exactly, {packets:,} hidden packets of {size:,} bytes come before it; {other}")
