@@ -143,7 +143,7 @@ class Pictures(Case):
 
     @unittest.skipIf(numpy is None, "no numpy")
     def test_arrays(self):
-        frame = self.session(SMALL)[2]
+        frame = self.session(CLIP)[2]
         rgb = frame.to_ndarray()
         self.assertEqual((rgb.shape, rgb.dtype), ((frame.height, frame.width, 3), numpy.uint8))
         self.assertEqual(rgb.tobytes(), frame.rgb().tobytes())
