@@ -11,7 +11,7 @@ import unittest.mock
 
 import test_session
 from support import CLIP, DATA, ODD, SMALL, TOP, Case, packets_of, write_packets
-from wokureti import Ended, Refused, Session
+from wokureti import Ended, NotVideo, Refused, Session
 from wokureti.session import library
 from wokureti.tools import programs
 
@@ -201,7 +201,7 @@ class Broken(Library):
     def test_a_file_that_is_none(self):
         path = self.folder() / "none.ivf"
         path.write_bytes(b"no file of packets, but longer than a header\n")
-        with self.assertRaisesRegex(Ended, "libwokureti: source 1 Magic"):
+        with self.assertRaisesRegex(NotVideo, "none.ivf is no stream of VP8: it looks like a text"):
             Session(SMALL, sources=[path], engine="library")
 
     def test_tables_that_are_none(self):

@@ -33,7 +33,7 @@ class Inputs(Case):
         for name, data, wanted in (
             ("text", "a text, with \u00fc at its end: \u00fc".encode() * 30, ("it looks like a text", "name a stream")),
             ("short", b"hello\n", ("it looks like a text",)),
-            ("pcap", b"\xd4\xc3\xb2\xa1\x02\0\x04\0" + bytes(200), ("a capture of network packets (pcap)", "RTP")),
+            ("pcap", b"\xd4\xc3\xb2\xa1\x02\0\x04\0" + bytes(200), ("is a pcap file with no video that can be read: it has no packets of RTP",)),
             ("frames.y4m", b"YUV4MPEG2 W2 H2 F25:1\nFRAME\n123456", ("it looks like frames, YUV4MPEG2", "-c:v libvpx")),
             ("empty", b"", ("it looks like an empty file",)),
             ("bytes", bytes(range(255, 0, -1)), ("bytes of an unknown kind", "`wokureti repair")),

@@ -1601,7 +1601,7 @@ class TheCommand(Case):
     def test_it_does_not_start(self):
         room = self.folder()
         status, out, errors = command("open", room / "nowhere.ivf", "--no-browser")
-        self.assertEqual((status, out, "cannot read" in errors), (2, b"", True))
+        self.assertEqual((status, out, "nowhere.ivf: No such file" in errors), (2, b"", True))
         self.assertEqual(list(room.iterdir()), [])
         clip = write_packets(room / "clip.ivf", packets_of(SMALL))
         process, _, _ = self.open(clip)

@@ -554,7 +554,7 @@ class Killed(ServerCase):
         with mock.patch("sys.stderr"):
             for _ in range(2):
                 status, _, body = self.ask("/frames/0.y4m")
-                self.assertEqual((status, "cannot read" in json.loads(body)["error"]), (503, True))
+                self.assertEqual((status, "No such file" in json.loads(body)["error"]), (503, True))
             os.rename(f"{path}.away", path)
             self.assertEqual(self.ask("/frames/0.y4m")[0], 200)
 
@@ -845,7 +845,7 @@ class TheCommand(Case):
             status, _, errors = command("serve", SMALL, "--port", other.getsockname()[1])
             self.assertEqual((status, "in use" in errors), (2, True))
         status, out, errors = command("serve", "/nowhere.ivf")
-        self.assertEqual((status, out, "cannot read" in errors), (2, b"", True))
+        self.assertEqual((status, out, "/nowhere.ivf: No such file" in errors), (2, b"", True))
 
 
 def unpacked(png):

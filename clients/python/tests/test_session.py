@@ -14,7 +14,7 @@ import unittest
 from unittest import mock
 
 from support import CLIP, DATA, ODD, SLOW, SMALL, SPEAKER, TOP, Case, digest, frames_of, is_alive, packets_of, process_of, start_python
-from wokureti import Count, Ended, Refused, Session, Unexported
+from wokureti import Count, Ended, NotVideo, Refused, Session, Unexported
 from wokureti.tools import ivf, programs
 from wokureti.session import library
 from wokureti.session.frames import FrameReader
@@ -328,20 +328,20 @@ class Broken(Case):
         stream.close()
 
     def test_a_missing_file(self):
-        with self.assertRaises(Ended) as ended:
-            Session("/nowhere.ivf")
-        self.assertEqual((ended.exception.status, ended.exception.text), (1, f"{SPEAKER}: cannot read /nowhere.ivf"))
+        for streams in (("/nowhere.ivf",), ("-", ["-", SMALL, "/nowhere.ivf"])):
+            with self.assertRaises(FileNotFoundError) as missing:
+                Session(*streams)
+            self.assertEqual(missing.exception.filename, "/nowhere.ivf")
+        with self.assertRaises(IsADirectoryError):
+            Session(TOP)
 
     def test_no_stream(self):
-        with self.assertRaises(Ended) as ended:
+        with self.assertRaises(NotVideo) as ended:
             Session(__file__)
-        self.assertEqual((ended.exception.status, ended.exception.text), (1, f"{SPEAKER}: input Magic"))
-        with self.assertRaises(Ended) as ended:
-            Session(TOP)
-        self.assertEqual(ended.exception.status, 1)
-        with self.assertRaises(Ended) as ended:
-            Session("-", sources=["-", SMALL, "/nowhere.ivf"])
-        self.assertEqual((ended.exception.status, ended.exception.text), (1, f"{SPEAKER}: cannot read /nowhere.ivf"))
+        self.assertEqual((ended.exception.status, ended.exception.text), (1, f"{__file__} is no stream of VP8: it looks like a text; name a stream; a list of edits is named with --edits"))
+        self.assertIsInstance(ended.exception, (Ended, ValueError))
+        with self.assertRaisesRegex(NotVideo, "given-1 is no stream of VP8: it looks like an empty file"):
+            Session("-", sources=[b""])
 
     def test_the_number_of_cached_states(self):
         for cache in (0, 4097, -1):
@@ -668,8 +668,10 @@ class Arguments(Case):
             self.assertIn("zz", refused.exception.reason)
 
     def test_errors_are_explained(self):
+        tables = self.folder() / "tables"
+        tables.write_bytes(b"few")
         with self.assertRaises(Ended) as ended:
-            Session(DATA, explain=True, engine="program")
+            Session(SMALL, explain=True, engine="program", tables=tables)
         self.assertEqual(ended.exception.status, 1)
         self.assertGreater(len(ended.exception.text.splitlines()), 1)
 

@@ -103,6 +103,8 @@ class Names(unittest.TestCase):
         self.assertEqual([one.LIBRARY for one in (system, WINDOWS, MACOS)], ["libwokureti.so.0", "wokureti.dll", "libwokureti.0.dylib"])
         self.assertEqual([one.program_file("vp8list") for one in (system, WINDOWS, MACOS)], ["vp8list", "vp8list.exe", "vp8list"])
         self.assertEqual((WINDOWS.builds(), MACOS.builds()), ([""], [""]))
+        self.addCleanup(system.builds.cache_clear)
+        system.builds.cache_clear()
         with mock.patch.object(os, "uname", return_value=types.SimpleNamespace(machine="aarch64")):
             self.assertEqual(system.builds(), [""])
 
@@ -417,4 +419,4 @@ class Processes(Case):
         for more in (("--sources", f"{SMALL}:{SMALL}"), ("--sources", f"{SMALL};{SMALL}"), ("--source", SMALL, "--sources", SMALL), ("--sources", SMALL, "--source", SMALL)):
             self.assertEqual(command(*words, *more), wanted, more)
         status, _, errors = command(*words, "--sources", f"{SMALL}:{room / 'missing.ivf'}")
-        self.assertEqual((status, f"cannot read {room / 'missing.ivf'}" in errors), (2, True), errors)
+        self.assertEqual((status, f"{room / 'missing.ivf'}: No such file" in errors), (2, True), errors)

@@ -29,6 +29,7 @@ def repaired(path: str) -> Tuple[Count, List[str]]:
         with edits.step("another"):
             session.move(0, 1)
         rate: Tuple[int, int] = session.rate
+        print(len(session), session[0].width, [frame.number for frame in session[2:5]], session.width, session.height, session[0] == session[1])
         print(total, rate, session.packet(0), session.packets(range(5))[0]["bytes"], edits.path, edits.written)
         return session.count(), session.undo() + session.redo()
 

@@ -15,7 +15,7 @@ Each call writes one request line to `vp8serve --live` and waits for its reply. 
 """
 
 from .session.edits import EditList
-from .session.errors import Ended, Refused, Unexported
+from .session.errors import Ended, NotVideo, Refused, Unexported
 from .session.frames import Frame
 from .session.scripts import Script
 from .session.session import Count, Session
@@ -23,4 +23,4 @@ from .tools.versions import version
 
 __version__ = version()
 
-__all__ = ["Count", "EditList", "Ended", "Frame", "Refused", "Script", "Session", "Unexported"]
+__all__ = ["Count", "EditList", "Ended", "Frame", "NotVideo", "Refused", "Script", "Session", "Unexported"]

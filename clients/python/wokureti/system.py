@@ -1,5 +1,6 @@
 """What differs between Linux, macOS and Windows. Every other module asks this one, and uses nothing itself that one of them does not have."""
 
+import functools
 import contextlib
 import errno
 import ntpath
@@ -371,6 +372,7 @@ def program_file(name):
     return f"{name}.exe" if IS_WINDOWS else name
 
 
+@functools.lru_cache(maxsize=None)
 def builds():
     """The processors for which there are builds that run here, the best one first; one of no name where there is only one build."""
     if NAME != "Linux" or os.uname().machine != "x86_64":

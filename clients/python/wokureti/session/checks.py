@@ -79,20 +79,29 @@ def path(value):
     return f"./{word}" if word.startswith("-") else word
 
 
+def is_content(value):
+    """Whether a stream is given itself, as bytes or as an open file, and not by its path."""
+    return isinstance(value, (bytes, bytearray, memoryview)) or hasattr(value, "read")
+
+
 def stream(value):
-    """The path of a stream; `-` is an empty one."""
+    """The path of a stream; `-` is an empty one. What is no path stays as it is."""
+    if is_content(value):
+        return value
     return "-" if os.fsdecode(value) == "-" else path(value)
 
 
 def sources(values):
     """The paths of source 1 and the ones after it."""
-    if isinstance(values, (str, bytes, os.PathLike)):
+    if isinstance(values, (str, os.PathLike)):
         raise TypeError(f"sources is a list of paths, not the path {os.fsdecode(values)!r}")
+    if is_content(values):
+        raise TypeError("sources is a list of paths or streams, and not one stream")
     words = [stream(value) for value in values]
     if len(words) > 7:
         raise ValueError(f"{len(words)} sources, but 7 are the most: the stream itself is source 0")
     for word in words:
-        if system.SEPARATOR in word:
+        if isinstance(word, str) and system.SEPARATOR in word:
             raise ValueError(f"{word!r} cannot be a source: vp8serve separates the paths of sources by `{system.SEPARATOR}`. Use a link with another name")
     return words
 

@@ -14,7 +14,16 @@ _BROKEN = re.compile(r"refused (?:source (\d+) )?packet (\d+) (.+)")
 _UNEXPORTED = re.compile(r"frame (\d+) is (?:changed by node (\d+)|refused: (?:(?:source (\d+) )?packet (\d+) (.+)|.+))")
 
 
-class Refused(Exception):
+class _Kept(Exception):
+    """An exception that another process gets as it was: it is made again of what it was made of."""
+
+    _given: tuple = ()
+
+    def __reduce__(self) -> tuple:
+        return type(self), self._given
+
+
+class Refused(_Kept):
     """The program refused a request, which changed nothing.
 
     `word` is the name of the refusal, such as `Place`. If a frame was refused because its stream is broken, `word` is `packet`,
@@ -24,6 +33,7 @@ class Refused(Exception):
 
     def __init__(self, reply: str, reason: Optional[str] = None) -> None:
         super().__init__(f"{reply}: {reason}" if reason else reply)
+        self._given = (reply, reason)
         self.reply = reply
         self.reason = reason
         self.word = words_of(reply)[1]
@@ -62,7 +72,7 @@ class Unexported(Exception):
                 self.cause = found.group(5)
 
 
-class Ended(Exception):
+class Ended(_Kept):
     """The session is over: the exit status of the program (None if it is not known), and a text that says why.
 
     The text is what the program wrote to standard error; or, if the session ended the program, the reason for it.
@@ -70,19 +80,25 @@ class Ended(Exception):
 
     def __init__(self, status: Optional[int], text: str) -> None:
         super().__init__(text or f"vp8serve ended with status {status}")
+        self._given = (status, text)
         self.status = status
         self.text = text
 
 
-class OtherStream(ValueError):
+class OtherStream(_Kept, ValueError):
     """A list of edits is of another stream than the session, or names another source: how many packets and bytes each has."""
 
     def __init__(self, path, wanted, found, source=0, name=""):
+        self._given = (path, wanted, found, source, name)
         theirs, ours = (f"{packets:,} packets of {size:,} bytes" for packets, size in (wanted, found))
         more = "" if wanted != found else ", but others"
         of = f"another source {source}: of {name}, " if source else "another stream: of one "
         text = f"{path} is the list of edits of {of}with {theirs}, and this one has {ours}{more}. Name another list with --edits, or make these edits with --anyway"
         super().__init__(text)
+
+
+class NotVideo(Ended, ValueError):
+    """A file that is no stream of VP8. The text has its name, what it looks like, and what would help."""
 
 
 class Lost(Exception):

@@ -1,41 +1,89 @@
 """Frames, and reading them from the pipe that vp8serve writes them to."""
 
-import os
-from typing import Any, NamedTuple
+from __future__ import annotations
 
-from ..tools import colours
+import os
+from typing import TYPE_CHECKING, NamedTuple, Union
+
+from ..tools import colours, png
 
 try:
     import numpy
 except ImportError:
     numpy = None
 
+if TYPE_CHECKING:
+    from PIL.Image import Image
+
+# Samples in rows.
+Plane = memoryview if numpy is None else Union["numpy.ndarray", memoryview]
+
 
 class Frame(NamedTuple):
     """A frame: its number, its size in luma samples, and its planes.
 
     A plane has a row of samples for each line: a numpy array if numpy is installed, else a memoryview, both of two dimensions. Rows
-    of `u` and `v` have (width + 1) // 2 samples, and there are (height + 1) // 2 of them.
+    of `u` and `v` have (width + 1) // 2 samples, and there are (height + 1) // 2 of them. Two frames are equal if their sizes and samples are.
     """
 
     number: int
     width: int
     height: int
-    y: Any
-    u: Any
-    v: Any
+    y: Plane
+    u: Plane
+    v: Plane
+
+    def __eq__(self, other: object) -> bool:
+        if not isinstance(other, Frame):
+            return NotImplemented
+        return self[1:3] == other[1:3] and self.i420() == other.i420()
+
+    def __ne__(self, other: object) -> bool:
+        return not self == other
+
+    def __hash__(self) -> int:
+        return hash((self.width, self.height, self.i420()))
+
+    def __repr__(self) -> str:
+        return f"<Frame {self.number}, {self.width}x{self.height}>"
 
     def i420(self) -> bytes:
         """The samples of the three planes, one after the other."""
         return b"".join(plane.tobytes() for plane in (self.y, self.u, self.v))
 
-    def rgb(self, matrix: str = "601", full: bool = False) -> Any:
+    def rgb(self, matrix: str = "601", full: bool = False) -> Plane:
         """The picture as red, green and blue: a numpy array or a memoryview of height x width x 3 bytes.
 
         `matrix` is "601" or "709" (ITU-R BT.601 or BT.709); with `full` luma has 0 to 255, else 16 to 235. Each chroma sample
         is that of the four luma samples that it covers.
         """
         return colours.rgb(self, matrix, full)
+
+    def to_ndarray(self, format: str = "rgb24", matrix: str = "601", full: bool = False) -> Plane:
+        """The picture as a numpy array: "rgb24" or "bgr24" of height x width x 3, "gray" (the luma samples) of height x width, or "yuv420p", rows of luma and then those of chroma, as
+        PyAV and OpenCV have it; that has even sides only. `ImportError` without numpy."""
+        if numpy is None:
+            raise ImportError("to_ndarray needs numpy: install python3-numpy")
+        if format in ("rgb24", "bgr24"):
+            found = numpy.asarray(self.rgb(matrix, full))
+            return found if format == "rgb24" else numpy.ascontiguousarray(found[:, :, ::-1])
+        if format == "gray":
+            return numpy.asarray(self.y)
+        if format != "yuv420p":
+            raise ValueError(f'a format is "rgb24", "bgr24", "gray" or "yuv420p", and not {format!r}')
+        if self.width % 2 or self.height % 2:
+            raise ValueError(f"yuv420p has even sides, and the frame is {self.width}x{self.height}: take y, u and v")
+        return numpy.frombuffer(self.i420(), numpy.uint8).reshape(self.height * 3 // 2, self.width)
+
+    def to_image(self, matrix: str = "601", full: bool = False) -> "Image":
+        """The picture as an image of Pillow. `ImportError` without it."""
+        from PIL import Image
+
+        return Image.frombytes("RGB", (self.width, self.height), self.rgb(matrix, full).tobytes())
+
+    def _repr_png_(self) -> bytes:
+        """The picture as notebooks show it."""
+        return png.of_frame(self)
 
 
 def sides(width, height):

@@ -1,11 +1,13 @@
 """The files that a session was opened with, kept open so that the bytes of their packets can be read later."""
 
+import errno
 import hashlib
 import os
 import shutil
 import stat
 import tempfile
 import threading
+import weakref
 
 from . import checks
 from .. import system
@@ -16,11 +18,11 @@ WINDOW = 1 << 20
 
 
 class Input:
-    """A stream of a session: the word that the program gets for it, and its packets. Both read the same file."""
+    """A stream of a session: the word that the program gets for it, and its packets. Both read the same file. It is closed when it is collected."""
 
     def __init__(self, path):
         self.path = self.word = path
-        self.descriptor = None
+        self.descriptor, self.closing = None, None
         self.signature = None
         self.head = ivf.EMPTY
         self.index = None
@@ -31,19 +33,21 @@ class Input:
         self.is_shared, self.room = False, None
         if path == "-":
             return
-        try:
-            self.descriptor = os.open(path, os.O_RDONLY | system.BINARY)
-        except OSError:
-            # The program reports it.
-            return
+        self.hold(os.open(path, os.O_RDONLY | system.BINARY))
         kind = os.fstat(self.descriptor).st_mode
         if stat.S_ISDIR(kind):
             self.close()
-            return
+            raise IsADirectoryError(errno.EISDIR, os.strerror(errno.EISDIR), path)
         if not stat.S_ISREG(kind) or system.is_device(path):
             # Another process cannot open a pipe again, and /dev/stdin is another file there.
             self.share(stat.S_ISREG(kind))
         self.signature = self.sign(os.fstat(self.descriptor))
+
+    def hold(self, descriptor):
+        """Keeps a file open, and no other."""
+        if self.closing is not None:
+            self.closing()
+        self.descriptor, self.closing = descriptor, weakref.finalize(self, os.close, descriptor)
 
     def share(self, is_file):
         """Makes the program able to open what was opened here: by its descriptor, or as a copy where that has no path."""
@@ -61,10 +65,10 @@ class Input:
 
     def spool(self, file, path):
         """Copies a pipe to a file, and opens that by its path."""
-        with open(self.descriptor, "rb") as pipe:
+        with open(self.descriptor, "rb", closefd=False) as pipe:
             shutil.copyfileobj(pipe, file, 1 << 20)
         file.flush()
-        self.descriptor = os.open(path, os.O_RDONLY | system.BINARY)
+        self.hold(os.open(path, os.O_RDONLY | system.BINARY))
 
     @staticmethod
     def sign(found):
@@ -192,7 +196,7 @@ class Input:
 
     def close(self):
         if self.descriptor is not None:
-            os.close(self.descriptor)
+            self.closing()
             self.descriptor = None
         if self.room is not None:
             self.room.cleanup()
@@ -202,14 +206,26 @@ class Inputs:
     """The streams of a session, source 0 first."""
 
     def __init__(self, paths):
-        self.all, self.room = [], None
+        self.all, self.room, self.paths = [], None, []
         try:
             for path in paths:
-                self.all.append(Input(self.taken_out(path)))
+                self.paths.append(path if isinstance(path, str) else self.written(path))
+                self.all.append(Input(self.taken_out(self.paths[-1])))
         except BaseException:
             self.close()
             raise
-        self.paths = paths
+
+    def written(self, content):
+        """The path of a file with what was given in place of a path: the bytes of a file, or one that is open for reading, from where it is."""
+        if self.room is None:
+            self.room = rooms.Room()
+        path = os.path.join(self.room.name, f"given-{len(self.paths)}")
+        with open(path, "xb") as file:
+            if hasattr(content, "read"):
+                shutil.copyfileobj(content, file, 1 << 20)
+            else:
+                file.write(content)
+        return path
 
     def taken_out(self, path):
         """The path, or of a file in another container that of its packets."""

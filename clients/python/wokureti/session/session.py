@@ -2,18 +2,20 @@
 
 from __future__ import annotations
 
+import operator
 import os
 import pathlib
+import re
 import threading
 import time
-from typing import Any, Callable, ContextManager, Iterable, Iterator, NamedTuple, Optional, Union
+from typing import Any, BinaryIO, Callable, ContextManager, Iterable, Iterator, NamedTuple, Optional, Union, overload
 
 from .. import system
-from . import checks, named
-from ..tools import exports, files, muxing, programs, rooms
+from . import checks, named, outcomes
+from ..tools import exports, files, ivf, looks, muxing, programs, rooms
 from ..tools.progress import say
 from .edits import EditList
-from .errors import Ended, Refused, Unexported
+from .errors import Ended, NotVideo, Refused, Unexported
 from .frames import Frame, frame_of
 from .inputs import Inputs
 from .library import MOST_FILE, Library, NotExported, engine_of
@@ -22,9 +24,13 @@ from .pipes import Gone, Late, Pipes, Strange
 from .scripts import Script
 
 AnyPath = Union[str, bytes, "os.PathLike[str]", "os.PathLike[bytes]"]
+# A stream: its path, the bytes of its file, or an open file.
+AnyStream = Union[str, "os.PathLike[str]", "os.PathLike[bytes]", bytes, bytearray, memoryview, BinaryIO]
 AnyBytes = Union[bytes, bytearray, memoryview]
 # Lines and bytes that are sent at a time, at most.
 MOST_LINES, MOST_BYTES = 500, 1 << 18
+# What a program says of a file that does not begin as a stream.
+NO_STREAM = re.compile(r"(?:vp8serve|libwokureti): (?:input|source (\d+)) (?:Magic|Header|FourCc|HeaderLength)")
 # Packets of a source, at most.
 MOST_PACKETS = 1 << 20
 # Bytes of pictures that the program caches where nothing else is said.
@@ -40,9 +46,12 @@ class Count(NamedTuple):
 
 class Session:
     """A running vp8serve over an IVF file, or over an empty stream if `stream` is `-`. Of a file in another container, such as WebM, the packets
-    are taken out first, by ffmpeg or mkvextract.
+    are taken out first, by ffmpeg or mkvextract. A stream is a path, the bytes of a file, or a file that is open for reading. A file that cannot be opened is an `OSError`, such as
+    `FileNotFoundError`, and one that is no stream of VP8 is `NotVideo`, which says what it looks like.
 
-    `sources` are the paths of sources 1 to 7, `cache` the number of cached states, or `cache_bytes` the number of bytes that their pictures
+    `len(session)` is the number of frames, `session[3]` and `session[-1]` are frames, `session[3:9]` is a list of them, and a loop over a session has one frame after the other.
+
+    `sources` are sources 1 to 7, `cache` the number of cached states, or `cache_bytes` the number of bytes that their pictures
     may take, 512 MiB if neither is given, `tables` a file that replaces the RFC's long tables, and `save` the file that gets the packets of source 0 when the session
     is closed; with `pad` players that use libvpx show the packets of `blank` and `hold` in it too. `program` is the path of vp8serve, `lister` that of vp8list, which `packets` needs.
 
@@ -64,8 +73,8 @@ class Session:
 
     def __init__(
         self,
-        stream: AnyPath = "-",
-        sources: Iterable[AnyPath] = (),
+        stream: AnyStream = "-",
+        sources: Iterable[AnyStream] = (),
         cache: Optional[int] = None,
         tables: Optional[AnyPath] = None,
         save: Optional[AnyPath] = None,
@@ -103,12 +112,16 @@ class Session:
                 checks.outputs(edits, [*self._inputs.paths, *(path for path in (save, tables) if path is not None)], "edits")
             self._edits = EditList(self, edits, anyway)
             self._pipes = Pipes(words, self._inputs.shared) if self.engine == "program" else self._library(cache, cache_bytes, tables, save, pad)
+        except Ended as ended:
+            error = self._opening_error(ended)
+            self._close_files()
+            raise error from None
         except BaseException:
             self._close_files()
             raise
         try:
-            # The reply comes once the files were read, so a file that is missing, or not IVF, is reported here.
-            self.request("stats")
+            # The reply comes once the files were read, so a file that is not IVF is reported here.
+            self._first_request()
             if save is not None and self.engine == "program":
                 rooms.sweep()
                 self._unfinished = rooms.Unfinished(self._pipes.process.pid, save)
@@ -117,6 +130,27 @@ class Session:
         except BaseException:
             self.kill()
             raise
+
+    def _first_request(self):
+        try:
+            self.request("stats")
+        except Ended as ended:
+            raise self._opening_error(ended) from None
+
+    def _opening_error(self, ended):
+        """Why a session ended before it began: `NotVideo` with the name of the file, if one is no stream."""
+        found = NO_STREAM.fullmatch(ended.text)
+        if found is None:
+            return ended
+        path = self._inputs.paths[int(found.group(1) or 0)]
+        try:
+            with open(path, "rb") as file:
+                ivf.parse_head(file.read(ivf.HEAD.size))
+            return ended
+        except ivf.NotIvf as error:
+            return NotVideo(ended.status, looks.sentence(path, path, error))
+        except OSError:
+            return ended
 
     def _words(self, cache, cache_bytes, tables, save, pad):
         """The command line of the program."""
@@ -376,6 +410,45 @@ class Session:
             numbers = range(self.count(timeout).frames)
         for number in numbers:
             yield self.frame(number, timeout)
+
+    def __len__(self) -> int:
+        return self.count().frames
+
+    def __iter__(self) -> Iterator[Frame]:
+        return self.frames()
+
+    @overload
+    def __getitem__(self, number: int) -> Frame: ...
+
+    @overload
+    def __getitem__(self, number: slice) -> list[Frame]: ...
+
+    def __getitem__(self, number: Union[int, slice]) -> Union[Frame, list[Frame]]:
+        """A frame, from the end if its number is negative, or those of a slice. `IndexError` if there is none."""
+        count = self.count().frames
+        if isinstance(number, slice):
+            numbers = range(count)[number]
+            return [frame_of(one, *picture) for one, picture in zip(numbers, self.pictures(numbers))]
+        place = operator.index(number)
+        if not -count <= place < count:
+            raise IndexError(f"there is no frame {place}: the script serves {count} frames")
+        return self.frame(place % count)
+
+    @property
+    def width(self) -> int:
+        """The width of the first frame that is served, in luma samples. Nothing is decoded; 0 if there is none."""
+        return self._size[0]
+
+    @property
+    def height(self) -> int:
+        """The height of the first frame that is served."""
+        return self._size[1]
+
+    @property
+    def _size(self):
+        with self._locked(None):
+            runs = outcomes.of_script(self)
+            return next((outcome for _, outcome in runs if isinstance(outcome, tuple)), (0, 0))
 
     def use(self, source: int, timeout: Optional[float] = None) -> int:
         """Later edits act on this source. Like every edit it returns the number of packets of the current source."""
