@@ -88,7 +88,7 @@ def place(files, cpu, names):
     for name, data in [*files.items(), ("wokureti", WOKURETI.encode())]:
         fresh = BIN / f".{name}.{os.getpid()}"
         fresh.write_bytes(data)
-        fresh.chmod(0o755)
+        fresh.chmod(0o755 if data.startswith((b"\x7fELF", b"#!")) else 0o644)
         fresh.replace(BIN / name)
     write_names({**names, "processor": cpu, "proof": targets.of_build(cpu).sentence}, STAMP)
 
@@ -157,7 +157,7 @@ def ready(cpu):
             if f"program {target.programs[0]} for {cpu}" not in dist:
                 raise Failed(f"dist/ has no programs for {target.name}, {cpu}")
             names = [*target.programs, *([target.library] if f"{target.library} for {cpu}" in dist else [])]
-            files = {name: wheel.program(dist["version"], name, cpu) for name in names}
+            files = {name: wheel.program(dist["version"], name, cpu) for name in names} | sdk_of(target, dist)
             there = {"sources": dist["sources"], "version": dist["version"], "date": dist["date"], "origin": "dist"}
             place(files, cpu, there)
     how = "as it was proved and built on" if there["origin"] == "dist" else "as it was proved and built here on"
@@ -168,6 +168,17 @@ def ready(cpu):
     else:
         say(f"{line}; the sources were changed since: ./build.py proves and builds them" + ("" if shutil.which("rt") else ", which needs the Rattle kit"))
     return None
+
+
+def sdk_of(target, dist):
+    """What a compiler needs of the library of dist/, for bin/: the archive, the header and the files of pkg-config and CMake; nothing if dist/ has none."""
+    from release import library, sdk
+
+    build = target.builds[0]
+    if f"{sdk.ARCHIVE} for {build}" not in dist:
+        return {}
+    texts = {name: text.encode() for name, text in sdk.texts("", dist["version"]).items()}
+    return {sdk.ARCHIVE: wheel.program(dist["version"], sdk.ARCHIVE, build), library.HEADER.name: library.HEADER.read_bytes(), **texts}
 
 
 def link_all(objects, folder):
@@ -242,7 +253,7 @@ def names_of(sources, objects, programs, libraries):
 
 def name_of(name, cpu):
     """The name of the line that dist/SOURCES has of a program or library."""
-    return f"{'' if name == targets.of_build(cpu).library else 'program '}{name} for {cpu}"
+    return f"{'program ' if name in targets.of_build(cpu).programs else ''}{name} for {cpu}"
 
 
 def check_wheels(dist):
@@ -255,7 +266,7 @@ def check_wheels(dist):
     if wheels and others:
         raise Failed(f"dist/ has files that dist/SOURCES does not name: {', '.join(sorted(others))}")
     for target in targets.SHIPPED:
-        for name, cpu in [(name, cpu) for name in target.files for cpu in target.builds if name_of(name, cpu) in dist]:
+        for name, cpu in [(name, cpu) for name, cpu in target.made if name_of(name, cpu) in dist]:
             if hashlib.sha256(wheel.program(dist["version"], name, cpu)).hexdigest() != dist[name_of(name, cpu)]:
                 raise Failed(f"the wheel's {name} for {cpu} is not the one of dist/SOURCES")
 

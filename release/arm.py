@@ -12,7 +12,7 @@ import shutil
 import subprocess
 import sys
 
-from . import library, linked, proving
+from . import library, linked, proving, sdk
 from .sources import PROGRAMS, TOP, Failed, digest, kit_folder, kit_here, needed
 from .targets import ARM
 
@@ -129,6 +129,8 @@ def made_of(objects, parts, folder):
     made[library.SHARED, CPU] = folder / f"{library.SHARED}-{CPU}"
     library.link(objects[library.CRATE], made[library.SHARED, CPU], PREFIX, parts["kit_heap"])
     check_library(made[library.SHARED, CPU])
+    made[library.ARCHIVE, CPU] = folder / f"{library.ARCHIVE}-{CPU}"
+    library.pack(objects[library.CRATE], parts["kit_heap"], made[library.ARCHIVE, CPU], PREFIX)
     return made
 
 
@@ -143,13 +145,12 @@ def programs(room, is_proved, say):
 
 def build(room, folder, is_proved, say):
     """Puts the programs, the library, its archive and the header into a folder."""
-    made, objects = programs(room, is_proved, say)
+    made, _ = programs(room, is_proved, say)
     folder.mkdir(parents=True, exist_ok=True)
     for (name, _), path in made.items():
         shutil.copyfile(path, folder / name)
         (folder / name).chmod(0o755)
     shutil.copyfile(library.HEADER, folder / library.HEADER.name)
-    archive = folder / library.ARCHIVE
-    shutil.copyfile(objects[library.CRATE], archive)
-    ran(f"{PREFIX}ar", "rs", archive, functions(pathlib.Path(room))["kit_heap"])
+    for name, text in sdk.texts("").items():
+        (folder / name).write_text(text, encoding="ascii")
     say(f"{', '.join(name for name, _ in made)} for {ARM.name} are in {folder}: {ARM.sentence}")

@@ -8,42 +8,12 @@ import subprocess
 import sys
 import tempfile
 
-from . import proving
-from .sources import TOP, Failed, digest, kit_folder, kit_here, needed, version
+from . import proving, sdk
+from .sdk import ARCHIVE, SHARED
+from .sources import TOP, Failed, digest, kit_folder, kit_here, needed
 
 CRATE = "wokureti_c"
-SHARED, ARCHIVE = "libwokureti.so.0", "libwokureti.a"
 HEADER, SYMBOLS = TOP / "clients/c/include/wokureti.h", TOP / "clients/c/wokureti.map"
-PC = """prefix=${{pcfiledir}}
-Name: wokureti
-Description: Edited VP8 streams, frame by frame
-Version: {version}
-Libs: -L${{prefix}} -lwokureti
-Cflags: -I${{prefix}}
-"""
-
-# find_package(wokureti X.Y CONFIG) in CMake, with wokureti_DIR or CMAKE_PREFIX_PATH naming the folder.
-CMAKE = """if(NOT TARGET wokureti::wokureti)
-  add_library(wokureti::wokureti SHARED IMPORTED)
-  set_target_properties(wokureti::wokureti PROPERTIES
-    IMPORTED_LOCATION "${{CMAKE_CURRENT_LIST_DIR}}/{shared}"
-    IMPORTED_SONAME "{shared}"
-    INTERFACE_INCLUDE_DIRECTORIES "${{CMAKE_CURRENT_LIST_DIR}}")
-endif()
-"""
-# As Cargo has it: versions 0.x are compatible if x is the same, and none is older than the one that is asked for.
-CMAKE_VERSION = """set(PACKAGE_VERSION "{version}")
-string(REGEX MATCH "^[0-9]+\\.[0-9]+" wokureti_here "${{PACKAGE_VERSION}}")
-string(REGEX MATCH "^[0-9]+\\.[0-9]+" wokureti_asked "${{PACKAGE_FIND_VERSION}}")
-if(wokureti_here STREQUAL wokureti_asked AND NOT PACKAGE_VERSION VERSION_LESS PACKAGE_FIND_VERSION)
-  set(PACKAGE_VERSION_COMPATIBLE TRUE)
-endif()
-if(PACKAGE_VERSION VERSION_EQUAL PACKAGE_FIND_VERSION)
-  set(PACKAGE_VERSION_EXACT TRUE)
-endif()
-"""
-
-
 def prove_below(room, crates, is_proved, say, log):
     """Gives a copy of the library's crate the proved crates below it, and returns the copy. If `is_proved`, rt ci has proved them in this checkout."""
     folder = room / "library"
@@ -92,13 +62,22 @@ def link(made, out, prefix="", heap=None):
     ran(f"{prefix}gcc", *options, "-o", out, "-Wl,--whole-archive", made, "-Wl,--no-whole-archive", heap)
 
 
+def pack(made, heap, out, prefix=""):
+    """Makes the archive for static linking: the library's own, and the kit's heap."""
+    pathlib.Path(out).unlink(missing_ok=True)
+    script = f"create {out}\\naddlib {made}\\n{'addlib' if str(heap).endswith('.a') else 'addmod'} {heap}\\nsave\\nend\\n"
+    ran("sh", "-c", f"printf '{script}' | {prefix}ar -MD")
+
+
 def shared(room, cpus, is_proved, say):
-    """The shared library for each processor, by its name and processor."""
+    """The shared library for each processor, and the archive for the most general one, by their names and processors."""
     found = {}
     for cpu in cpus:
         say(f"building {SHARED} for {cpu}")
         found[SHARED, cpu] = pathlib.Path(room) / f"{SHARED}-{cpu}"
         link(compiled(pathlib.Path(room), cpu, is_proved, say)[0], found[SHARED, cpu])
+    found[ARCHIVE, cpus[0]] = pathlib.Path(room) / f"{ARCHIVE}-{cpus[0]}"
+    pack(compiled(pathlib.Path(room), cpus[0], is_proved, say)[0], kit_folder() / "c/liblibc_c.a", found[ARCHIVE, cpus[0]])
     return found
 
 
@@ -107,20 +86,16 @@ def build(room, folder, cpu, is_proved, say):
     for program in ("gcc", "ar"):
         if shutil.which(program) is None:
             raise Failed(f"the library is linked with {program}: install gcc and binutils")
-    made, heap = compiled(room, cpu, is_proved, say)[0], kit_folder() / "c/liblibc_c.a"
+    made = compiled(room, cpu, is_proved, say)[0]
     fresh = pathlib.Path(room) / "linked"
     shutil.rmtree(fresh, ignore_errors=True)
     fresh.mkdir()
     link(made, fresh / SHARED)
-    script = f"create {fresh / ARCHIVE}\\naddlib {made}\\naddlib {heap}\\nsave\\nend\\n"
-    ran("sh", "-c", f"printf '{script}' | ar -M")
+    pack(made, kit_folder() / "c/liblibc_c.a", fresh / ARCHIVE)
     shutil.copyfile(HEADER, fresh / HEADER.name)
-    for name, text in (("wokureti.pc", PC), ("wokureti-config.cmake", CMAKE), ("wokureti-config-version.cmake", CMAKE_VERSION)):
-        (fresh / name).write_text(text.format(version=version(), shared=SHARED), encoding="ascii")
+    for name, text in sdk.texts("").items():
+        (fresh / name).write_text(text, encoding="ascii")
     folder.mkdir(exist_ok=True)
     for path in fresh.iterdir():
         os.replace(path, folder / path.name)
-    name = folder / "libwokureti.so"
-    name.unlink(missing_ok=True)
-    name.symlink_to(SHARED)
     say(f"the library is in {folder}: {SHARED}, {ARCHIVE}, {HEADER.name}, wokureti.pc and wokureti-config.cmake")

@@ -6,9 +6,12 @@ The names of wheels, dist/SOURCES, the table in README.md and the second line of
 import platform
 from dataclasses import dataclass
 
+from .sdk import ARCHIVE
 from .sources import PROGRAMS, Failed
 
 VERDICT = "proved by the kit's verdict for this target"
+# Where the library is in a wheel's folder of data.
+PLACE = "data/lib/wokureti"
 
 
 @dataclass(frozen=True)
@@ -31,6 +34,8 @@ class Target:
     place: str = "scripts/{name}"
     place_of_library: str = "data/lib/wokureti/{name}"
     has_launcher: bool = False
+    # Whether the wheel has what a compiler needs: the archive of the library, for the most general processor, and the texts of `release/sdk.py`.
+    has_sdk: bool = False
     system: str = ""
     machines: tuple = ()
 
@@ -44,8 +49,15 @@ class Target:
         """The programs and the library."""
         return (*self.programs, *([self.library] if self.library else []))
 
+    @property
+    def made(self):
+        """Each file that is built, with its processor: for each processor the programs and the library, and the archive."""
+        return [(name, build) for build in self.builds for name in self.files] + ([(ARCHIVE, self.builds[0])] if self.has_sdk else [])
+
     def place_of(self, name, build):
-        """The place of a program or of the library for one of the `builds`."""
+        """The place of a program or of the library for one of the `builds`. The loader of glibc finds the library for a better processor below that of the most general one."""
+        if name == ARCHIVE or (name == self.library and build == self.builds[0]):
+            return f"{PLACE}/{name}"
         return (self.place_of_library if name == self.library else self.place).format(name=name, build=build)
 
     def wheel(self, version):
@@ -63,8 +75,9 @@ X86_64 = Target(
     tags=("manylinux_2_17_x86_64", "musllinux_1_1_x86_64"),
     builds=("x86-64-v2", "x86-64-v3"),
     place="data/lib/wokureti/{name}-{build}",
-    place_of_library="data/lib/wokureti/{build}/{name}",
+    place_of_library="data/lib/wokureti/glibc-hwcaps/{build}/{name}",
     has_launcher=True,
+    has_sdk=True,
     system="Linux",
     machines=("x86_64", "amd64"),
 )
@@ -76,6 +89,7 @@ ARM = Target(
     caution="run by us under an emulator only",
     tags=("manylinux_2_17_aarch64", "musllinux_1_1_aarch64"),
     builds=("aarch64",),
+    has_sdk=True,
     system="Linux",
     machines=("aarch64", "arm64"),
 )

@@ -5,8 +5,9 @@ import hashlib
 import pathlib
 import zipfile
 
+from . import sdk
 from .sources import DIST, TOP, Failed
-from .targets import VERDICT, of_build
+from .targets import PLACE, VERDICT, of_build
 
 CLIENT = TOP / "clients/python/wokureti"
 HEADER = TOP / "clients/c/include/wokureti.h"
@@ -49,6 +50,8 @@ def entries(target, version, programs, shared):
     for (name, cpu), path in sorted(programs.items()):
         yield in_wheel(version, target.place_of(name, cpu)), PROGRAM, pathlib.Path(path).read_bytes()
     yield in_wheel(version, f"data/include/{HEADER.name}"), FILE, HEADER.read_bytes()
+    for name, text in sdk.texts("/../../include", version).items() if target.has_sdk else ():
+        yield in_wheel(version, f"{PLACE}/{name}"), FILE, text.encode()
     for path, text in sorted(shared.items()):
         yield in_wheel(version, f"data/{path}"), FILE, text.encode()
     for name, text in about(target, version).items():

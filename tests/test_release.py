@@ -118,10 +118,56 @@ def check_pip(folder, sentence):
     expect("a session of the installed client", ran(prefix / "bin/python", "-c", SESSION, env=environment, cwd=folder)[:2], (0, f"{VERSION} 48 320 180\n"))
     within = SESSION.replace("Session(", "Session(engine='library', stream=", 1)
     expect("a session by the installed library", ran(prefix / "bin/python", "-c", within, env=environment, cwd=folder)[:2], (0, f"{VERSION} 48 320 180\n"))
+    check_sdk(prefix, folder, environment)
     for target in targets.SHIPPED:
         check_other(prefix, folder, target)
     expect("pip uninstall", ran(prefix / "bin/pip", "uninstall", "-q", "-y", "wokureti")[0], 0)
     expect("what is left", [path.name for path in (prefix / "bin").iterdir() if path.name in COMMANDS], [])
+
+
+def check_sdk(prefix, folder, environment):
+    """A C program is compiled as the guide says: by `wokureti --cflags --libs`, by pkg-config, with the archive, and by CMake."""
+    place, source = prefix / "lib/wokureti", TOP / "clients/c/session.c"
+    if not (place / "wokureti.pc").is_file():
+        return
+    if shutil.which("gcc") is None:
+        print("skipped: a C program over the installed library: there is no gcc")
+        return
+    status, words = ran(prefix / "bin/wokureti", "--cflags", "--libs", env=environment)[:2]
+    expect("wokureti --cflags --libs", (status, words.split()), (0, [f"-I{prefix}/include", f"-L{place}", "-lwokureti", f"-Wl,-rpath,{place}"]))
+    ways = {"wokureti --libs": words.split(), "the archive": [f"-I{prefix}/include", str(place / "libwokureti.a")]}
+    if shutil.which("pkg-config"):
+        found = ran("pkg-config", "--cflags", "--libs", "wokureti", env={**environment, "PKG_CONFIG_PATH": str(place)})
+        ways["pkg-config"] = [*found[1].split(), f"-Wl,-rpath,{place}"]
+    for name, options in ways.items():
+        made = folder / f"by {name}"
+        expect(f"a C program by {name}", ran("gcc", "-o", made, source, *options)[0], 0)
+        expect_session(made, name)
+    check_cmake(place, folder, source)
+
+
+def expect_session(made, name):
+    """The program answers request lines over the example."""
+    words = [made, "-", "4", "-", "-", "-", EXAMPLE]
+    done = subprocess.run(list(map(str, words)), input="count\nframe 3\n", capture_output=True, text=True, timeout=LIMIT, check=False)
+    expect(f"a C program by {name}", (done.returncode, done.stdout), (0, "packets 48 frames 48\nserved 3\n"))
+
+
+def check_cmake(place, folder, source):
+    """CMake finds the installed library, and refuses another minor version."""
+    if shutil.which("cmake") is None:
+        print("skipped: the installed library by CMake: there is no cmake")
+        return
+    major, minor = VERSION.split(".")[:2]
+    for asked, is_found in ((f"{major}.{minor}", True), (f"{major}.{int(minor) + 1}", False)):
+        project, built = folder / f"project {asked}", folder / f"built {asked}"
+        project.mkdir()
+        (project / "CMakeLists.txt").write_text(f'cmake_minimum_required(VERSION 3.10)\nproject(one C)\nfind_package(wokureti {asked} CONFIG REQUIRED)\nadd_executable(one "{source}")\ntarget_link_libraries(one wokureti::wokureti)\n')
+        status = ran("cmake", "-S", project, "-B", built, f"-Dwokureti_DIR={place}")[0]
+        expect(f"CMake for version {asked}", status == 0, is_found)
+        if is_found and status == 0:
+            expect("CMake's build", ran("cmake", "--build", built)[0], 0)
+            expect_session(built / "one", "CMake")
 
 
 def check_other(prefix, folder, target):
@@ -137,7 +183,7 @@ def check_other(prefix, folder, target):
 def check_files(file, target):
     """A wheel has each program and library of its target, for this system; those for Linux need no dynamic linker. Returns what it says of its proof."""
     names, sentence = file.namelist(), ""
-    for path in [target.place_of(name, build) for name in target.files for build in target.builds]:
+    for path in [target.place_of(name, build) for name, build in target.made]:
         expect(f"{path} in the wheel for {target.name}", f"wokureti-{VERSION}.data/{path}" in names, True)
     for name in names:
         data = file.read(name)

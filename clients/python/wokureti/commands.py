@@ -764,8 +764,19 @@ class Version(argparse.Action):
         parser.exit()
 
 
+def run_compiling(words):
+    """Prints the options of a compiler for the C library."""
+    from .session import library
+
+    folders = library.folders()
+    print(*(folders.cflags() if word == "--cflags" else folders.libs() for word in words))
+    return 0
+
+
 def parser_of():
     parser = argparse.ArgumentParser(prog="wokureti", description=ABOUT)
+    for name, what in (("--cflags", "where its header is"), ("--libs", "to link with it")):
+        parser.add_argument(name, action="store_true", help=f"print the options of a C compiler for libwokureti: {what}")
     parser.add_argument("--version", action=Version, nargs=0, help="show the version, and what is proved of this build")
     commands = parser.add_subparsers(metavar="COMMAND", required=True)
     add_open(commands)
@@ -786,7 +797,12 @@ def parser_of():
 def main(words=None):
     """Runs a command line, and returns the exit status."""
     system.prepare_output()
-    given = parser_of().parse_args(words)
+    words = sys.argv[1:] if words is None else words
+    if words and set(words) <= {"--cflags", "--libs"}:
+        # No command comes with them.
+        given = argparse.Namespace(run=lambda given: run_compiling(words))
+    else:
+        given = parser_of().parse_args(words)
     recordings.chosen = getattr(given, "stream_number", None)
     end_by_signals()
     rooms.sweep()

@@ -385,6 +385,11 @@ def builds():
     return (["x86-64-v3"] if V3 <= flags else []) + ["x86-64-v2"]
 
 
+def library_places():
+    """Where the libraries that run here are, from the folder of the library of an installed package: the one for the best processor first, as glibc's loader has it."""
+    return [f"glibc-hwcaps/{build}" for build in builds()[:-1]] + [""]
+
+
 def state_folder():
     """The folder for what a program of this user keeps."""
     named = os.environ.get("XDG_STATE_HOME", "")

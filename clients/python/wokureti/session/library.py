@@ -5,11 +5,13 @@ A session of the library stays on the thread that opened it, so each has a worke
 
 import ctypes
 import os
+import pathlib
 import queue
 import re
 import threading
 import time
 import weakref
+from typing import NamedTuple
 
 from .. import system
 from . import checks
@@ -91,8 +93,36 @@ def find():
     named = os.environ.get("LIBWOKURETI")
     if named:
         return named
-    places = [folder / "lib/wokureti" / cpu / system.LIBRARY for folder in programs.HERE.parents for cpu in system.builds()] + [programs.TREE / "bin" / system.LIBRARY]
+    places = [folder / "lib/wokureti" / place / system.LIBRARY for folder in programs.HERE.parents for place in system.library_places()] + [programs.TREE / "bin" / system.LIBRARY]
     return next((str(path) for path in places if path.is_file()), None)
+
+
+class Folders(NamedTuple):
+    """Where a compiler finds the header, and the library."""
+
+    header: str
+    library: str
+
+    def cflags(self):
+        return f"-I{self.header}"
+
+    def libs(self):
+        return f"-L{self.library} -lwokureti -Wl,-rpath,{self.library}"
+
+
+def folders():
+    """The folders of the header and of the library that is found here. `OSError` if one has no header."""
+    path = find()
+    if path is None:
+        raise OSError(f"{system.LIBRARY} is not there: ./serve.sh puts it into bin/")
+    folder = pathlib.Path(path).resolve().parent
+    if folder.parent.name == "glibc-hwcaps":
+        # The loader finds the one for this processor from the folder of the most general one.
+        folder = folder.parent.parent
+    for header in (folder, folder.parent.parent / "include"):
+        if (header / "wokureti.h").is_file():
+            return Folders(str(header), str(folder))
+    raise OSError(f"{folder} has the library, but wokureti.h is not next to it: ./serve.sh or ./build.py --library puts it into bin/")
 
 
 def number_of(version):
