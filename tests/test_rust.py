@@ -70,6 +70,13 @@ def main():
         room = {**os.environ, "WOKURETI_LIB": folder, "CARGO_TARGET_DIR": f"{folder}/target", "LD_LIBRARY_PATH": folder}
         ran = subprocess.run(["cargo", "test", "--offline", "--locked", "--quiet"], cwd=TOP / "clients/rust", env=room, capture_output=True, text=True, timeout=LIMIT, check=False)
         wrong = [ran.stdout[-4000:] + ran.stderr[-4000:]] if ran.returncode else list(of_readme(pathlib.Path(folder), room))
+        if LIBRARY.with_name("libwokureti.a").is_file() and not wrong:
+            # With the archive the program needs no library where it runs.
+            alone = pathlib.Path(folder, "alone")
+            alone.mkdir()
+            room = {**os.environ, "WOKURETI_LIB": str(LIBRARY.parent), "WOKURETI_STATIC": "1", "CARGO_TARGET_DIR": f"{alone}/target"}
+            room.pop("LD_LIBRARY_PATH", None)
+            wrong = [f"with the archive: {text}" for text in of_readme(alone, room)]
     print(*wrong, sep="\n", end="\n" if wrong else "")
     return 1 if wrong else 0
 
