@@ -15,7 +15,7 @@ from array import array
 from unittest import mock
 
 from support import SLOW, SMALL, Case, command, packets_of, start, write_packets
-from wokureti.tools import blocks, containers, convert, excerpts, ivf, matroska, muxing, opus, paces, programs, sounds, times
+from wokureti.tools import blocks, containers, convert, ends, excerpts, ivf, matroska, muxing, opus, paces, programs, sounds, times
 
 MS = 10**6
 HAS_FFMPEG = bool(shutil.which("ffmpeg") and shutil.which("ffprobe"))
@@ -687,6 +687,21 @@ class Blocks(Case):
         for at in range(start, start + 4):
             self.assertEqual(blocks.damage(data[:at] + b"\0" + data[at + 1 :]).is_cut, False)
 
+    def test_the_short_way_finds_the_same_damage(self):
+        """Blocks that are not in a group are read by fewer steps."""
+        dice, (whole, _) = random.Random(3), self.file()
+        starts = [place for place in range(len(whole) - 9) if blocks.simple_end(whole, place) > place]
+        self.assertGreater(len(starts), 300)
+        for turn in range(600):
+            data = bytearray(whole[: dice.randrange(200, 9000)])
+            for _ in range(dice.randrange(5)):
+                # The number, the length, the track of a block, or anything.
+                place = dice.choice((dice.choice(starts) + dice.randrange(5), dice.randrange(len(data)))) % len(data)
+                data[place] = dice.choice((0, 0x1F, 0x20, 0x40, 0x7F, 0x80, 0xFF, dice.randrange(256)))
+            found = blocks.damage(data)
+            with mock.patch.object(blocks, "simple_end", return_value=0):
+                self.assertEqual(found, blocks.damage(data), turn)
+
     def test_half_of_a_file(self):
         data, made = self.file()
         found, rest = self.found(data[: len(data) // 2])
@@ -742,6 +757,47 @@ class Cut(Case):
                     found, _, errors = command(*words, *more)
                     self.assertEqual(found, status, (name, errors))
                     self.assertIn(f"{path} ends in the middle", errors)
+
+    def test_other_containers(self):
+        """The programs that read them do not say that they end in the middle; a file that was written to a pipe is whole."""
+        room = self.folder()
+        for ending in ("avi", "ogg"):
+            whole, piped = room / f"whole.{ending}", room / f"piped.{ending}"
+            ffmpeg("-i", clip("talk.webm"), "-an", "-c", "copy", whole)
+            with open(piped, "wb") as file:
+                subprocess.run(["ffmpeg", "-nostdin", "-v", "error", "-i", clip("talk.webm"), "-an", "-c", "copy", "-f", ending, "-"], stdout=file, check=True, timeout=20 * SLOW)
+            data = whole.read_bytes()
+            for path in (whole, piped):
+                status, _, errors = command("export", path, room / "out.ivf", "-y")
+                self.assertEqual((status, "ends in the middle" in errors), (0, False), (path, errors))
+            half = room / f"half.{ending}"
+            for length in (len(data) // 2, len(data) - 100):
+                half.write_bytes(data[:length])
+                for name, words in (("export", (half, room / "out.ivf", "-y")), ("repair", (half, room / "out.ivf", "-y"))):
+                    status, _, errors = command(name, *words)
+                    self.assertIn(status, (1, 2) if name == "repair" else (1,), (length, errors))
+                    self.assertIn(f"{half} ends in the middle, after {length:,} bytes: the packets that followed are missing\n", errors)
+                self.assertEqual(command("export", half, room / "out.ivf", "-y", "--anyway")[0], 0)
+
+    def test_ends(self):
+        """Of each kind: whole, and cut off at each byte that a reader would not miss."""
+        chunk = lambda name, data: name + len(data).to_bytes(4, "little") + data + bytes(len(data) % 2)  # noqa: E731
+        box = lambda name, data: (8 + len(data)).to_bytes(4, "big") + name + data  # noqa: E731
+        page = lambda serial, flags, data: b"OggS\0" + bytes([flags]) + bytes(8) + serial.to_bytes(4, "little") + bytes(8) + bytes([1, len(data)]) + data  # noqa: E731
+        cases = (
+            ("AVI", chunk(b"RIFF", b"AVI " + bytes(31)) + chunk(b"RIFF", b"AVIX" + bytes(20)), 24 + 8 + 44),
+            ("MP4", box(b"ftyp", b"isom") + (1).to_bytes(4, "big") + b"mdat" + (36).to_bytes(8, "big") + bytes(20) + box(b"moov", bytes(9)), 12 + 36 + 17),
+            ("Ogg", page(1, 2, b"head") + page(2, 2, b"head") + page(1, 4, b"end") + page(2, 0, b"data") + page(2, 4, b"end"), 5 * 28 + 4 + 4 + 3 + 4 + 3),
+        )
+        for kind, data, length in cases:
+            self.assertEqual((len(data), ends.is_cut(kind, data)), (length, False), kind)
+            found = [cut for cut in range(1, len(data)) if not ends.is_cut(kind, data[:cut])]
+            # Between two parts of a file that may have one part or several nothing is missed.
+            self.assertEqual(found, {"AVI": [43, 44], "MP4": [12, 48], "Ogg": []}[kind], kind)
+        self.assertFalse(ends.is_cut("AVI", b"RIFF\xff\xff\xff\xffAVI " + bytes(9)))
+        self.assertFalse(ends.is_cut("AVI", cases[0][1] + b"JUNK"))
+        self.assertFalse(ends.is_cut("MP4", box(b"ftyp", b"isom") + bytes(4) + b"mdat" + bytes(99)))
+        self.assertFalse(ends.is_cut("WebM or Matroska", b""))
 
     def test_an_ivf_file(self):
         path = self.folder() / "cut.ivf"

@@ -513,7 +513,7 @@ def run_repair(given):
         print(line)
     before = len(salvage_count(data))
     print(f"{len(packets)} packets written, {before} are read without repair; {found.changes} changes")
-    return 2 if found.left else 1 if found.changes else 0
+    return 2 if found.left else 1 if found.changes or containers.damage_of(path) else 0
 
 
 def write_repaired(given, path, head, packets):

@@ -2,8 +2,8 @@
 
 Python's `av` reads a container if it is installed, else ffmpeg. Times are in nanoseconds, and those of the file."""
 
+import itertools
 import json
-import math
 import os
 import re
 import shutil
@@ -123,13 +123,18 @@ def rate_of(path, named):
     there is no step, the named one."""
     with open(path, "rb") as file:
         head, index = ivf.read_index(file.fileno())
-    steps = times.steps_of(index.stamps, index.tags)
+    return rate_of_stamps(head, index.stamps, index.tags, named)
+
+
+def rate_of_stamps(head, stamps, tags, named):
+    """The same of a file with this head, and packets with these time stamps and tags."""
+    steps = times.steps_of(stamps, tags)
     if not steps:
         return named
     step = statistics.median_low(steps)
     if named is not None and abs(named[1] / named[0] - step * head.scale / head.rate) <= ROUNDED:
         return named
-    return times.rate_of(index.stamps, index.tags, times.base_of(head))
+    return times.rate_of(stamps, tags, times.base_of(head))
 
 
 # By ffmpeg
@@ -141,8 +146,7 @@ def read_by_ffmpeg(path, out, watch=NOBODY):
     video = next((one for one in facts["streams"] if one.get("codec_type") == "video" and not one.get("disposition", {}).get("attached_pic")), None)
     check_video(path, video and video.get("codec_name"))
     [pictures, *sounds], said = copy_tracks(path, facts["streams"], [video["index"]], out, watch)
-    write_ivf(out, video, pictures)
-    rate = rate_of(out, fraction(video.get("avg_frame_rate", "0/0")))
+    rate = rate_of_stamps(*write_ivf(out, video, pictures), fraction(video.get("avg_frame_rate", "0/0")))
     tags = video.get("tags", {})
     return Media(path, rate, kept_tags(facts.get("format", {}).get("tags", {})), kept_tags(tags), tags.get("language", "und"), sounds, said)
 
@@ -173,14 +177,23 @@ def copy_tracks(path, streams, more, out, watch=NOBODY):
 
 
 def write_ivf(path, facts, track):
-    """Writes the packets of a track of video as an IVF file, with the time base of the container."""
-    base = fraction(facts.get("time_base", "")) or (1, 1000)
+    """Writes the packets of a track of video as an IVF file, with the time base of the container. Returns its head, and the time stamps and tags of its packets."""
+    base, tags = fraction(facts.get("time_base", "")) or (1, 1000), bytearray()
     head = ivf.Head(int(facts.get("width", 0)), int(facts.get("height", 0)), base[1], base[0])
     # A time was rounded down to a nanosecond.
-    stamps = (-(-time * base[1] // (base[0] * NANO)) % (1 << 64) for time in track.times)
-    with open(path, "wb") as file:
-        file.writelines(ivf.pieces(head, len(track.sizes), zip(stamps, track.packets(range(len(track.sizes))))))
+    stamps = array("Q", (-(-time * base[1] // (base[0] * NANO)) % (1 << 64) for time in track.times))
+    with open(track.path, "rb") as packets, open(path, "wb") as file:
+        file.writelines(ivf.pieces(head, len(stamps), tagged(zip(stamps, map(packets.read, track.sizes)), tags)))
     os.unlink(track.path)
+    return head, stamps, tags
+
+
+def tagged(packets, tags):
+    """The packets, whose tags are added to those that are known."""
+    for packet in packets:
+        data = packet[1]
+        tags.append(ivf.tag_of(len(data), data[0] if data else 0))
+        yield packet
 
 
 def check_video(path, codec):
@@ -200,20 +213,10 @@ def fraction(text):
 
 def sound_of(facts, path, times_path):
     """The track of sound of what ffprobe says, of the packets in a file, and of the list of their times."""
-    starts, sizes, times, durations = array("Q"), array("I"), array("q"), array("q")
-    place, base = 0, (1, 1000)
-    with open(times_path, encoding="ascii", errors="replace") as file:
-        for line in file:
-            if line.startswith("#tb "):
-                base = fraction(line.split(":")[1].strip()) or base
-            elif not line.startswith("#"):
-                _, _, time, duration, size, _ = (word.strip() for word in line.split(",")[:6])
-                starts.append(place)
-                sizes.append(int(size))
-                times.append(int(time) * base[0] * NANO // base[1])
-                durations.append(int(duration) * base[0] * NANO // base[1])
-                place += int(size)
+    (times, durations), sizes = times_of(times_path)
     os.unlink(times_path)
+    starts = array("Q", itertools.accumulate(sizes, initial=0))
+    place = starts.pop()
     if place != os.path.getsize(path):
         raise Failed(f"ffmpeg lists {place} bytes of sound, and wrote {os.path.getsize(path)}")
     tags = facts.get("tags", {})
@@ -221,6 +224,23 @@ def sound_of(facts, path, times_path):
         facts.get("codec_name", ""), undumped(facts.get("extradata", "")), int(facts.get("sample_rate", 0)), int(facts.get("channels", 0)),
         kept_tags(tags), tags.get("language", "und"), facts["index"], path, starts, sizes, times, durations,
     )  # fmt: skip
+
+
+def times_of(path):
+    """The times and the durations of packets, in nanoseconds, and their sizes, of a list that ffmpeg's framecrc wrote."""
+    columns, sizes, base = (array("q"), array("q")), array("I"), (1, 1000)
+    add_time, add_duration, add_size = columns[0].append, columns[1].append, sizes.append
+    with open(path, encoding="ascii", errors="replace") as file:
+        for line in file:
+            if line[0] == "#":
+                base = (fraction(line.split(":")[1].strip()) or base) if line.startswith("#tb ") else base
+                continue
+            row = line.split(",", 5)
+            add_time(int(row[2]))
+            add_duration(int(row[3]))
+            add_size(int(row[4]))
+    unit, ticks = base[0] * NANO, base[1]
+    return [array("q", [value * unit // ticks for value in column]) for column in columns], sizes
 
 
 def undumped(text):

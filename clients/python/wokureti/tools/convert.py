@@ -7,7 +7,7 @@ import shutil
 import stat
 
 from .. import system
-from . import blocks, containers, ivf, looks
+from . import blocks, containers, ends, ivf, looks
 from ..session import checks
 from .progress import Stages, say
 
@@ -124,14 +124,15 @@ def taken_out(path, folder, name, kind, is_quiet, watch=None):
         stages.stage(f"taking the packets out of {name}")
         tool = read(path, out, name, kind, stages)
         stages.stage(f"looking for damage of {name}")
-        containers.damaged[out] = damage_of(path, name, kind)
+        containers.damaged[out] = damage_of(path, name, kind, stages)
     media = containers.media_of(out)
     if not is_quiet:
-        say(f"{name} is a {kind} file; {tool} took its packets out without coding them again{sound_text(media)}")
+        say(f"{name} is {'an' if kind[0] in 'AO' else 'a'} {kind} file; {tool} took its packets out without coding them again{sound_text(media)}")
     if media is not None and media.said and not containers.damaged[out]:
         containers.damaged[out] = [f"{tool} complains of {name}: {'; '.join(media.said.splitlines()[:3])}"]
+    helps = ". `wokureti repair` searches a damaged file for all its packets" if kind == "WebM or Matroska" else ""
     for text in containers.damaged[out]:
-        say(f"{text}. `wokureti repair` searches a damaged file for all its packets")
+        say(f"{text}{helps}")
     return out
 
 
@@ -149,12 +150,11 @@ def read(path, out, name, kind, watch):
     return "mkvextract"
 
 
-def damage_of(path, name, kind):
-    """Sentences about the damage of a WebM or Matroska file: the programs that read one go on after it, or end, and do not always say so."""
-    if kind != "WebM or Matroska":
-        return []
+def damage_of(path, name, kind, watch=containers.NOBODY):
+    """Sentences about the damage of a file: the programs that read one go on after it, or end, and do not always say so."""
     with open(path, "rb") as file, mmap.mmap(file.fileno(), 0, access=mmap.ACCESS_READ) as data:
-        found, size = blocks.damage(data), len(data)
+        size = len(data)
+        found = blocks.damage(data, watch) if kind == "WebM or Matroska" else blocks.Damage(size, True) if ends.is_cut(kind, data) else None
     if found is None:
         return []
     if found.is_cut:
