@@ -1,5 +1,6 @@
 """WebM and Matroska files in and out, and their sound."""
 
+import io
 import itertools
 import json
 import os
@@ -8,6 +9,7 @@ import pty
 import random
 import shutil
 import subprocess
+import sys
 import tempfile
 import time
 import unittest
@@ -15,7 +17,7 @@ from array import array
 from unittest import mock
 
 from support import SLOW, SMALL, Case, command, packets_of, start, write_packets
-from wokureti.tools import blocks, containers, convert, ends, excerpts, ivf, matroska, muxing, opus, paces, programs, sounds, times
+from wokureti.tools import blocks, containers, convert, ends, excerpts, ivf, matroska, muxing, opus, paces, programs, progress, sounds, times
 
 MS = 10**6
 HAS_FFMPEG = bool(shutil.which("ffmpeg") and shutil.which("ffprobe"))
@@ -383,20 +385,27 @@ class HowFar(Case):
         return {"PATH": f"{room}:{os.environ['PATH']}"}
 
     def test_each_program(self):
-        path, heard = clip("talk.webm"), []
-        watch = mock.Mock(**{"part.side_effect": lambda *given: heard.append(given)})
+        path = clip("talk.webm")
+        size = path.stat().st_size
         for name in ("ffmpeg", "mkvextract", "av"):
             if not (containers.has_av() if name == "av" else shutil.which(name)):
                 continue
-            heard.clear()
-            with self.subTest(name), mock.patch.dict(os.environ, self.slow("ffmpeg", "mkvextract") if name != "av" else {}), mock.patch.object(containers, "MANY", 1):
+            heard = []
+            watch = mock.Mock(**{"stage.side_effect": lambda text: heard.append((text, [])), "part.side_effect": lambda *given: heard[-1][1].append(given)})
+            looks = (mock.patch.object(containers, "MANY", 1), mock.patch.object(containers, "PIECE", 100), mock.patch.object(blocks, "MANY", 1))
+            with self.subTest(name), mock.patch.dict(os.environ, self.slow("ffmpeg", "mkvextract") if name != "av" else {}), looks[0], looks[1], looks[2]:
                 with mock.patch.object(containers, "has_av", return_value=name == "av"), mock.patch.object(containers, "can_read", return_value=name != "mkvextract"):
                     out = convert.as_ivf(path, str(self.folder()), is_quiet=True, watch=watch)
                 self.assertEqual(len(packets_of(out)), len(packets_of(media(path, self.folder())[1])))
-                size = path.stat().st_size
-                self.assertEqual([total for _, total in heard], [size] * len(heard))
-                self.assertTrue(heard and 0 < heard[-1][0] <= size and heard == sorted(heard), heard)
-        self.assertEqual([given.args[0] for given in watch.stage.call_args_list[:2]], [f"taking the packets out of {path}", f"looking for damage of {path}"])
+                stages = ["taking the packets out of", *(["listing the packets of"] if name == "ffmpeg" else []), "looking for damage of"]
+                self.assertEqual([text for text, _ in heard], [f"{text} {path}" for text in stages])
+                for text, parts in heard:
+                    # Of the file, and of the list of each of its two tracks.
+                    totals = {total for _, total in parts}
+                    self.assertEqual((len(totals), size in totals), (2, False) if text.startswith("listing") else (1, True), text)
+                    for total in totals:
+                        mine = [done for done, of in parts if of == total]
+                        self.assertTrue(mine == sorted(mine) and 0 < mine[-1] <= total, (text, mine))
 
     def test_a_terminal_shows_it(self):
         """Of each command: one that has a line of its own, and one that has none."""
@@ -414,6 +423,22 @@ class HowFar(Case):
             os.close(ours)
             process.wait(20 * SLOW)
             self.assertRegex(said.decode(), r"taking the packets out of .*silent\.webm: \d+ %, \d+ s", words[0])
+
+    def test_a_terminal_shows_how_far_a_large_file_is_read(self):
+        """Each step of it has per cent, once it takes a second."""
+        room, said = self.folder(), io.StringIO()
+        watch = progress.Stages()
+        with mock.patch.object(progress, "TICK", 0.01), mock.patch.object(progress, "SOON", 0), mock.patch.object(sys, "stderr", mock.Mock(wraps=said, isatty=lambda: True)), watch:
+            real = watch.part
+
+            def slow(done, total):
+                real(done, total)
+                time.sleep(0.03)
+
+            with mock.patch.object(watch, "part", slow), mock.patch.object(containers, "PIECE", 1000), mock.patch.object(blocks, "MANY", 50):
+                convert.as_ivf(clip("talk.webm"), str(room), is_quiet=True, watch=watch)
+        for text in ("listing the packets of", "looking for damage of"):
+            self.assertRegex(said.getvalue(), rf"{text} .*talk\.webm: \d+ %, \d+ s", text)
 
     def test_what_is_no_terminal_is_told_once(self):
         status, _, errors = command("cat", clip("silent.webm"), "/dev/null", env=self.slow("ffmpeg"))

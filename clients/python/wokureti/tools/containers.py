@@ -18,8 +18,8 @@ from .progress import Watch
 from ..session import checks
 
 MOST_TIME = 3600
-# Seconds between two looks at how much a program wrote; packets between two looks at how far reading is.
-OFTEN, MANY = 0.2, 256
+# Seconds between two looks at how much a program wrote; packets, and bytes of a list of them, between two looks at how far reading is.
+OFTEN, MANY, PIECE = 0.2, 256, 1 << 18
 NANO = 10**9
 # Nobody is told how far it is.
 NOBODY = Watch()
@@ -173,7 +173,8 @@ def copy_tracks(path, streams, more, out, watch=NOBODY):
     # What the writers of these lists say is not of the file: they are given hidden packets with the time of the next one.
     look = part_of(path, [f"{out}.track{number}" for number in range(len(wanted))], watch)
     said = [line for line in run(words, look)[1].splitlines() if not line.startswith(("[data @", "[framecrc @"))] if wanted else []
-    return [sound_of(one, f"{out}.track{number}", f"{out}.times{number}") for number, one in enumerate(wanted)], "\n".join(said)
+    watch.stage(f"listing the packets of {os.fsdecode(path)}")
+    return [sound_of(one, f"{out}.track{number}", f"{out}.times{number}", watch) for number, one in enumerate(wanted)], "\n".join(said)
 
 
 def write_ivf(path, facts, track):
@@ -211,9 +212,9 @@ def fraction(text):
     return pair if all(pair) else None
 
 
-def sound_of(facts, path, times_path):
+def sound_of(facts, path, times_path, watch=NOBODY):
     """The track of sound of what ffprobe says, of the packets in a file, and of the list of their times."""
-    (times, durations), sizes = times_of(times_path)
+    (times, durations), sizes = times_of(times_path, watch)
     os.unlink(times_path)
     starts = array("Q", itertools.accumulate(sizes, initial=0))
     place = starts.pop()
@@ -226,19 +227,23 @@ def sound_of(facts, path, times_path):
     )  # fmt: skip
 
 
-def times_of(path):
+def times_of(path, watch=NOBODY):
     """The times and the durations of packets, in nanoseconds, and their sizes, of a list that ffmpeg's framecrc wrote."""
     columns, sizes, base = (array("q"), array("q")), array("I"), (1, 1000)
     add_time, add_duration, add_size = columns[0].append, columns[1].append, sizes.append
+    done, total = 0, os.path.getsize(path)
     with open(path, encoding="ascii", errors="replace") as file:
-        for line in file:
-            if line[0] == "#":
-                base = (fraction(line.split(":")[1].strip()) or base) if line.startswith("#tb ") else base
-                continue
-            row = line.split(",", 5)
-            add_time(int(row[2]))
-            add_duration(int(row[3]))
-            add_size(int(row[4]))
+        while lines := file.readlines(PIECE):
+            done += sum(map(len, lines))
+            watch.part(done, total)
+            for line in lines:
+                if line[0] == "#":
+                    base = (fraction(line.split(":")[1].strip()) or base) if line.startswith("#tb ") else base
+                    continue
+                row = line.split(",", 5)
+                add_time(int(row[2]))
+                add_duration(int(row[3]))
+                add_size(int(row[4]))
     unit, ticks = base[0] * NANO, base[1]
     return [array("q", [value * unit // ticks for value in column]) for column in columns], sizes
 
