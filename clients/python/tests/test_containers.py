@@ -397,12 +397,13 @@ class HowFar(Case):
                 with mock.patch.object(containers, "has_av", return_value=name == "av"), mock.patch.object(containers, "can_read", return_value=name != "mkvextract"):
                     out = convert.as_ivf(path, str(self.folder()), is_quiet=True, watch=watch)
                 self.assertEqual(len(packets_of(out)), len(packets_of(media(path, self.folder())[1])))
-                stages = ["taking the packets out of", *(["listing the packets of"] if name == "ffmpeg" else []), "looking for damage of"]
+                stages = ["taking the packets out of", *(["listing the packets of", "copying the packets of"] if name == "ffmpeg" else []), "looking for damage of"]
                 self.assertEqual([text for text, _ in heard], [f"{text} {path}" for text in stages])
                 for text, parts in heard:
-                    # Of the file, and of the list of each of its two tracks.
+                    # Of the file, of the list of each of its two tracks, and of the packets of the video.
                     totals = {total for _, total in parts}
-                    self.assertEqual((len(totals), size in totals), (2, False) if text.startswith("listing") else (1, True), text)
+                    wanted = {"listing": (2, False), "copying": (1, False)}.get(text.split()[0], (1, True))
+                    self.assertEqual((len(totals), size in totals), wanted, text)
                     for total in totals:
                         mine = [done for done, of in parts if of == total]
                         self.assertTrue(mine == sorted(mine) and 0 < mine[-1] <= total, (text, mine))
@@ -435,9 +436,9 @@ class HowFar(Case):
                 real(done, total)
                 time.sleep(0.03)
 
-            with mock.patch.object(watch, "part", slow), mock.patch.object(containers, "PIECE", 1000), mock.patch.object(blocks, "MANY", 50):
+            with mock.patch.object(watch, "part", slow), mock.patch.object(containers, "PIECE", 1000), mock.patch.object(containers, "MANY", 20), mock.patch.object(blocks, "MANY", 50):
                 convert.as_ivf(clip("talk.webm"), str(room), is_quiet=True, watch=watch)
-        for text in ("listing the packets of", "looking for damage of"):
+        for text in ("listing the packets of", "copying the packets of", "looking for damage of"):
             self.assertRegex(said.getvalue(), rf"{text} .*talk\.webm: \d+ %, \d+ s", text)
 
     def test_what_is_no_terminal_is_told_once(self):

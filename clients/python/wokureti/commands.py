@@ -457,6 +457,7 @@ def run_script(given, streams, script_of, inputs=()):
     with rooms.Room() as room, progress.Stages() as stages:
         stages.stage("reading the packets")
         paths = [convert.as_ivf(path, room, watch=stages) for path in streams]
+        stages.stage("opening the streams" if len(streams) > 1 else f"opening {os.fsdecode(streams[0])}")
         with cat.open_session(paths[0], paths[1:], edits, script, given.tables, program, given.anyway) as session:
             if script_of is not None:
                 session.request(f"script {script_of(exports.Frames(session.edits.contents()))}")

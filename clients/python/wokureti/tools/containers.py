@@ -146,7 +146,8 @@ def read_by_ffmpeg(path, out, watch=NOBODY):
     video = next((one for one in facts["streams"] if one.get("codec_type") == "video" and not one.get("disposition", {}).get("attached_pic")), None)
     check_video(path, video and video.get("codec_name"))
     [pictures, *sounds], said = copy_tracks(path, facts["streams"], [video["index"]], out, watch)
-    rate = rate_of_stamps(*write_ivf(out, video, pictures), fraction(video.get("avg_frame_rate", "0/0")))
+    watch.stage(f"copying the packets of {os.fsdecode(path)}")
+    rate = rate_of_stamps(*write_ivf(out, video, pictures, watch), fraction(video.get("avg_frame_rate", "0/0")))
     tags = video.get("tags", {})
     return Media(path, rate, kept_tags(facts.get("format", {}).get("tags", {})), kept_tags(tags), tags.get("language", "und"), sounds, said)
 
@@ -177,24 +178,26 @@ def copy_tracks(path, streams, more, out, watch=NOBODY):
     return [sound_of(one, f"{out}.track{number}", f"{out}.times{number}", watch) for number, one in enumerate(wanted)], "\n".join(said)
 
 
-def write_ivf(path, facts, track):
+def write_ivf(path, facts, track, watch=NOBODY):
     """Writes the packets of a track of video as an IVF file, with the time base of the container. Returns its head, and the time stamps and tags of its packets."""
     base, tags = fraction(facts.get("time_base", "")) or (1, 1000), bytearray()
     head = ivf.Head(int(facts.get("width", 0)), int(facts.get("height", 0)), base[1], base[0])
     # A time was rounded down to a nanosecond.
     stamps = array("Q", (-(-time * base[1] // (base[0] * NANO)) % (1 << 64) for time in track.times))
     with open(track.path, "rb") as packets, open(path, "wb") as file:
-        file.writelines(ivf.pieces(head, len(stamps), tagged(zip(stamps, map(packets.read, track.sizes)), tags)))
+        file.writelines(ivf.pieces(head, len(stamps), tagged(zip(stamps, map(packets.read, track.sizes)), tags, len(stamps), watch)))
     os.unlink(track.path)
     return head, stamps, tags
 
 
-def tagged(packets, tags):
-    """The packets, whose tags are added to those that are known."""
-    for packet in packets:
+def tagged(packets, tags, count, watch):
+    """The packets, so many of them, whose tags are added to those that are known."""
+    for number, packet in enumerate(packets, 1):
         data = packet[1]
         tags.append(ivf.tag_of(len(data), data[0] if data else 0))
         yield packet
+        if number % MANY == 0:
+            watch.part(number, count)
 
 
 def check_video(path, codec):
