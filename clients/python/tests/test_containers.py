@@ -17,7 +17,7 @@ from array import array
 from unittest import mock
 
 from support import SLOW, SMALL, Case, command, packets_of, start, write_packets
-from wokureti.tools import blocks, containers, convert, ends, excerpts, ivf, matroska, muxing, opus, paces, programs, progress, sounds, times
+from wokureti.tools import blocks, containers, convert, ends, excerpts, exports, ivf, matroska, muxing, opus, paces, programs, progress, sounds, times
 
 MS = 10**6
 HAS_FFMPEG = bool(shutil.which("ffmpeg") and shutil.which("ffprobe"))
@@ -368,6 +368,20 @@ class Reading(Case):
     def test_the_rate_is_that_of_the_track(self):
         _, text, _ = command("cat", clip("talk.webm"))
         self.assertEqual(text.split(b"\n", 1)[0], b"YUV4MPEG2 W96 H64 F25:1 Ip C420jpeg")
+
+    @unittest.skipUnless(exports.has_option(programs.find("vp8serve"), "--export"), "this vp8serve has no --export")
+    def test_an_ivf_file_of_a_webm_file_has_its_rate(self):
+        """Its time base is that of the file, milliseconds: each command has the rate of its time stamps."""
+        room = self.folder()
+        out = room / "out.ivf"
+        self.assertEqual(command("export", clip("talk.webm"), out)[0], 0)
+        with open(out, "rb") as file:
+            head, _ = ivf.read_index(file.fileno())
+        self.assertEqual(times.base_of(head), (1000, 1))
+        self.assertEqual(command("cat", out)[1].split(b"\n", 1)[0], b"YUV4MPEG2 W96 H64 F25:1 Ip C420jpeg")
+        status, _, _ = command("cut", out, room / "again.webm", "--from", "f3")
+        done = subprocess.run(["ffprobe", "-v", "error", "-select_streams", "v", "-show_entries", "stream=r_frame_rate", "-of", "csv=p=0", room / "again.webm"], capture_output=True, text=True, check=True)
+        self.assertEqual((status, done.stdout.strip()), (0, "25/1"))
 
 
 @needs_ffmpeg
