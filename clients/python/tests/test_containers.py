@@ -452,8 +452,13 @@ class HowFar(Case):
 
             with mock.patch.object(watch, "part", slow), mock.patch.object(containers, "PIECE", 1000), mock.patch.object(containers, "MANY", 20), mock.patch.object(blocks, "MANY", 50):
                 convert.as_ivf(clip("talk.webm"), str(room), is_quiet=True, watch=watch)
+            with mock.patch.object(watch, "part", slow), mock.patch.object(blocks, "MANY", 50):
+                watch.stage("searching")
+                (room / "half.webm").write_bytes(clip("talk.webm").read_bytes()[:60000])
+                convert.searched(room / "half.webm", str(room), watch)
         for text in ("listing the packets of", "copying the packets of", "looking for damage of"):
             self.assertRegex(said.getvalue(), rf"{text} .*talk\.webm: \d+ %, \d+ s", text)
+        self.assertRegex(said.getvalue(), r"searching: \d+ %, \d+ s")
 
     def test_what_is_no_terminal_is_told_once(self):
         status, _, errors = command("cat", clip("silent.webm"), "/dev/null", env=self.slow("ffmpeg"))

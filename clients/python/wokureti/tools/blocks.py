@@ -3,6 +3,7 @@
 Elements lead from one to the next: a number, a length, the content. Where one leads to something that is no element, the next place is searched from
 which blocks or clusters follow each other."""
 
+import itertools
 import os
 import struct
 from array import array
@@ -145,9 +146,10 @@ def simple_end(data, place):
 
 def damage(data, watch=containers.NOBODY):
     """The first damage of a file, or None if its elements lead from one to the next up to its end. What is in blocks is not looked at. `watch` hears how far it is."""
-    place, size, cut, turn = 0, len(data), None, 0
-    while place < size:
-        turn += 1
+    place, size, cut = 0, len(data), None
+    for turn in itertools.count(1):
+        if place >= size:
+            break
         if turn % MANY == 0:
             watch.part(place, size)
         end = simple_end(data, place) if place + LONGEST < size else 0
@@ -177,10 +179,14 @@ def damage(data, watch=containers.NOBODY):
     return None if cut is None else Damage(size, True)
 
 
-def find(data):
-    """What is in a file. Blocks with several packets, which only sound has, are left out."""
+def find(data, watch=containers.NOBODY):
+    """What is in a file. Blocks with several packets, which only sound has, are left out. `watch` hears how far it is."""
     blocks, gaps, tracks, scale, base, place, is_sure, clocks = [], [], {}, MS, 0, 0, True, {}
-    while place < len(data):
+    for turn in itertools.count(1):
+        if place >= len(data):
+            break
+        if turn % MANY == 0:
+            watch.part(place, len(data))
         found = element_at(data, place)
         if found is None or not (found[2] is None or found[0] in INSIDE or follow(data, found[2], 1)):
             resumed = next_place(data, place + 1)

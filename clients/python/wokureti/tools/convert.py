@@ -103,7 +103,7 @@ def searched(path, folder, watch=None):
             return as_ivf(given, folder, watch=watch), None
         file.seek(0)
         data = file.read()
-    found = blocks.find(data)
+    found = blocks.find(data, watch or containers.NOBODY)
     is_matroska = kind_of(head) is not None or blocks.video_track(found) is not None
     if not is_matroska or not (found.gaps or blocks.damage(data)):
         return (taken_out(given, folder, name, "WebM or Matroska", False, watch) if is_matroska else given), None
