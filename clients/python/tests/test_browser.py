@@ -454,6 +454,17 @@ class Exports(BrowserCase):
             self.wait("document.getElementById('status').textContent.startsWith('exported small-export.ivf: ')")
 
 
+    def test_a_download_says_that_the_script_is_left_out(self):
+        self.open(SMALL)
+        self.js("document.getElementById('download').addEventListener('click', (event) => event.preventDefault())")
+        BROWSER.click("#download")
+        self.assertNotIn("the script is not in them", self.said())
+        self.step("script trim 0 2 5")
+        self.wait("wokureti.model.session.script !== '-' && document.getElementById('download').title.includes('the script is not in them')")
+        BROWSER.click("#download")
+        self.assertIn("The packets of the edited stream: the script is not in them. Export has the frames that are shown", self.said())
+
+
 class Killed(BrowserCase):
     LIMIT = 90
 

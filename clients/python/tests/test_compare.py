@@ -349,7 +349,7 @@ class Png(Case):
     def test_what_is_refused(self):
         room = self.folder()
         path = write_packets(room / "a.ivf", packets_of(SMALL)[:2] + [BROKEN])
-        for words, text in (([path, 2, room / "x.png"], "refused packet 2 ShortPacket"), ([path, 3, room / "x.png"], "NoSuchFrame"), ([path, 0, path], "name another file"), ([path, 0, room / "none" / "x.png"], "No such file"), ([room, 0, room / "x.png"], "Is a directory")):
+        for words, text in (([path, 2, room / "x.png"], "refused packet 2 ShortPacket"), ([path, 3, room / "x.png"], "there is no frame 3: 3 frames are shown"), ([path, 0, path], "name another file"), ([path, 0, room / "none" / "x.png"], "No such file"), ([room, 0, room / "x.png"], "Is a directory")):
             status, out, errors = command("png", *words)
             self.assertEqual((status, out, text in errors), (2, b"", True), errors)
         self.assertEqual(os.listdir(room), ["a.ivf"])

@@ -1,5 +1,6 @@
 """WebM and Matroska files in and out, and their sound."""
 
+import io
 import itertools
 import json
 import os
@@ -8,6 +9,7 @@ import pty
 import random
 import shutil
 import subprocess
+import sys
 import tempfile
 import time
 import unittest
@@ -15,7 +17,7 @@ from array import array
 from unittest import mock
 
 from support import SLOW, SMALL, Case, command, packets_of, start, write_packets
-from wokureti.tools import blocks, containers, convert, excerpts, ivf, matroska, muxing, opus, paces, programs, sounds, times
+from wokureti.tools import blocks, containers, convert, ends, excerpts, exports, ivf, matroska, muxing, opus, paces, programs, progress, sounds, times
 
 MS = 10**6
 HAS_FFMPEG = bool(shutil.which("ffmpeg") and shutil.which("ffprobe"))
@@ -367,6 +369,20 @@ class Reading(Case):
         _, text, _ = command("cat", clip("talk.webm"))
         self.assertEqual(text.split(b"\n", 1)[0], b"YUV4MPEG2 W96 H64 F25:1 Ip C420jpeg")
 
+    @unittest.skipUnless(exports.has_option(programs.find("vp8serve"), "--export"), "this vp8serve has no --export")
+    def test_an_ivf_file_of_a_webm_file_has_its_rate(self):
+        """Its time base is that of the file, milliseconds: each command has the rate of its time stamps."""
+        room = self.folder()
+        out = room / "out.ivf"
+        self.assertEqual(command("export", clip("talk.webm"), out)[0], 0)
+        with open(out, "rb") as file:
+            head, _ = ivf.read_index(file.fileno())
+        self.assertEqual(times.base_of(head), (1000, 1))
+        self.assertEqual(command("cat", out)[1].split(b"\n", 1)[0], b"YUV4MPEG2 W96 H64 F25:1 Ip C420jpeg")
+        status, _, _ = command("cut", out, room / "again.webm", "--from", "f3")
+        done = subprocess.run(["ffprobe", "-v", "error", "-select_streams", "v", "-show_entries", "stream=r_frame_rate", "-of", "csv=p=0", room / "again.webm"], capture_output=True, text=True, check=True)
+        self.assertEqual((status, done.stdout.strip()), (0, "25/1"))
+
 
 @needs_ffmpeg
 class HowFar(Case):
@@ -383,20 +399,28 @@ class HowFar(Case):
         return {"PATH": f"{room}:{os.environ['PATH']}"}
 
     def test_each_program(self):
-        path, heard = clip("talk.webm"), []
-        watch = mock.Mock(**{"part.side_effect": lambda *given: heard.append(given)})
+        path = clip("talk.webm")
+        size = path.stat().st_size
         for name in ("ffmpeg", "mkvextract", "av"):
             if not (containers.has_av() if name == "av" else shutil.which(name)):
                 continue
-            heard.clear()
-            with self.subTest(name), mock.patch.dict(os.environ, self.slow("ffmpeg", "mkvextract") if name != "av" else {}), mock.patch.object(containers, "MANY", 1):
+            heard = []
+            watch = mock.Mock(**{"stage.side_effect": lambda text: heard.append((text, [])), "part.side_effect": lambda *given: heard[-1][1].append(given)})
+            looks = (mock.patch.object(containers, "MANY", 1), mock.patch.object(containers, "PIECE", 100), mock.patch.object(blocks, "MANY", 1))
+            with self.subTest(name), mock.patch.dict(os.environ, self.slow("ffmpeg", "mkvextract") if name != "av" else {}), looks[0], looks[1], looks[2]:
                 with mock.patch.object(containers, "has_av", return_value=name == "av"), mock.patch.object(containers, "can_read", return_value=name != "mkvextract"):
                     out = convert.as_ivf(path, str(self.folder()), is_quiet=True, watch=watch)
                 self.assertEqual(len(packets_of(out)), len(packets_of(media(path, self.folder())[1])))
-                size = path.stat().st_size
-                self.assertEqual([total for _, total in heard], [size] * len(heard))
-                self.assertTrue(heard and 0 < heard[-1][0] <= size and heard == sorted(heard), heard)
-        self.assertEqual([given.args[0] for given in watch.stage.call_args_list[:2]], [f"taking the packets out of {path}", f"looking for damage of {path}"])
+                stages = ["taking the packets out of", *(["listing the packets of", "copying the packets of"] if name == "ffmpeg" else []), "looking for damage of"]
+                self.assertEqual([text for text, _ in heard], [f"{text} {path}" for text in stages])
+                for text, parts in heard:
+                    # Of the file, of the list of each of its two tracks, and of the packets of the video.
+                    totals = {total for _, total in parts}
+                    wanted = {"listing": (2, False), "copying": (1, False)}.get(text.split()[0], (1, True))
+                    self.assertEqual((len(totals), size in totals), wanted, text)
+                    for total in totals:
+                        mine = [done for done, of in parts if of == total]
+                        self.assertTrue(mine == sorted(mine) and 0 < mine[-1] <= total, (text, mine))
 
     def test_a_terminal_shows_it(self):
         """Of each command: one that has a line of its own, and one that has none."""
@@ -414,6 +438,27 @@ class HowFar(Case):
             os.close(ours)
             process.wait(20 * SLOW)
             self.assertRegex(said.decode(), r"taking the packets out of .*silent\.webm: \d+ %, \d+ s", words[0])
+
+    def test_a_terminal_shows_how_far_a_large_file_is_read(self):
+        """Each step of it has per cent, once it takes a second."""
+        room, said = self.folder(), io.StringIO()
+        watch = progress.Stages()
+        with mock.patch.object(progress, "TICK", 0.01), mock.patch.object(progress, "SOON", 0), mock.patch.object(sys, "stderr", mock.Mock(wraps=said, isatty=lambda: True)), watch:
+            real = watch.part
+
+            def slow(done, total):
+                real(done, total)
+                time.sleep(0.03)
+
+            with mock.patch.object(watch, "part", slow), mock.patch.object(containers, "PIECE", 1000), mock.patch.object(containers, "MANY", 20), mock.patch.object(blocks, "MANY", 50):
+                convert.as_ivf(clip("talk.webm"), str(room), is_quiet=True, watch=watch)
+            with mock.patch.object(watch, "part", slow), mock.patch.object(blocks, "MANY", 50):
+                watch.stage("searching")
+                (room / "half.webm").write_bytes(clip("talk.webm").read_bytes()[:60000])
+                convert.searched(room / "half.webm", str(room), watch)
+        for text in ("listing the packets of", "copying the packets of", "looking for damage of"):
+            self.assertRegex(said.getvalue(), rf"{text} .*talk\.webm: \d+ %, \d+ s", text)
+        self.assertRegex(said.getvalue(), r"searching: \d+ %, \d+ s")
 
     def test_what_is_no_terminal_is_told_once(self):
         status, _, errors = command("cat", clip("silent.webm"), "/dev/null", env=self.slow("ffmpeg"))
@@ -687,6 +732,21 @@ class Blocks(Case):
         for at in range(start, start + 4):
             self.assertEqual(blocks.damage(data[:at] + b"\0" + data[at + 1 :]).is_cut, False)
 
+    def test_the_short_way_finds_the_same_damage(self):
+        """Blocks that are not in a group are read by fewer steps."""
+        dice, (whole, _) = random.Random(3), self.file()
+        starts = [place for place in range(len(whole) - 9) if blocks.simple_end(whole, place) > place]
+        self.assertGreater(len(starts), 300)
+        for turn in range(600):
+            data = bytearray(whole[: dice.randrange(200, 9000)])
+            for _ in range(dice.randrange(5)):
+                # The number, the length, the track of a block, or anything.
+                place = dice.choice((dice.choice(starts) + dice.randrange(5), dice.randrange(len(data)))) % len(data)
+                data[place] = dice.choice((0, 0x1F, 0x20, 0x40, 0x7F, 0x80, 0xFF, dice.randrange(256)))
+            found = blocks.damage(data)
+            with mock.patch.object(blocks, "simple_end", return_value=0):
+                self.assertEqual(found, blocks.damage(data), turn)
+
     def test_half_of_a_file(self):
         data, made = self.file()
         found, rest = self.found(data[: len(data) // 2])
@@ -742,6 +802,47 @@ class Cut(Case):
                     found, _, errors = command(*words, *more)
                     self.assertEqual(found, status, (name, errors))
                     self.assertIn(f"{path} ends in the middle", errors)
+
+    def test_other_containers(self):
+        """The programs that read them do not say that they end in the middle; a file that was written to a pipe is whole."""
+        room = self.folder()
+        for ending in ("avi", "ogg"):
+            whole, piped = room / f"whole.{ending}", room / f"piped.{ending}"
+            ffmpeg("-i", clip("talk.webm"), "-an", "-c", "copy", whole)
+            with open(piped, "wb") as file:
+                subprocess.run(["ffmpeg", "-nostdin", "-v", "error", "-i", clip("talk.webm"), "-an", "-c", "copy", "-f", ending, "-"], stdout=file, check=True, timeout=20 * SLOW)
+            data = whole.read_bytes()
+            for path in (whole, piped):
+                status, _, errors = command("export", path, room / "out.ivf", "-y")
+                self.assertEqual((status, "ends in the middle" in errors), (0, False), (path, errors))
+            half = room / f"half.{ending}"
+            for length in (len(data) // 2, len(data) - 100):
+                half.write_bytes(data[:length])
+                for name, words in (("export", (half, room / "out.ivf", "-y")), ("repair", (half, room / "out.ivf", "-y"))):
+                    status, _, errors = command(name, *words)
+                    self.assertIn(status, (1, 2) if name == "repair" else (1,), (length, errors))
+                    self.assertIn(f"{half} ends in the middle, after {length:,} bytes: the packets that followed are missing\n", errors)
+                self.assertEqual(command("export", half, room / "out.ivf", "-y", "--anyway")[0], 0)
+
+    def test_ends(self):
+        """Of each kind: whole, and cut off at each byte that a reader would not miss."""
+        chunk = lambda name, data: name + len(data).to_bytes(4, "little") + data + bytes(len(data) % 2)  # noqa: E731
+        box = lambda name, data: (8 + len(data)).to_bytes(4, "big") + name + data  # noqa: E731
+        page = lambda serial, flags, data: b"OggS\0" + bytes([flags]) + bytes(8) + serial.to_bytes(4, "little") + bytes(8) + bytes([1, len(data)]) + data  # noqa: E731
+        cases = (
+            ("AVI", chunk(b"RIFF", b"AVI " + bytes(31)) + chunk(b"RIFF", b"AVIX" + bytes(20)), 24 + 8 + 44),
+            ("MP4", box(b"ftyp", b"isom") + (1).to_bytes(4, "big") + b"mdat" + (36).to_bytes(8, "big") + bytes(20) + box(b"moov", bytes(9)), 12 + 36 + 17),
+            ("Ogg", page(1, 2, b"head") + page(2, 2, b"head") + page(1, 4, b"end") + page(2, 0, b"data") + page(2, 4, b"end"), 5 * 28 + 4 + 4 + 3 + 4 + 3),
+        )
+        for kind, data, length in cases:
+            self.assertEqual((len(data), ends.is_cut(kind, data)), (length, False), kind)
+            found = [cut for cut in range(1, len(data)) if not ends.is_cut(kind, data[:cut])]
+            # Between two parts of a file that may have one part or several nothing is missed.
+            self.assertEqual(found, {"AVI": [43, 44], "MP4": [12, 48], "Ogg": []}[kind], kind)
+        self.assertFalse(ends.is_cut("AVI", b"RIFF\xff\xff\xff\xffAVI " + bytes(9)))
+        self.assertFalse(ends.is_cut("AVI", cases[0][1] + b"JUNK"))
+        self.assertFalse(ends.is_cut("MP4", box(b"ftyp", b"isom") + bytes(4) + b"mdat" + bytes(99)))
+        self.assertFalse(ends.is_cut("WebM or Matroska", b""))
 
     def test_an_ivf_file(self):
         path = self.folder() / "cut.ivf"

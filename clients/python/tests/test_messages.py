@@ -57,8 +57,59 @@ class Inputs(Case):
             self.assertEqual(looks.of(room / "one")[0], look)
 
 
+    def test_what_has_nothing_to_repair(self):
+        """The file that is named is the one that has no packet."""
+        room = self.folder()
+        (room / "list").write_text("delete 3\n")
+        for words, wanted in (
+            ((room / "list", room / "out.ivf"), f"wokureti: {room / 'list'}: no packet of VP8 was found in it: it looks like a text; name a stream; a list of edits is named with --edits\n"),
+            ((SMALL, room / "out.ivf", "--second", room / "list"), f"wokureti: {room / 'list'}: no packet of VP8 was found in it: it looks like a text; name a stream; a list of edits is named with --edits\n"),
+            ((SMALL, room / "out.ivf", "--second", CLIP), f"wokureti: {CLIP}: no packet of the second recording is one of the first\n"),
+        ):
+            status, out, errors = command("repair", *words)
+            self.assertEqual((status, out, errors, os.listdir(room)), (2, b"", wanted, ["list"]))
+
+    def test_a_frame_that_is_not_there(self):
+        room = self.folder()
+        status, out, errors = command("png", SMALL, 12, room / "out.png")
+        self.assertEqual((status, out, errors), (2, b"", f"wokureti: {SMALL}: there is no frame 12: 12 frames are shown, and the first one is frame 0\n"))
+
+    def test_a_script_that_is_none(self):
+        """The node, and what is missing, for each command that takes a script."""
+        room = self.folder()
+        for words in (("cat", SMALL), ("export", SMALL, room / "out.ivf"), ("png", SMALL, 0, "-")):
+            status, out, errors = command(*words, "--script", "trim 0 2 3; trim 1 2")
+            self.assertEqual((status, out), (2, b""))
+            self.assertIn("refused Syntax: script: node 2: a word is missing: trim A FIRST COUNT", errors)
+
+    def test_ports(self):
+        for name in ("serve", "open"):
+            for number in ("65536", "-1", "http"):
+                status, out, errors = command(name, SMALL, f"--port={number}")
+                self.assertEqual((status, out), (2, b""), errors)
+                self.assertIn("argument --port: ", errors)
+        self.assertIn("65536 is no port: it is 1 to 65535, or 0 for a free one", command("serve", SMALL, "--port", "65536")[2])
+
+
 class Outputs(Case):
     LIMIT = 60
+
+    def test_a_folder_that_is_not_there(self):
+        """The file that was named is in the message, and no other one."""
+        out = self.folder() / "none" / "out.ivf"
+        for words in (("cut", SMALL, out, "--from", "f3"), ("export", SMALL, out), ("join", SMALL, SMALL, out), ("repair", SMALL, out), ("cat", SMALL, out.with_suffix(".y4m")), ("png", SMALL, 0, out)):
+            status, said, errors = command(*words)
+            path = next(word for word in words if str(word).startswith(str(out.parent)))
+            self.assertEqual((status, said, errors), (2, b"", f"wokureti: {path}: No such file or directory\n"), words)
+
+    def test_a_save_that_cannot_be_written(self):
+        """It is refused before anything is served, and not when all was edited."""
+        room = self.folder()
+        for name, more in (("serve", ()), ("open", ("--no-browser",))):
+            for save, wanted in ((room / "none" / "out.ivf", f"there is no folder {room / 'none'}"), (room, "this is a folder")):
+                status, out, errors = command(name, SMALL, *more, "--edits", room / "list", "--save", save)
+                self.assertEqual((status, out, errors), (2, b"", f"wokureti: --save {save}: {wanted}: name a file that can be written\n"))
+        self.assertEqual(os.listdir(room), [])
 
     def test_a_file_that_is_there_is_replaced_only_with_y(self):
         room = self.folder()

@@ -174,13 +174,21 @@ def run_cat(given):
     return 1 if refusals else status
 
 
+def port(text):
+    """The number of a port, or 0 for a free one."""
+    number = int(text)
+    if not 0 <= number < 1 << 16:
+        raise argparse.ArgumentTypeError(f"{number} is no port: it is 1 to 65535, or 0 for a free one")
+    return number
+
+
 def add_served(parser):
     """The arguments of a server."""
     parser.add_argument("stream", metavar="IN", help=f"{STREAM}; /dev/null is an empty stream")
     add_sources(parser)
     add_number(parser)
     parser.add_argument("--cache", type=int, metavar="N", help="number of decoded states that are cached")
-    parser.add_argument("--port", type=int, default=0, metavar="N", help="the port; a free one if missing")
+    parser.add_argument("--port", type=port, default=0, metavar="N", help="the port; a free one if missing")
     parser.add_argument("--tables", metavar="FILE", help="3012 bytes that replace the long tables of RFC 6386")
     parser.add_argument("--anyway", action="store_true", help="makes the edits of a list that is of another stream")
     parser.add_argument("--keep-stamps", action="store_true", help="IVF files are saved with the time stamps of the packets; else those of an edited stream are new")
@@ -227,10 +235,15 @@ def add_open(commands):
 
 
 def check_save(given):
-    """The file that is saved to must be none of those that are only read."""
+    """The file that is saved to can be written, and is none of those that are only read."""
+    if given.save is None:
+        return
     for path in (given.stream, *given.source):
-        if given.save is not None and path != "-" and checks.is_same_file(given.save, path):
+        if path != "-" and checks.is_same_file(given.save, path):
             raise cat.Failed(f"--save names {path}, which is only read here: name another file, or use `vp8serve IN LIST - --save IN`")
+    folder = os.path.dirname(os.path.realpath(given.save))
+    if not os.path.isdir(folder) or os.path.isdir(given.save):
+        raise cat.Failed(f"--save {given.save}: {'this is a folder' if os.path.isdir(folder) else f'there is no folder {folder}'}: name a file that can be written")
 
 
 def run_open(given):
@@ -475,6 +488,7 @@ def run_script(given, streams, script_of, inputs=()):
     with rooms.Room() as room, progress.Stages() as stages:
         stages.stage("reading the packets")
         paths = [convert.as_ivf(path, room, watch=stages) for path in streams]
+        stages.stage("opening the streams" if len(streams) > 1 else f"opening {os.fsdecode(streams[0])}")
         with cat.open_session(paths[0], paths[1:], edits, script, given.tables, program, given.anyway) as session:
             if script_of is not None:
                 session.request(f"script {script_of(exports.Frames(session.edits.contents()))}")
@@ -586,7 +600,7 @@ def add_repair(commands):
 
 
 def run_repair(given):
-    from .tools import ivf, progress, repair
+    from .tools import ivf, looks, progress, repair
 
     inputs = [given.stream, given.second, given.tables]
     for out in (given.out, given.edits):
@@ -612,8 +626,10 @@ def run_repair(given):
             found = repair.repair(data, *tools, second, given.tables, steps, stages.stage, as_file(path), searched)
             packets = [(packet.stamp, packet.data) for packet in found.packets]
             write_repaired(given, path, found.head, packets)
+    except repair.NoSecond as error:
+        raise cat.Failed(f"{given.second}: {error}{looks.hint(given.second)}") from None
     except (ivf.NotIvf, repair.NoKeyFrame) as error:
-        raise cat.Failed(f"{given.stream}: {error}") from None
+        raise cat.Failed(f"{given.stream}: {error}{looks.hint(given.stream)}") from None
     if given.edits is not None:
         lines = repair.edits_of(data, found) if searched is None else None
         if lines is None:
@@ -623,7 +639,7 @@ def run_repair(given):
         print(line)
     before = len(salvage_count(data))
     print(f"{len(packets)} packets written, {before} are read without repair; {found.changes} changes")
-    return 2 if found.left else 1 if found.changes else 0
+    return 2 if found.left else 1 if found.changes or containers.damage_of(path) else 0
 
 
 def second_of(path, folder, stages):
@@ -749,11 +765,21 @@ def run_png(given):
 
     with rooms.Room() as folder:
         with opened(given, folder) as session:
-            text = png.of_frame(session.frame(given.number), given.matrix, given.full)
+            text = png.of_frame(frame_of(session, given), given.matrix, given.full)
             status = status_of(session, given.anyway)
         with cat.output(given.out) as file:
             file.write(text)
     return status
+
+
+def frame_of(session, given):
+    """The frame that is asked for."""
+    try:
+        return session.frame(given.number)
+    except Refused as error:
+        if error.word != "NoSuchFrame":
+            raise
+        raise cat.Failed(f"{given.stream}: there is no frame {given.number}: {session.count().frames:,} frames are shown, and the first one is frame 0") from None
 
 
 class Version(argparse.Action):

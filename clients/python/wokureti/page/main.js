@@ -117,6 +117,9 @@ function writeSelection() {
   find("selection-text").textContent = selection ? `${count.toLocaleString("en")} packets selected, ${selection.first} to ${selection.end - 1}, ${timeText(count, model.rate)}` : "";
 }
 
+const LEFT_OUT = "The packets of the edited stream: the script is not in them. Export has the frames that are shown";
+find("download").addEventListener("click", () => model.session && model.session.script !== "-" && status.say(LEFT_OUT));
+
 function writeHead() {
   const { names, rate, script, saved, sources, saves, exports, changing } = model.session;
   find("name").textContent = names[0];
@@ -130,6 +133,7 @@ function writeHead() {
   find("export").hidden = !exports || script === "-";
   find("export").classList.toggle("off", changing !== null);
   find("export").title = changing ? `Node ${changing[0]}, ${changing[1]}, changes the picture, and so cannot be exported without coding again` : "The frames that are shown as a file, without coding again";
+  find("download").title = script === "-" ? "The edited stream as a file" : LEFT_OUT;
   const label = find("source-label");
   label.hidden = sources.length < 2;
   find("replace-source").hidden = sources.length < 2;

@@ -3,6 +3,7 @@
 Elements lead from one to the next: a number, a length, the content. Where one leads to something that is no element, the next place is searched from
 which blocks or clusters follow each other."""
 
+import itertools
 import os
 import struct
 from array import array
@@ -25,6 +26,8 @@ LACING = 6
 LONGEST = 16
 # Elements that must follow each other where reading goes on, and tracks that are looked for.
 CHAIN, MOST_TRACK = 3, 16
+# Elements between two looks at how far reading is.
+MANY = 1 << 12
 CODECS = {"V_VP8": "vp8", "A_OPUS": "opus", "A_VORBIS": "vorbis", "A_AAC": "aac", "A_MPEG/L3": "mp3"}
 # The header of Opus where that of the file is lost, for one channel and for two.
 OPUS_HEADS = tuple(b"OpusHead\x01" + bytes([count]) + (312).to_bytes(2, "little") + (48000).to_bytes(4, "little") + bytes(3) for count in (1, 2))
@@ -125,10 +128,34 @@ class Damage(NamedTuple):
     is_cut: bool
 
 
-def damage(data):
-    """The first damage of a file, or None if its elements lead from one to the next up to its end. What is in blocks is not looked at."""
+def simple_end(data, place):
+    """The end of a block of up to 2 MB that is not in a group, at a place with six bytes or more: nearly all elements of a file are such blocks. 0 if none is there."""
+    if data[place] != SIMPLE:
+        return 0
+    mark, start = data[place + 1], place + 2
+    if mark & 0x80:
+        length, most = mark & 0x7F, 0x7F
+    elif mark & 0x40:
+        length, most, start = (mark & 0x3F) << 8 | data[place + 2], 0x3FFF, place + 3
+    elif mark & 0x20:
+        length, most, start = (mark & 0x1F) << 16 | data[place + 2] << 8 | data[place + 3], 0x1FFFFF, place + 4
+    else:
+        return 0
+    return start + length if 4 <= length < most and 0x81 <= data[start] <= 0x80 + MOST_TRACK else 0
+
+
+def damage(data, watch=containers.NOBODY):
+    """The first damage of a file, or None if its elements lead from one to the next up to its end. What is in blocks is not looked at. `watch` hears how far it is."""
     place, size, cut = 0, len(data), None
-    while place < size:
+    for turn in itertools.count(1):
+        if place >= size:
+            break
+        if turn % MANY == 0:
+            watch.part(place, size)
+        end = simple_end(data, place) if place + LONGEST < size else 0
+        if 0 < end <= size:
+            place = end
+            continue
         number = number_at(data, place, True)
         length = number and number_at(data, number[1], False)
         if not length or number[0] not in KNOWN:
@@ -152,10 +179,14 @@ def damage(data):
     return None if cut is None else Damage(size, True)
 
 
-def find(data):
-    """What is in a file. Blocks with several packets, which only sound has, are left out."""
+def find(data, watch=containers.NOBODY):
+    """What is in a file. Blocks with several packets, which only sound has, are left out. `watch` hears how far it is."""
     blocks, gaps, tracks, scale, base, place, is_sure, clocks = [], [], {}, MS, 0, 0, True, {}
-    while place < len(data):
+    for turn in itertools.count(1):
+        if place >= len(data):
+            break
+        if turn % MANY == 0:
+            watch.part(place, len(data))
         found = element_at(data, place)
         if found is None or not (found[2] is None or found[0] in INSIDE or follow(data, found[2], 1)):
             resumed = next_place(data, place + 1)

@@ -143,7 +143,7 @@ def open_session(stream, sources, edits, script, tables, program, anyway=False):
     """A session with the edits of a list and a script, for finding out what the parts are."""
     from ..session.session import Session
 
-    session = Session(stream, sources=sources, tables=tables, program=program, anyway=anyway)
+    session = Session(stream, sources=sources, tables=tables, program=program, anyway=anyway, explain=script is not None)
     try:
         if edits is not None:
             session.edits.run(edits)

@@ -2,8 +2,8 @@
 
 Python's `av` reads a container if it is installed, else ffmpeg. Times are in nanoseconds, and those of the file."""
 
+import itertools
 import json
-import math
 import os
 import re
 import shutil
@@ -18,8 +18,8 @@ from .progress import Watch
 from ..session import checks
 
 MOST_TIME = 3600
-# Seconds between two looks at how much a program wrote; packets between two looks at how far reading is.
-OFTEN, MANY = 0.2, 256
+# Seconds between two looks at how much a program wrote; packets, and bytes of a list of them, between two looks at how far reading is.
+OFTEN, MANY, PIECE = 0.2, 256, 1 << 18
 NANO = 10**9
 # Nobody is told how far it is.
 NOBODY = Watch()
@@ -123,13 +123,18 @@ def rate_of(path, named):
     there is no step, the named one."""
     with open(path, "rb") as file:
         head, index = ivf.read_index(file.fileno())
-    steps = times.steps_of(index.stamps, index.tags)
+    return rate_of_stamps(head, index.stamps, index.tags, named)
+
+
+def rate_of_stamps(head, stamps, tags, named):
+    """The same of a file with this head, and packets with these time stamps and tags."""
+    steps = times.steps_of(stamps, tags)
     if not steps:
         return named
     step = statistics.median_low(steps)
     if named is not None and abs(named[1] / named[0] - step * head.scale / head.rate) <= ROUNDED:
         return named
-    return times.rate_of(index.stamps, index.tags, times.base_of(head))
+    return times.rate_of(stamps, tags, times.base_of(head))
 
 
 # By ffmpeg
@@ -141,8 +146,8 @@ def read_by_ffmpeg(path, out, watch=NOBODY):
     video = next((one for one in facts["streams"] if one.get("codec_type") == "video" and not one.get("disposition", {}).get("attached_pic")), None)
     check_video(path, video and video.get("codec_name"))
     [pictures, *sounds], said = copy_tracks(path, facts["streams"], [video["index"]], out, watch)
-    write_ivf(out, video, pictures)
-    rate = rate_of(out, fraction(video.get("avg_frame_rate", "0/0")))
+    watch.stage(f"copying the packets of {os.fsdecode(path)}")
+    rate = rate_of_stamps(*write_ivf(out, video, pictures, watch), fraction(video.get("avg_frame_rate", "0/0")))
     tags = video.get("tags", {})
     return Media(path, rate, kept_tags(facts.get("format", {}).get("tags", {})), kept_tags(tags), tags.get("language", "und"), sounds, said)
 
@@ -169,18 +174,30 @@ def copy_tracks(path, streams, more, out, watch=NOBODY):
     # What the writers of these lists say is not of the file: they are given hidden packets with the time of the next one.
     look = part_of(path, [f"{out}.track{number}" for number in range(len(wanted))], watch)
     said = [line for line in run(words, look)[1].splitlines() if not line.startswith(("[data @", "[framecrc @"))] if wanted else []
-    return [sound_of(one, f"{out}.track{number}", f"{out}.times{number}") for number, one in enumerate(wanted)], "\n".join(said)
+    watch.stage(f"listing the packets of {os.fsdecode(path)}")
+    return [sound_of(one, f"{out}.track{number}", f"{out}.times{number}", watch) for number, one in enumerate(wanted)], "\n".join(said)
 
 
-def write_ivf(path, facts, track):
-    """Writes the packets of a track of video as an IVF file, with the time base of the container."""
-    base = fraction(facts.get("time_base", "")) or (1, 1000)
+def write_ivf(path, facts, track, watch=NOBODY):
+    """Writes the packets of a track of video as an IVF file, with the time base of the container. Returns its head, and the time stamps and tags of its packets."""
+    base, tags = fraction(facts.get("time_base", "")) or (1, 1000), bytearray()
     head = ivf.Head(int(facts.get("width", 0)), int(facts.get("height", 0)), base[1], base[0])
     # A time was rounded down to a nanosecond.
-    stamps = (-(-time * base[1] // (base[0] * NANO)) % (1 << 64) for time in track.times)
-    with open(path, "wb") as file:
-        file.writelines(ivf.pieces(head, len(track.sizes), zip(stamps, track.packets(range(len(track.sizes))))))
+    stamps = array("Q", (-(-time * base[1] // (base[0] * NANO)) % (1 << 64) for time in track.times))
+    with open(track.path, "rb") as packets, open(path, "wb") as file:
+        file.writelines(ivf.pieces(head, len(stamps), tagged(zip(stamps, map(packets.read, track.sizes)), tags, len(stamps), watch)))
     os.unlink(track.path)
+    return head, stamps, tags
+
+
+def tagged(packets, tags, count, watch):
+    """The packets, so many of them, whose tags are added to those that are known."""
+    for number, packet in enumerate(packets, 1):
+        data = packet[1]
+        tags.append(ivf.tag_of(len(data), data[0] if data else 0))
+        yield packet
+        if number % MANY == 0:
+            watch.part(number, count)
 
 
 def check_video(path, codec):
@@ -198,22 +215,12 @@ def fraction(text):
     return pair if all(pair) else None
 
 
-def sound_of(facts, path, times_path):
+def sound_of(facts, path, times_path, watch=NOBODY):
     """The track of sound of what ffprobe says, of the packets in a file, and of the list of their times."""
-    starts, sizes, times, durations = array("Q"), array("I"), array("q"), array("q")
-    place, base = 0, (1, 1000)
-    with open(times_path, encoding="ascii", errors="replace") as file:
-        for line in file:
-            if line.startswith("#tb "):
-                base = fraction(line.split(":")[1].strip()) or base
-            elif not line.startswith("#"):
-                _, _, time, duration, size, _ = (word.strip() for word in line.split(",")[:6])
-                starts.append(place)
-                sizes.append(int(size))
-                times.append(int(time) * base[0] * NANO // base[1])
-                durations.append(int(duration) * base[0] * NANO // base[1])
-                place += int(size)
+    (times, durations), sizes = times_of(times_path, watch)
     os.unlink(times_path)
+    starts = array("Q", itertools.accumulate(sizes, initial=0))
+    place = starts.pop()
     if place != os.path.getsize(path):
         raise Failed(f"ffmpeg lists {place} bytes of sound, and wrote {os.path.getsize(path)}")
     tags = facts.get("tags", {})
@@ -221,6 +228,27 @@ def sound_of(facts, path, times_path):
         facts.get("codec_name", ""), undumped(facts.get("extradata", "")), int(facts.get("sample_rate", 0)), int(facts.get("channels", 0)),
         kept_tags(tags), tags.get("language", "und"), facts["index"], path, starts, sizes, times, durations,
     )  # fmt: skip
+
+
+def times_of(path, watch=NOBODY):
+    """The times and the durations of packets, in nanoseconds, and their sizes, of a list that ffmpeg's framecrc wrote."""
+    columns, sizes, base = (array("q"), array("q")), array("I"), (1, 1000)
+    add_time, add_duration, add_size = columns[0].append, columns[1].append, sizes.append
+    done, total = 0, os.path.getsize(path)
+    with open(path, encoding="ascii", errors="replace") as file:
+        while lines := file.readlines(PIECE):
+            done += sum(map(len, lines))
+            watch.part(done, total)
+            for line in lines:
+                if line[0] == "#":
+                    base = (fraction(line.split(":")[1].strip()) or base) if line.startswith("#tb ") else base
+                    continue
+                row = line.split(",", 5)
+                add_time(int(row[2]))
+                add_duration(int(row[3]))
+                add_size(int(row[4]))
+    unit, ticks = base[0] * NANO, base[1]
+    return [array("q", [value * unit // ticks for value in column]) for column in columns], sizes
 
 
 def undumped(text):

@@ -8,7 +8,7 @@ import stat
 
 from .. import system
 from ..calls import captures, recordings
-from . import blocks, containers, ivf, looks
+from . import blocks, containers, ends, ivf, looks
 from ..session import checks
 from .progress import Stages, say
 
@@ -112,7 +112,7 @@ def searched(path, folder, watch=None, second=None):
             return as_ivf(given, folder, watch=watch), None
         file.seek(0)
         data = file.read()
-    found = blocks.find(data)
+    found = blocks.find(data, watch or containers.NOBODY)
     is_matroska = kind_of(head) is not None or blocks.video_track(found) is not None
     if not is_matroska or not (found.gaps or blocks.damage(data)):
         return (taken_out(given, folder, name, "WebM or Matroska", False, watch) if is_matroska else given), None
@@ -138,13 +138,13 @@ def taken_out(path, folder, name, kind, is_quiet, watch=None):
             return out
         tool = read(path, out, name, kind, stages)
         stages.stage(f"looking for damage of {name}")
-        containers.damaged[out] = damage_of(path, name, kind)
+        containers.damaged[out] = damage_of(path, name, kind, stages)
     media = containers.media_of(out)
     if not is_quiet:
-        say(f"{name} is a {kind} file; {tool} took its packets out without coding them again{sound_text(media)}")
+        say(f"{name} is {'an' if kind[0] in 'AO' else 'a'} {kind} file; {tool} took its packets out without coding them again{sound_text(media)}")
     if media is not None and media.said and not containers.damaged[out]:
         containers.damaged[out] = [f"{tool} complains of {name}: {'; '.join(media.said.splitlines()[:3])}"]
-    say_damage(out, "searches a damaged file for all its packets")
+    say_damage(out, "searches a damaged file for all its packets" if kind == "WebM or Matroska" else "")
     return out
 
 
@@ -152,7 +152,7 @@ def say_damage(out, helps):
     """Says what is damaged of a file that was read, and what `wokureti repair` does with it."""
     texts = containers.damaged[out]
     for place, text in enumerate(texts):
-        say(f"{text}. `wokureti repair` {helps}" if place == len(texts) - 1 else text)
+        say(f"{text}. `wokureti repair` {helps}" if helps and place == len(texts) - 1 else text)
 
 
 def read(path, out, name, kind, watch):
@@ -169,12 +169,11 @@ def read(path, out, name, kind, watch):
     return "mkvextract"
 
 
-def damage_of(path, name, kind):
-    """Sentences about the damage of a WebM or Matroska file: the programs that read one go on after it, or end, and do not always say so."""
-    if kind != "WebM or Matroska":
-        return []
+def damage_of(path, name, kind, watch=containers.NOBODY):
+    """Sentences about the damage of a file: the programs that read one go on after it, or end, and do not always say so."""
     with open(path, "rb") as file, mmap.mmap(file.fileno(), 0, access=mmap.ACCESS_READ) as data:
-        found, size = blocks.damage(data), len(data)
+        size = len(data)
+        found = blocks.damage(data, watch) if kind == "WebM or Matroska" else blocks.Damage(size, True) if ends.is_cut(kind, data) else None
     if found is None:
         return []
     if found.is_cut:

@@ -58,7 +58,11 @@ def named(path):
 def replaced(real, mode):
     """A file that takes the place of another one."""
     folder, name = os.path.split(real)
-    descriptor, temporary = tempfile.mkstemp(prefix=f".{name[:100]}.", suffix=".part", dir=folder)
+    try:
+        descriptor, temporary = tempfile.mkstemp(prefix=f".{name[:100]}.", suffix=".part", dir=folder)
+    except OSError as error:
+        # It names a file that nobody asked for.
+        raise type(error)(error.errno, os.strerror(error.errno), real) from None
     try:
         with open(descriptor, "wb") as file:
             yield file

@@ -40,6 +40,17 @@ def of(path):
     return "bytes of an unknown kind", SEARCH.format(name)
 
 
+def hint(path):
+    """What a message says more of a file in which no packet was found: what it looks like and what would help, if that is known."""
+    if not os.path.isfile(path):
+        return ""
+    with open(path, "rb") as file:
+        if file.read(4) == b"DKIF":
+            return ""
+    look, helps = of(path)
+    return "" if helps == SEARCH.format(os.fsdecode(path)) else f": it looks like {look}; {helps}"
+
+
 def is_text(head):
     """Whether bytes are a text: the last letter may be cut off."""
     for end in range(len(head), max(0, len(head) - 4), -1):

@@ -39,6 +39,10 @@ class NoKeyFrame(ValueError):
     """No frame can be decoded."""
 
 
+class NoSecond(ValueError):
+    """No packet of the second recording can be taken."""
+
+
 class Packet(NamedTuple):
     """A packet, and what is known of it: whether it comes right before bytes that are lost, whether one or more were lost before it, and whether its
     end is missing."""
@@ -318,7 +322,7 @@ class Repair:
         """Takes packets of a second recording with the same time stamps: for those that are missing, refused, or damaged."""
         shift = shift_between(self.packets, other)
         if shift is None:
-            raise ValueError("no packet of the second recording is one of the first")
+            raise NoSecond("no packet of the second recording is one of the first")
         theirs = {
             stamp + shift: [packet.data for packet in group]
             for stamp, group in groups_of(other).items()
@@ -640,7 +644,10 @@ def shift_between(packets, other):
 def packets_of(data, scan=True):
     """The packets of a second recording."""
     reader = Repair(None, None)
-    reader.read(data, scan)
+    try:
+        reader.read(data, scan)
+    except ivf.NotIvf as error:
+        raise NoSecond(str(error)) from None
     return reader.packets
 
 
