@@ -5,6 +5,7 @@ import http.client
 import json
 import os
 import pathlib
+import posixpath
 import random
 import re
 import signal
@@ -112,7 +113,7 @@ class Files(PageCase):
     def test_each_file_has_its_type_and_the_policy(self):
         self.serve()
         files = files_of_page()
-        self.assertTrue({"index.html", "main.js", "page.css", "icon.svg"} <= set(files))
+        self.assertTrue({"index.html", "main.js", "engines/http.js", "page.css", "icon.svg"} <= set(files))
         for name, (kind, text) in files.items():
             status, headers, body = self.ask(f"/page/{name}")
             self.assertEqual((status, headers["Content-Type"], body), (200, kind, text), name)
@@ -132,8 +133,8 @@ class Files(PageCase):
             if name.endswith(".html"):
                 # The policy would refuse these.
                 self.assertNotRegex(text, r"<style|\sstyle=|\son\w+=|<script(?! type=\"module\" src=)|javascript:")
-            for other in re.findall(r'(?:from|import) "\./([\w.]+)"', text):
-                self.assertIn(other, names, name)
+            for other in re.findall(r'(?:from|import) "(\.[\w./]+)"', text):
+                self.assertIn(posixpath.normpath(posixpath.join(posixpath.dirname(name), other)), names, name)
 
     def test_serve_has_no_page(self):
         from wokureti.server.live import Live

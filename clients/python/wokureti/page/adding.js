@@ -1,7 +1,7 @@
 // Another stream of the folder is opened: as the last source, or on a page of its own.
 
 import { ask } from "./ask.js";
-import * as server from "./interface.js";
+import { engine } from "./engine.js";
 import { notice } from "./status.js";
 
 const find = (id) => document.getElementById(id);
@@ -38,7 +38,7 @@ export class Adding {
   }
 
   async add() {
-    const { files } = await server.members("files");
+    const files = await engine.files();
     if (files.length) await this.choose(files, files);
     else this.status.say("there is no stream in this folder");
   }
@@ -52,8 +52,8 @@ export class Adding {
     }
     const { name, size } = dropped[0];
     const digest = await digestOf(dropped[0]);
-    const same = digest ? (await server.members(`same?name=${encodeURIComponent(name)}&size=${size}&sha256=${digest}`)).files : [];
-    if (same.length) await this.choose(same, (await server.members("files")).files);
+    const same = digest ? await engine.same(name, size, digest) : [];
+    if (same.length) await this.choose(same, await engine.files());
     else notice(`${name} is no stream in the folders of those that are open, or below them: move it there, or name it with --source`, { isBad: true, id: "dropped" });
   }
 
@@ -73,12 +73,12 @@ export class Adding {
     find("add-source").disabled = true;
     try {
       if (found.how === "page") {
-        const address = await server.openPage(found.file);
+        const address = await engine.page(found.file);
         if (!window.open(address, "_blank")) notice(`The page of ${found.file.split("/").pop()} is at ${address}`, { isBad: true, id: "opened" });
         this.status.say(`${found.file.split("/").pop()} is open on a page of its own`);
         return;
       }
-      const { source, changes } = await server.addSource(found.file);
+      const { source, changes } = await engine.add(found.file);
       await this.model.load(changes);
       this.status.say(`${found.file.split("/").pop()} is source ${source}`);
     } finally {

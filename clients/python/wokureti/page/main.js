@@ -10,7 +10,7 @@ import { Exporting } from "./exporting.js";
 import { Findings } from "./findings.js";
 import { Fragment, parse } from "./fragment.js";
 import { Frames } from "./frames.js";
-import * as server from "./interface.js";
+import { engine, whenLost } from "./engine.js";
 import * as keys from "./keys.js";
 import { writeLegend } from "./kinds.js";
 import { Macroblocks } from "./macroblock.js";
@@ -211,9 +211,9 @@ let isLost = false;
 let isReloading = false;
 let restarts = null;
 
-server.listen((name, changes) => {
+engine.changed((name, changes) => {
   if (name === "lost") {
-    if (!isLost) notice(server.whenLost(), { isBad: true, id: "lost" });
+    if (!isLost) notice(whenLost(), { isBad: true, id: "lost" });
     isLost = true;
     status.say("the server of this page does not answer");
     return;
@@ -233,7 +233,7 @@ server.listen((name, changes) => {
 async function meet() {
   const known = model.session?.instance;
   if (!known) return;
-  const { instance } = await server.members("session");
+  const { instance } = await engine.state();
   if (instance === known) return;
   isReloading = true;
   location.reload();

@@ -1,6 +1,6 @@
 // What vp8list says of the current packet, and of its header.
 
-import * as server from "./interface.js";
+import { engine } from "./engine.js";
 import { whyNone } from "./records.js";
 
 const find = (id) => document.getElementById(id);
@@ -55,7 +55,7 @@ export class PacketFacts {
     // The header of one packet is not shown below the name of another.
     writeTable(find("header-facts"), []);
     find("header-changes").hidden = true;
-    const answer = await server.members(`packets?from=${packet}&count=1&source=${source}`, "the facts of the packet");
+    const answer = await engine.look("packets", { from: packet, count: 1, source }, { waits: "the facts of the packet" });
     if (key !== this.asked) return;
     const [facts] = answer.packets;
     if (!facts) return;
@@ -71,7 +71,7 @@ export class PacketFacts {
 
   /** The fields of the header, by their names in RFC 6386. */
   async showHeader(key, source, packet) {
-    const header = await server.members(`header?packet=${packet}&source=${source}`, "the header of the packet");
+    const header = await engine.look("header", { packet, source }, { waits: "the header of the packet" });
     if (key !== this.asked) return;
     find("header-note").textContent = whyNone(header) ?? "";
     const fields = Object.entries(header.fields ?? {}).filter(([name]) => name !== "bits");

@@ -57,7 +57,7 @@ RANGE = re.compile("([0-9]{1,15})-([0-9]{1,15})\\.y4m")
 def files_of_page():
     """The files of the page, by their names: nothing else is served as a file."""
     folder = pathlib.Path(__file__).resolve().parent
-    return {path.name: (KINDS[path.suffix], path.read_bytes()) for path in sorted(folder.iterdir()) if path.suffix in KINDS}
+    return {path.relative_to(folder).as_posix(): (KINDS[path.suffix], path.read_bytes()) for path in sorted(folder.rglob("*")) if path.suffix in KINDS}
 
 
 class PageRoutes(Routes):
@@ -131,8 +131,8 @@ class PageRoutes(Routes):
         return response
 
     def read(self, request, parts):
-        if len(parts) == 2 and parts[0] == "page":
-            kind, text = self.files.get(parts[1] or "index.html", (None, None))
+        if len(parts) > 1 and parts[0] == "page":
+            kind, text = self.files.get("/".join(parts[1:]) or "index.html", (None, None))
             if kind is not None:
                 self.only(request)
                 return Response(200, kind, text)

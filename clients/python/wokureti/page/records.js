@@ -1,6 +1,6 @@
 // What vp8list says of the macroblocks of packets, fetched when it is looked at.
 
-import * as server from "./interface.js";
+import { engine } from "./engine.js";
 
 // Packets whose records are stored: a frame of 1080p has 8,160.
 const MOST_PACKETS = 6;
@@ -45,7 +45,7 @@ export class RecordStore {
     const key = `${this.model.revision} ${source} ${packet}`;
     let found = this.found.get(key);
     if (!found) {
-      found = server.members(`macroblocks?packet=${packet}&source=${source}`, `the macroblocks of packet ${packet}`).then((members) => new Records(members));
+      found = engine.look("macroblocks", { packet, source }, { waits: `the macroblocks of packet ${packet}` }).then((members) => new Records(members));
       found.catch(() => this.found.delete(key));
     }
     // The entries that were used last are at the end.
