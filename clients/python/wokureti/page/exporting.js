@@ -33,7 +33,7 @@ export class Exporting {
     this.tell(number, making).catch(() => {});
     try {
       const { file, name, said } = await engine.file("export", { name: number, signal: making.signal, got: (done, total) => this.status.share("the export is read", done / total) });
-      offer(file, name);
+      if (file) offer(file, name);
       this.status.say(`exported ${name}: ${said}`);
     } catch (error) {
       if (error.name === "AbortError") this.status.say("the export was stopped");

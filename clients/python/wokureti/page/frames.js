@@ -19,8 +19,12 @@ export class Frames {
 
   /** Drops frames of other revisions. */
   forget() {
+    const { instance } = this.model.session;
+    const isOther = this.instance !== undefined && this.instance !== instance;
+    this.instance = instance;
     for (const [key, entry] of this.found) {
-      if (entry.revision !== null && entry.revision !== this.model.revision) this.drop(key);
+      if (isOther) this.drop(key);
+      else if (entry.revision !== null && entry.revision !== this.model.revision) this.drop(key);
     }
   }
 

@@ -207,6 +207,15 @@ find("full").addEventListener("click", () => palette.fullScreen().catch((error) 
 
 // What the server says
 
+// Files that the page offers: by an address, or made here.
+for (const link of document.querySelectorAll("[data-file]")) {
+  link.addEventListener("click", (event) => {
+    if (engine.link(link.dataset.file, model.frame)) return;
+    event.preventDefault();
+    engine.offer(link.dataset.file, model.frame).catch((error) => notice(error.message, { isBad: true, id: "offered" }));
+  });
+}
+
 let isLost = false;
 let isReloading = false;
 let restarts = null;
@@ -291,7 +300,7 @@ async function begin() {
 }
 
 // For tests.
-window.wokureti = { model, frames, viewer, macroblocks, player, sound, timeline, editing, findings, editList, scriptPanel, cutting, thumbs, curves, strip };
+window.wokureti = { engine, model, frames, viewer, macroblocks, player, sound, timeline, editing, findings, editList, scriptPanel, cutting, thumbs, curves, strip };
 begin().catch((error) => {
   status.say(error.message);
   notice(error.message, { isBad: true });
