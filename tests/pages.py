@@ -144,8 +144,17 @@ class Page:
         return self.js("return wokureti.findings.check.findings.map(({ group, ...finding }) => finding)")
 
 
+STATE = ("edits", "undone", "script", "packets", "frames", "rate", "sources", "source_frames", "titles", "changing", "saved")
+
+
+def state(page):
+    """What both engines say of the session."""
+    session = page.session()
+    return {name: session[name] for name in STATE}
+
+
 def edited(page):
-    """Acts whose results both engines share: packets are deleted, held, copied, moved; undone, made again; frames are cut out, moved and faded."""
+    """Packets are deleted, held, copied, moved; edits are undone, and made again."""
     page.select(3, 6)
     page.press("delete")
     page.select(10, 12)
@@ -157,17 +166,21 @@ def edited(page):
     page.js("wokureti.model.select(30, 32); await wokureti.editing.copy(true); await wokureti.model.goPacket(5)")
     page.press("paste")
     page.press("undo")
-    page.js("wokureti.model.select(8, 12)")
+    return state(page)
+
+
+def scripted(page):
+    """Frames are cut out, moved and faded."""
+    page.select(8, 12)
     page.press("cut-out")
+    page.wait("!wokureti.model.selection")
     page.js("wokureti.model.select(14, 18); await wokureti.model.go(2)")
     page.press("move-here")
-    session = page.session()
-    return {name: session[name] for name in ("edits", "undone", "script", "packets", "frames", "rate", "sources", "source_frames", "titles", "changing")}
-
-
-def timeline(page):
-    """What the timeline draws."""
-    return page.js("return Array.from({ length: wokureti.model.packets }, (_, packet) => wokureti.timeline.entry(packet))")
+    page.wait("!wokureti.model.selection")
+    page.set_script(f"{page.session()['script']}; fade 0 2 3 256 0")
+    page.press("undo")
+    page.press("redo")
+    return state(page)
 
 
 def looked(page):
@@ -179,9 +192,8 @@ def looked(page):
         found.keys = await Promise.all([0, 5, packets - 1].flatMap((packet) => [1, -1].map((step) => engine.look("key", { source: 0, packet, step }))));
         found.cuts = await Promise.all([0, 4, frames - 1].flatMap((frame) => [1, -1].map((step) => engine.look("cut", { frame, step }))));
         found.ranges = await Promise.all([[0, 3], [2, 9], [0, packets]].map(([first, end]) => engine.look("range", { source: 0, first, end })));
-        found.tiles = await Promise.all([1, 2, 8].map((per) => engine.look("timeline", { source: 0, first: 0, per, count: 1024 })));
-        found.facts = (await engine.look("packets", { from: 0, count: 5, source: 0 })).packets;
-        found.header = await engine.look("header", { packet: 1, source: 0 });
-        found.blocks = (await engine.look("macroblocks", { packet: 1, source: 0 })).macroblocks;
+        const anew = (tile) => ({ ...tile, keys: tile.keys.map(([packet, , frame]) => [packet, frame]) });
+        found.tiles = await Promise.all([1, 2, 8].map((per) => engine.look("timeline", { source: 0, first: 0, per, count: 1024 }).then(anew)));
+        for (const line of ["list 0 5", "header 1", "macroblocks 1", "packet 2"]) found[line] = await engine.answer(line, 0);
         return JSON.stringify(found, (name, value) => (name === "revision" || name === "contents" ? undefined : value))"""
     return json.loads(page.js(script))

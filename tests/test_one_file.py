@@ -14,6 +14,7 @@ import os
 import pathlib
 import re
 import shutil
+import struct
 import subprocess
 import sys
 import tempfile
@@ -132,10 +133,12 @@ def looks(engine, clip):
     with engine.opened(clip) as page:
         page.wait("wokureti.model.session.listed")
         found = {"frames": page.frames(), "plain": pages.looked(page), "findings": page.checked()}
-        found["acts"] = pages.edited(page)
-        found["edited"] = pages.looked(page)
-        found["frames after"] = page.frames()
+        found["packets"] = pages.edited(page)
         found["findings after"] = page.checked()
+        found["edited"] = pages.looked(page)
+        found["script"] = pages.scripted(page)
+        found["scripted"] = pages.looked(page)
+        found["frames after"] = page.frames()
         return found
 
 
@@ -203,7 +206,7 @@ def same(alone, served, folder):
     for clip in (EXAMPLE, CLIPS / "hidden-altref.ivf", broken):
         mine, other = looks(alone, clip), looks(served, clip)
         yield from compare(clip.name, mine, other)
-        if mine["frames after"] != samples_of(clip, mine["acts"]["edits"]):
+        if mine["frames after"] != samples_of(clip, mine["script"]["edits"]):
             yield f"{clip.name}: frames after edits are not vp8serve's"
     for clip in (EXAMPLE, CLIPS / "scene-cuts.ivf"):
         mine, other = files(alone, clip, folder), files(served, clip, folder)
@@ -233,6 +236,30 @@ def kept(alone, clip):
         yield f"{page.browser.name}: edits are not kept: {page.session()['edits']}, not {before}"
 
 
+def tabs(alone, clip):
+    """A second tab with the same stream only looks."""
+    page = alone.page
+    browser = page.browser.browser
+    with alone.opened(clip):
+        page.select(3, 6)
+        page.press("delete")
+        first = browser.send("GET", "/window")
+        browser.use_tab(browser.new_tab())
+        page.browser.open(alone.address)
+        page.wait("document.getElementById('welcome') && !document.getElementById('welcome').hidden")
+        page.drop(clip)
+        page.ready()
+        said = page.wait("document.querySelector('#notices [data-id=only] span')?.textContent")
+        edits = page.session()["edits"]
+        page.js("document.querySelectorAll('#notices .notice').forEach((one) => one.remove()); wokureti.model.select(8, 9); document.getElementById('delete').click()")
+        again = page.wait("document.querySelector('#notices span')?.textContent")
+        if "another tab" not in said or said != again or page.session()["edits"] != edits or len(edits) != 3:
+            yield f"two tabs: {said!r}, {again!r}, {edits}, {page.session()['edits']}"
+        browser.send("DELETE", "/window")
+        browser.use_tab(first)
+        page.press("undo")
+
+
 def in_browser(browser, folder, address):
     """What one browser shows."""
     alone = Alone(browser, address)
@@ -240,8 +267,9 @@ def in_browser(browser, folder, address):
         if page.frames() != samples_of(EXAMPLE):
             yield f"{browser.name}: frames are not vp8serve's"
         name, data = page.offered("png")
-        if name != "frame-0.png" or data != ran(sys.executable, "-m", "wokureti", "png", EXAMPLE, "0", "-", env={**os.environ, "PYTHONPATH": str(TOP / "clients/python")}).stdout[:0] + data or data[:4] != b"\x89PNG":
-            yield f"{browser.name}: {name} is no picture"
+        size = struct.unpack(">II", data[16:24])
+        if name != "frame-0.png" or data[:4] != b"\x89PNG" or size != ivf.read_packets(EXAMPLE)[0][:2]:
+            yield f"{browser.name}: {name} is no picture: {data[:24]!r}"
     if played(alone, EXAMPLE):
         yield f"{browser.name}: playback does not stop"
     yield from kept(alone, EXAMPLE)
@@ -329,6 +357,7 @@ def run(folder):
                 if page.frames() != samples_of(EXAMPLE):
                     yield f"{name}: from a server of files, frames are not vp8serve's"
             if name == "chromium":
+                yield from tabs(Alone(browser, address), EXAMPLE)
                 yield from same(Alone(browser, address), Served(browser), folder)
                 if "--shots" in sys.argv:
                     shots(pathlib.Path(sys.argv[-1]), Alone(browser, address))

@@ -1,6 +1,7 @@
 // A curve over the timeline: a number of each packet's header, of the packets that are seen, or how much their frames differ from those before the edits.
 
 import { compared } from "./colours.js";
+import { objectsOf } from "./details.js";
 import { Refusal, engine, offer } from "./engine.js";
 
 const find = (id) => document.getElementById(id);
@@ -88,8 +89,8 @@ export class Curves {
     const { source, packets, session } = this.model;
     const rows = kind === "psnr" ? [...(this.timeline.curve?.values ?? [])].filter(([, value]) => value !== null).sort(([one], [other]) => one - other) : [];
     for (let first = 0; kind !== "psnr" && first < packets; first += MOST_ASKED) {
-      const answer = await engine.look("packets", { from: first, count: MOST_ASKED, source }, { waits: "the numbers of the packets" });
-      rows.push(...answer.packets.map((facts) => [facts.packet, this.valueIn(facts, kind)]));
+      const found = objectsOf(await engine.answer(`list ${first} ${MOST_ASKED}`, source, { waits: "the numbers of the packets" }));
+      rows.push(...found.map((facts) => [facts.packet, this.valueIn(facts, kind)]));
     }
     const stem = session.names[source].replace(/\.[^.]*$/, "");
     offer(new Blob([csvOf(kind, rows)], { type: "text/csv" }), `${stem}-${kind}.csv`);
@@ -112,9 +113,9 @@ export class Curves {
       return;
     }
     const { kind } = this;
-    const answer = await engine.look("packets", { from: first, count: end - first, source: this.model.source });
+    const found = objectsOf(await engine.answer(`list ${first} ${end - first}`, this.model.source));
     if (key !== this.key) return;
-    const values = answer.packets.map((facts) => this.valueIn(facts, kind));
+    const values = found.map((facts) => this.valueIn(facts, kind));
     const most = MOST[kind] || values.reduce((one, other) => Math.max(one, other), 1);
     this.timeline.curve = { lines: linesOf(values, first, most), most };
     this.timeline.redraw();

@@ -4,7 +4,8 @@
 //                                          Returns the `reply` to the last one, and the state afterwards: `session`, and of `page` the `place` of its packet and its `tiles`
 // paste(members)                           packets that were remembered by their numbers, inserted as one step
 // state()                                  the session: its packets, frames, edits, titles of steps, saves and notices
-// look(what, query, { waits, signal })     a question that changes nothing, by its name; `waits` names it for who waits
+// answer(line, source, { waits, signal })  the session's reply to a question about the packets of a source, as a text; `waits` names it for who waits
+// look(what, query, { waits, signal })     what the timeline shows: `timeline`, `place`, `range`, `key`, `cut`, `origins`, `numbers`, `times`; `repairs`, `repair_all`
 // frames(list, { of, lines, revision, low, signal })
 //                                          pictures of frames, some at a time: `of` nothing now; `{ before: source }` as that source was opened; `{ packets: source }`
 //                                          packets alone, without the script. With `lines` as they would be after these edits, which are not made: no list,

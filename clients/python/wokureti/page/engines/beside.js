@@ -2,7 +2,7 @@
 // page, its list, or what redo makes again.
 
 import { answer } from "./checking.js";
-import { objectsOf } from "./lines.js";
+import { objectsOf } from "../details.js";
 import { Session } from "./session.js";
 
 // Bytes of the pictures of cached states.

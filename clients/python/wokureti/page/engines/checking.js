@@ -1,6 +1,6 @@
 // A check of the packets of source 0, some at a time: whoever waits for the session comes first.
 
-import { objectsOf } from "./lines.js";
+import { objectsOf } from "../details.js";
 
 // The packets of the first question, and the milliseconds that one may take.
 const FIRST = 16;

@@ -1,7 +1,8 @@
 // Which packets there are: each has a number, those of the files first, then each one that an edit made. A stream is a list of numbers, so an edit moves
 // numbers, and a number says which packet is meant, wherever that is now.
 
-import { objectsOf, wordsOf } from "./lines.js";
+import { objectsOf } from "../details.js";
+import { wordsOf } from "./lines.js";
 import { baseOf, durationsOf, stepOf } from "./rates.js";
 import { KEY, EMPTY, SHOWN, tagOf } from "./tags.js";
 

@@ -45,6 +45,10 @@ async function look(what, query = {}, { waits = "", signal } = {}) {
   return (await get(text ? `${what}?${text}` : what, waits, signal)).json();
 }
 
+async function answer(line, source, { waits = "", signal } = {}) {
+  return (await get(`answer?source=${source}&line=${encodeURIComponent(line)}`, waits, signal)).text();
+}
+
 async function ask(lines, { revision, title, page } = {}) {
   const body = typeof lines === "string" ? { line: lines, revision, page } : { lines, revision, page };
   if (title && typeof lines !== "string") body.title = title;
@@ -148,6 +152,7 @@ function changed(heard, found) {
 use({
   isOver: "server",
   ask,
+  answer,
   look,
   frames,
   file,

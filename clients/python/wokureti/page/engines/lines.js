@@ -22,11 +22,6 @@ export function plain(line) {
   return wordsOf(line).join(" ");
 }
 
-/** The objects of a reply of several lines. */
-export function objectsOf(reply) {
-  return reply.split("\n").slice(1).map((line) => JSON.parse(line));
-}
-
 /** A script with a space after each node, as people write it. */
 export function spaced(script) {
   return script.replaceAll(";", "; ");

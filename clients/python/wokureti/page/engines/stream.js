@@ -1,5 +1,6 @@
 // The stream that the page edits: its session, its steps, and what the page asks of it.
 
+import { objectsOf } from "../details.js";
 import { nodesOf } from "../script.js";
 import { shotsOf } from "../shots.js";
 import { Refused } from "./calls.js";
@@ -7,7 +8,7 @@ import { Check, atEnd, atHeader } from "./checking.js";
 import { Clipboard, runsOf } from "./clipboard.js";
 import { Causes, Contents, readIvf } from "./contents.js";
 import { scriptOf, textOf as cutsOf } from "./cut_lists.js";
-import { objectsOf, plain, spaced } from "./lines.js";
+import { plain, spaced } from "./lines.js";
 import { stepsOf, textOf, titled } from "./lists.js";
 import { rateOf } from "./rates.js";
 import { Repairs } from "./repairs.js";
@@ -20,9 +21,8 @@ const MOST_STATES = 1 << 29;
 const MOST_EDITS = 500;
 const MOST_LINE = 200;
 const MOST_CHECKS = 8;
-// Packets, frames or columns that are told at a time; packets of a list that are asked for at a time.
+// Packets, frames or columns that are told at a time.
 const MOST_ENTRIES = 4096;
-const MOST_PACKETS = 10000;
 // The columns of the tiles that an answer to a change has; places of selected packets that are named; packets that a step inserts, at most.
 const COLUMNS = 1024;
 const MOST_PLACES = 3;
@@ -366,32 +366,6 @@ export class Stream {
 
   numbers({ source, first, count }) {
     return { revision: this.revision, contents: this.contents.name, numbers: runsOf(this.contents.streams[source].slice(first, first + count)) };
-  }
-
-  packets({ from, count, source }) {
-    const { length } = this.contents.streams[source];
-    const most = Math.max(0, Math.min(count, MOST_PACKETS, length - from));
-    return { revision: this.revision, source, count: length, packets: most ? objectsOf(this.session.ask(`list ${from} ${most}`, source)) : [] };
-  }
-
-  /** What `header` or `macroblocks` reports of a packet: objects, and members that say why there are none. */
-  details(word, { packet, source }) {
-    const objects = objectsOf(this.session.ask(`${word} ${packet}`, source));
-    const members = { revision: this.revision, source, packet, refused: null, repeats: false };
-    const [first] = objects.length === 1 ? objects : [{}];
-    if (first.refused !== undefined) return [[], { ...members, refused: { packet: first.refused, cause: first.cause } }];
-    return first.repeats ? [[], { ...members, repeats: true }] : [objects, members];
-  }
-
-  header(given) {
-    const [objects, members] = this.details("header", given);
-    const [fields = null, ...changes] = objects.map(({ packet, ...rest }) => rest);
-    return { ...members, fields, changes };
-  }
-
-  macroblocks(given) {
-    const [macroblocks, members] = this.details("macroblocks", given);
-    return { ...members, macroblocks };
   }
 
   times() {

@@ -24,7 +24,11 @@ const opened = new Promise((resolve) => (isOpen = resolve));
 async function compiled() {
   const packed = Uint8Array.from(atob(find("module-text").textContent.trim()), (letter) => letter.charCodeAt(0));
   const bytes = new Response(new Blob([packed]).stream().pipeThrough(new DecompressionStream("gzip"))).arrayBuffer();
-  return WebAssembly.compile(await bytes);
+  try {
+    return await WebAssembly.compile(await bytes);
+  } catch (error) {
+    throw new Error(`The engine does not start: ${error.message}. It needs WebAssembly with vectors, as Chromium 91, Firefox 113 and Safari 16.4 have it.`);
+  }
 }
 
 async function channel(heard) {
@@ -87,6 +91,7 @@ async function open(sources) {
   }
   own.session = await fresh.call("state");
   find("welcome").hidden = true;
+  document.body.classList.remove("is-empty");
   isOpen();
   own.heard("edit", own.session.changes);
 }
@@ -100,7 +105,11 @@ function warnOf(files) {
 async function take(files) {
   if (own.session || !files.length) return false;
   warnOf(files);
-  await waited(OPENING, open(files));
+  try {
+    await waited(OPENING, open(files));
+  } catch (error) {
+    notice(error.message, { isBad: true, id: "opened" });
+  }
   return true;
 }
 
@@ -128,7 +137,12 @@ async function keep({ text, ...found }) {
   return found;
 }
 
-function edited(name, given) {
+function checkOpen() {
+  if (!own.session) throw new Refusal(409, { error: "no file is open: drop one on the page" });
+}
+
+async function edited(name, given) {
+  checkOpen();
   if (own.only) throw new Refusal(409, { error: own.only });
   return waited("edit", own.main.call(name, given).then(keep));
 }
@@ -141,7 +155,6 @@ async function linesAfter(lines, revision) {
 }
 
 async function asked(list, { of, lines, revision, low, signal }) {
-  await opened;
   const how = { low, signal };
   if (!of && !lines) return own.main.call("frames", [list], how);
   if (of?.before !== undefined) return (await beside()).call("beside.before", [of.before, list], how);
@@ -151,7 +164,8 @@ async function asked(list, { of, lines, revision, low, signal }) {
   return (await beside()).call("beside.frames", [found.lines, [found.frame]], how);
 }
 
-function frames(list, given = {}) {
+async function frames(list, given = {}) {
+  await opened;
   return waited(given.low ? "" : `frame ${list[0]}`, asked(list, given));
 }
 
@@ -203,6 +217,7 @@ async function written(handle, pieces, name) {
 }
 
 async function save(source, page) {
+  checkOpen();
   const { file, next } = own.session.saves[source];
   const handle = await chosen(file ?? next);
   const { pieces, name, renumbered } = await waited("the packets to be saved", own.main.call("save", [source]));
@@ -243,6 +258,7 @@ async function exported({ signal }) {
 }
 
 async function file(kind, given = {}) {
+  checkOpen();
   if (kind === "export") return exported(given);
   return { file: new Blob([await own.main.call("cuts")], { type: "text/csv" }), name: `${own.about.name.replace(/\.[^.]*$/, "")}-cuts.csv` };
 }
@@ -269,6 +285,7 @@ function reportOf(findings, title) {
 }
 
 async function offered(kind, number) {
+  checkOpen();
   const stem = own.about.name.replace(/\.[^.]*$/, "");
   if (kind === "png") return offer(await pngOf(number), `frame-${number}.png`);
   if (kind === "edits") return offer(new Blob([await own.main.call("text")], { type: "text/plain" }), `${stem}.edits`);
@@ -276,6 +293,11 @@ async function offered(kind, number) {
   const title = `Findings of ${own.about.name}`;
   if (kind === "report") return offer(new Blob([reportOf(findings, title)], { type: "text/html" }), `${stem}-findings.html`);
   return offer(new Blob([JSON.stringify({ stream: own.about.name, findings, damage, notes }, null, 1)], { type: "application/json" }), `${stem}-findings.json`);
+}
+
+async function answer(line, source, { waits = "", signal } = {}) {
+  await opened;
+  return waited(waits, own.main.call("answer", [line, source], { signal }));
 }
 
 async function look(what, query = {}, { waits = "", signal } = {}) {
@@ -291,6 +313,7 @@ async function state() {
 
 use({
   isOver: "browser",
+  answer,
   look,
   state,
   frames,
@@ -315,11 +338,11 @@ use({
 /** The page before a file is open. */
 function welcome() {
   const input = find("welcome-file");
-  const opening = (files) => take(files).catch((error) => notice(error.message, { isBad: true, id: "opened" }));
-  find("welcome").hidden = false;
+  for (const id of ["welcome", "about", "list-save"]) find(id).hidden = false;
+  document.body.classList.add("is-empty");
   find("download").hidden = true;
   find("welcome-open").addEventListener("click", () => input.click());
-  input.addEventListener("change", () => opening([...input.files]));
+  input.addEventListener("change", () => take([...input.files]));
 }
 
 welcome();

@@ -34,6 +34,7 @@ const calls = {
   add: (source) => ({ ...stream.add(source), about: stream.about() }),
   ask: (lines, given) => ({ ...stream.ask(lines, given), text: stream.text() }),
   paste: (members) => ({ ...stream.paste(members), text: stream.text() }),
+  answer: (line, source) => stream.session.ask(line, source),
   state: () => stream.state(),
   look: (what, query) => stream.look(what, query),
   frames: (list) => stream.frames(list),
