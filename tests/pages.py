@@ -155,15 +155,15 @@ def state(page):
 
 def edited(page):
     """Packets are deleted, held, copied, moved; edits are undone, and made again."""
-    page.select(3, 6)
+    page.select(3, 5)
     page.press("delete")
-    page.select(10, 12)
+    page.select(6, 8)
     page.press("hold")
     page.press("undo")
     page.press("redo")
-    page.js("await wokureti.model.goPacket(20); wokureti.model.select(20, 23); await wokureti.editing.copy(false); await wokureti.model.goPacket(2)")
+    page.js("wokureti.model.select(9, 11); await wokureti.editing.copy(false); await wokureti.model.goPacket(2)")
     page.press("paste")
-    page.js("wokureti.model.select(30, 32); await wokureti.editing.copy(true); await wokureti.model.goPacket(5)")
+    page.js("const { packets } = wokureti.model; wokureti.model.select(packets - 3, packets - 1); await wokureti.editing.copy(true); await wokureti.model.goPacket(5)")
     page.press("paste")
     page.press("undo")
     return state(page)
@@ -171,10 +171,10 @@ def edited(page):
 
 def scripted(page):
     """Frames are cut out, moved and faded."""
-    page.select(8, 12)
+    page.select(4, 7)
     page.press("cut-out")
     page.wait("!wokureti.model.selection")
-    page.js("wokureti.model.select(14, 18); await wokureti.model.go(2)")
+    page.js("wokureti.model.select(9, 12); await wokureti.model.go(1)")
     page.press("move-here")
     page.wait("!wokureti.model.selection")
     page.set_script(f"{page.session()['script']}; fade 0 2 3 256 0")

@@ -152,7 +152,7 @@ def saved(node, chance, folder):
         text = "".join(f"{line}\n" for line in accepted).encode()
         restamps = ["--restamp"] if is_changed(clip, text) else []
         ran(SERVE, clip, "-", "--save", other, "--pad", *restamps, input=text)
-        wanted.append((accepted, other, exported, ran(SERVE, clip, "-", "--export", exported, input=text).returncode))
+        wanted.append((accepted, other, exported, ran(SERVE, clip, "-", "--export", exported, "--pad", input=text).returncode))
     for task, result, (accepted, other, exported, status) in zip(tasks, node.tasks(tasks), wanted):
         mine, export = task["saves"]
         where = f"{task['files'][0].name}, {'; '.join(accepted)[:300]}"
