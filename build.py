@@ -9,9 +9,9 @@ proved by then is kept. If nothing has changed since the last time, it does noth
             Its messages name SCRIPT, which called it
   --verify  builds both programs and the library for all processors of dist/, and compares them with dist/ byte for byte, if dist/ is of these sources.
             With --built they are taken from crates/, where `rt ci` has proved them
-  --dist    the same, and packs them with the client into a new dist/ with a wheel for each system, if VERSION is new
+  --dist    the same, and packs them with the client into a new dist/ with a wheel for each system and the page in one file, if VERSION is new
   --library builds the C library into bin/: libwokureti.so.0, libwokureti.a, wokureti.h and files for pkg-config and CMake. --built as above
-  --web     builds the page without a server into bin/web: the library's LLVM module, compiled for WebAssembly, outside the verdict. --built as above
+  --web     builds the page that needs no server, bin/wokureti.html: the library's LLVM module, compiled for WebAssembly, outside the verdict. --built as above
   --arm     proves and builds the programs and the C library for Linux on ARM into bin/arm. --built as above
   --windows compiles the LLVM modules of the programs and of the library for Windows into bin/windows, outside the verdict. --built as above
   --macos   the same for macOS, as assembly, into bin/macos; nobody has run it
@@ -43,6 +43,8 @@ BIN = TOP / "bin"
 # Options that build for another system: a module of release/ has the name of each.
 ELSEWHERE = ("arm", "windows", "macos", "wasi")
 STAMP = BIN / ".built"
+# The page in one file in dist/, and the name of its line in dist/SOURCES.
+PAGE_FILE, PAGE = "wokureti.html", "page wokureti.html"
 WOKURETI = """#!/bin/sh
 # Starts the Python client of this checkout: wokureti --help
 here=$(dirname "$(readlink -f "$0")")
@@ -235,8 +237,32 @@ def make_web(cpu):
 
     check_kit()
     with room_to_build() as room:
-        web.build(room, BIN / "web", cpu, Built.is_there, say)
+        web.build(room, BIN, cpu, Built.is_there, say)
     return 0
+
+
+def made_page(room):
+    """The page in one file, and the lines of dist/SOURCES about it."""
+    from release import page, web
+
+    module = web.module(room, CPUS[0], Built.is_there, say)
+    data = page.made(module, version())
+    digests = {"sources of the page": page.sources(), "module in WebAssembly": hashlib.sha256(module).hexdigest()}
+    return data, {**digests, PAGE: hashlib.sha256(data).hexdigest()}
+
+
+def verify_page(dist, room):
+    """Compares the page of dist/. Returns a sentence if that could not be done."""
+    from release import page
+
+    if PAGE not in dist:
+        return f"dist/ has no {page.NAME}"
+    if page.sources() != dist["sources of the page"]:
+        return f"the page of dist/ is of an earlier state of version {dist['version']}, so it is not compared"
+    for name, value in made_page(room)[1].items():
+        if dist[name] != value:
+            raise Failed(f"the {name} is not the one of dist/")
+    return ""
 
 
 def names_of(sources, objects, programs, libraries):
@@ -262,7 +288,9 @@ def check_wheels(dist):
     for name, (file, wanted) in wheels.items():
         if not (DIST / file).is_file() or sum_of(DIST / file) != wanted:
             raise Failed(f"dist/{file} is not the {name} of dist/SOURCES")
-    others = {path.name for path in DIST.iterdir()} - {file for file, _ in wheels.values()} - {"SOURCES"}
+    if PAGE in dist and (not (DIST / PAGE_FILE).is_file() or sum_of(DIST / PAGE_FILE) != dist[PAGE]):
+        raise Failed(f"dist/{PAGE_FILE} is not the page of dist/SOURCES")
+    others = {path.name for path in DIST.iterdir()} - {file for file, _ in wheels.values()} - {"SOURCES", *([PAGE_FILE] if PAGE in dist else [])}
     if wheels and others:
         raise Failed(f"dist/ has files that dist/SOURCES does not name: {', '.join(sorted(others))}")
     for target in targets.SHIPPED:
@@ -327,8 +355,11 @@ def verify():
     with objects_of() as (objects, room):
         left = {targets.X86_64: verify_here(dist, objects, room)}
         left |= {target: verify_other(target, builder, dist, room) for target, builder in with_wheels().items()}
-    for text in filter(None, left.values()):
+        of_page = verify_page(dist, room)
+    for text in filter(None, [*left.values(), of_page]):
         say(text)
+    if not of_page:
+        say(f"dist/{PAGE_FILE} is, byte for byte, what the sources build, outside the verdict")
     whole = [target.name for target, text in left.items() if not text]
     if whole:
         say(f"the programs and libraries of dist/ for {' and '.join(whole)} are, byte for byte, what the proved sources build")
@@ -366,16 +397,20 @@ def make_dist():
     with objects_of() as (objects, room):
         made, names = made_for_all(objects, room)
         texts = {name: subprocess.run([made[targets.X86_64][name, CPUS[0]], "--help"], capture_output=True, text=True, check=True).stdout for name in PROGRAMS}
-        pack(made, names, manuals.files(texts, version(), today()))
+        data, of_page = made_page(room)
+        pack(made, {**names, **of_page}, manuals.files(texts, version(), today()), data)
     return 0
 
 
-def pack(made, names, shared):
-    """Replaces dist/ by the wheels of these programs and a file SOURCES with these lines."""
+def pack(made, names, shared, page=None):
+    """Replaces dist/ by the wheels of these programs, the page and a file SOURCES with these lines."""
     fresh = DIST.with_name(".dist")
     shutil.rmtree(fresh, ignore_errors=True)
     fresh.mkdir()
     sizes = {}
+    if page is not None:
+        (fresh / PAGE_FILE).write_bytes(page)
+        sizes[PAGE_FILE] = len(page)
     for target, files in made.items():
         path = fresh / target.wheel(version())
         wheel.write(path, target, version(), today(), files, shared)

@@ -2,7 +2,7 @@
 """Times the page's module in WebAssembly next to vp8serve: web.py [CLIP ..]
 
 All frames of a clip in order, in processor time: by vp8serve with its output to /dev/null, and by the module in Node, once while V8 still compiles it and then in
-sessions after that. Without a clip it takes clips of 300 frames of 640x360 and 1920x1080, which ffmpeg makes once. The page is that of WOKURETI_WEB, or bin/web;
+sessions after that. Without a clip it takes clips of 300 frames of 640x360 and 1920x1080, which ffmpeg makes once. The page is that of WOKURETI_PAGE, or bin/wokureti.html;
 several, separated by `:`, are compared. `TURNS=N` sets how many sessions are timed.
 """
 
@@ -15,7 +15,7 @@ import sys
 
 TOP = pathlib.Path(__file__).resolve().parent.parent
 SERVE = os.environ.get("VP8SERVE") or str(TOP / "bin/vp8serve")
-PAGES = (os.environ.get("WOKURETI_WEB") or str(TOP / "bin/web")).split(":")
+PAGES = (os.environ.get("WOKURETI_PAGE") or str(TOP / "bin/wokureti.html")).split(":")
 STORE = pathlib.Path(os.environ.get("XDG_CACHE_HOME") or pathlib.Path.home() / ".cache") / "wokureti"
 TURNS, LIMIT = int(os.environ.get("TURNS", "5")), 1800
 SIZES = (("640x360", "1500k"), ("1920x1080", "6M"))

@@ -206,10 +206,10 @@ def colours(browser, room):
 # What the functions of the modules return, for arguments whose results are known.
 FUNCTIONS = """
     const modules = {};
-    for (const name of ["steps", "player", "script", "window", "fragment", "colours", "timeline", "tiles", "findings", "keys", "interface", "loupe", "shots", "strip", "curves", "cutting", "times", "sound"]) {
+    for (const name of ["steps", "player", "script", "window", "fragment", "colours", "timeline", "tiles", "findings", "keys", "engine", "loupe", "shots", "strip", "curves", "cutting", "times", "sound"]) {
       modules[name] = await import(new URL(`${name}.js`, document.baseURI));
     }
-    const { steps, player, script, window: part, fragment, colours, timeline, tiles, findings, keys, interface: server, loupe, shots, strip, curves, cutting, times, sound } = modules;
+    const { steps, player, script, window: part, fragment, colours, timeline, tiles, findings, keys, engine, loupe, shots, strip, curves, cutting, times, sound } = modules;
     const anew = (script, frames = [100, 40]) => {
       const { shots: found, isAll } = shots.shotsOf(script, frames);
       return [shots.nodesFor(found, frames).join("; "), isAll];
@@ -254,7 +254,7 @@ FUNCTIONS = """
       colours.compared(frame, other).differing, colours.compared(frame, other).psnr.y.toFixed(4), colours.compared(frame, frame).psnr.v === Infinity, colours.toPlane(frame, "v")[3] & 255,
       [2, 3, 9].map((value) => timeline.firstAt([1, 3, 5], value)), [1, 0.5, 0.3, 0.001].map(tiles.perOf),
       findings.ordered([{ severity: "note" }, { severity: "damage" }]).map(({ place }) => place), keys.nameOf({ key: "Z", ctrlKey: true, shiftKey: true }), keys.nameOf({ key: "?", shiftKey: true }),
-      server.sizeOf(175, 143), loupe.textAt(frame, other, 1, 1),
+      engine.sizeOf(175, 143), loupe.textAt(frame, other, 1, 1),
       anew("-"), anew("trim 0 10 20; trim 1 5 100"), anew("source 1; splice 0 1; trim 2 90 20; trim 2 110 20; splice 3 4"), anew("trim 0 0 50; fade 1 40 10 256 0; trim 0 50 50; fade 3 0 5 0 256; splice 2 4"),
       anew("crop 0 0 0 2 2; trim 1 0 5"), anew("fade 0 10 10 256 0"), anew("fade 0 0 10 0 256; trim 1 5 20"), anew("trim 0 0 0"), anew("trim 0 0 5; splice 1 1"), anew("source 1; splice 0 1; trim 2 0 0; splice 2 0"),
       after((found) => shots.kept(found, { first: 5, end: 9 })), after((found) => shots.without(found, { first: 5, end: 9 })), after((found) => shots.moved(found, { first: 5, end: 9 }, 20)), after((found) => shots.moved(found, { first: 20, end: 22 }, 3)),
@@ -1244,8 +1244,8 @@ def shots_and_fades(browser, room, clip, other):
 
 # The bytes of the export.
 EXPORTED = """
-    const { exported } = await import(new URL("interface.js", document.baseURI));
-    const bytes = new Uint8Array(await (await exported()).file.arrayBuffer());
+    const { engine } = await import(new URL("engine.js", document.baseURI));
+    const bytes = new Uint8Array(await (await engine.file("export")).file.arrayBuffer());
     let text = "";
     for (const byte of bytes) text += String.fromCharCode(byte);
     return btoa(text);"""

@@ -20,7 +20,8 @@ sys.path[1:1] = [str(TOP), str(TOP / "compare"), str(TOP / "tests"), str(TOP / "
 import test_web  # noqa: E402
 import results  # noqa: E402
 from library import wasm_code  # noqa: E402
-from release import retarget, web  # noqa: E402
+from release import page, retarget, web  # noqa: E402
+from release.sources import version  # noqa: E402
 
 POINTER = re.compile(r"^( *)(%\S+) = load ptr, ptr (%\S+), align 8", re.M)
 
@@ -42,8 +43,8 @@ def compiled(text, folder, options=()):
 
 def is_noticed(module, folder):
     """Whether tests/test_web.py reports a difference of a frame or of a random request list, or the module fails."""
-    test_web.PAGE = folder / "page"
-    web.pack(module, test_web.PAGE)
+    test_web.PAGE = folder / page.NAME
+    test_web.PAGE.write_bytes(page.made(module, version()))
     node, chance = test_web.Node(), random.Random(75)
     try:
         return any(itertools.chain(test_web.frames(node), test_web.lists(node, chance, folder)))

@@ -107,17 +107,17 @@ WINDOWS = Target(
     machines=("amd64", "x86_64"),
 )
 PAGE = Target(
-    name="the page, in a browser",
-    installed="`./build.py --web`; open `bin/web/index.html`",
+    name="any system with a browser",
+    installed="the page in one file: `./build.py --web` makes `bin/wokureti.html`, and the next version has it in `dist/`. Open it, and drop a file on it",
     proof="not proved: the same LLVM module, rewritten for pointers of 4 bytes and compiled for WebAssembly",
-    tested="in Node and in Chromium",
+    tested="in Node, Chromium and Firefox; never in Safari",
     builds=("wasm32",),
     programs=(),
     library="",
 )
 MACOS = Target(
     name="macOS",
-    installed="not shipped: use the page; `./build.py --macos` makes assembly for `cc`",
+    installed="not shipped: use the page in one file; `./build.py --macos` makes assembly for `cc`",
     proof="not proved: the same LLVM module, compiled for another system",
     tested="a small module links; it was never run by us",
     system="Darwin",

@@ -6,6 +6,7 @@ It prints what differs and ends with 1, or prints nothing but what it skipped, a
 """
 
 import contextlib
+import hashlib
 import io
 import os
 import pathlib
@@ -116,12 +117,18 @@ def check_dist(folder):
             path.write_text(f"{name} for {cpu}")
             names[build.name_of(name, cpu)] = sum_of(path)
     with mock.patch.object(build, "DIST", dist), mock.patch.object(wheel, "DIST", dist), contextlib.redirect_stderr(io.StringIO()) as errors:
-        build.pack(made, names, {})
-        expect("what a version adds to git", errors.getvalue().count(" MB"), len(targets.SHIPPED) + 1)
+        names[build.PAGE] = hashlib.sha256(b"the page").hexdigest()
+        build.pack(made, names, {}, b"the page")
+        expect("what a version adds to git", errors.getvalue().count(" MB"), len(targets.SHIPPED) + 2)
         expect("a dist/ as it was written", refused(lambda _: build.check_wheels(names), ""), "")
         expect("another digest", refused(lambda _: build.check_wheels({**names, "program vp8list for aarch64": "-"}), ""), "the wheel's vp8list for aarch64 is not the one of dist/SOURCES")
         (dist / "wokureti-0.1.0.whl").write_text("an earlier one")
         expect("another file", refused(lambda _: build.check_wheels(names), ""), "dist/ has files that dist/SOURCES does not name: wokureti-0.1.0.whl")
+        (dist / "wokureti-0.1.0.whl").unlink()
+        (dist / build.PAGE_FILE).write_bytes(b"another page")
+        expect("another page", refused(lambda _: build.check_wheels(names), ""), f"dist/{build.PAGE_FILE} is not the page of dist/SOURCES")
+        (dist / build.PAGE_FILE).unlink()
+        expect("no page", refused(lambda _: build.check_wheels(names), ""), f"dist/{build.PAGE_FILE} is not the page of dist/SOURCES")
         file = targets.ARM.wheel(build.version())
         (dist / file).write_bytes((dist / file).read_bytes() + b"x")
         expect("a changed wheel", refused(lambda _: build.check_wheels(names), ""), f"dist/{file} is not the wheel for Linux on ARM of dist/SOURCES")

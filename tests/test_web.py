@@ -1,36 +1,39 @@
 #!/usr/bin/env python3
-"""Tests the page without a server, clients/web, in Node and in chromium: its frames of all stored clips and conformance streams, its replies to random
-requests, and the files that its edits save are those of vp8serve.
+"""Tests the engine of the page in one file in Node: its frames of all stored clips and conformance streams, its replies to random requests, and the files
+that its edits save are those of vp8serve; files, lists and requests that it refuses. tests/test_one_file.py opens the page in browsers.
 
-The page is that of the variable WOKURETI_WEB, or bin/web: ./build.py --web makes it. It prints what differs and ends with 1, or prints nothing and ends with 0; a
-line `skipped: ..` names what could not be run.
+The page is that of the variable WOKURETI_PAGE, or bin/wokureti.html: ./build.py --web makes it. It prints what differs and ends with 1, or prints nothing and ends
+with 0; a line `skipped: ..` names what could not be run.
 """
 
 import base64
-import contextlib
+import gzip
 import hashlib
 import json
 import os
 import pathlib
 import random
+import re
 import shutil
 import subprocess
 import sys
 import tempfile
 
 TOP = pathlib.Path(__file__).resolve().parent.parent
-sys.path[1:1] = [str(TOP / "clients/python"), str(TOP / "compare")]
+sys.path[1:1] = [str(TOP), str(TOP / "clients/python"), str(TOP / "compare")]
 import test_library  # noqa: E402
 from wokureti import Session  # noqa: E402
-from wokureti.tools import ivf  # noqa: E402
+from wokureti.session.lines import is_edit  # noqa: E402
+from release import page  # noqa: E402
+from release.sources import Failed, version  # noqa: E402
 from library.webm import webm  # noqa: E402
 
-PAGE = pathlib.Path(os.environ.get("WOKURETI_WEB") or TOP / "bin/web")
+PAGE = pathlib.Path(os.environ.get("WOKURETI_PAGE") or TOP / "bin/wokureti.html")
 SERVE = os.environ.get("VP8SERVE") or str(TOP / "bin/vp8serve")
 CLIPS = sorted((TOP / "crates/gate_clips/data").glob("*.ivf"))
 STREAMS = sorted((TOP / "conformance/streams").rglob("*.ivf"))
 EXAMPLE = TOP / "examples/mandelbrot.ivf"
-LIMIT, LISTS = 300, 40
+LIMIT, LISTS, SAVES = 300, 40, 20
 EDITED = ("hidden-altref", "scene-cuts", "golden-references", "small", "odd-size", "hidden-and-dropped")
 
 
@@ -39,7 +42,7 @@ def ran(*words, **more):
 
 
 class Node:
-    """The page's scripts in Node."""
+    """The page's worker in Node."""
 
     def tasks(self, tasks):
         """The result of each task."""
@@ -133,185 +136,111 @@ def bounded(node, folder):
         yield f"large pictures: {result['memory']} bytes of memory"
 
 
-def edited(node, chance, folder):
-    """Steps of the editor: the frames of the saved file are those that they leave."""
+def saved(node, chance, folder):
+    """Random lists of edits as steps, of which some are undone and made again: files that are saved and exported are those that vp8serve writes with the same lines."""
     tasks, wanted = [], []
-    for path in [EXAMPLE, *(path for path in [*CLIPS, *STREAMS] if path.stem in EDITED)]:
-        left, steps = served(path), []
-        for _ in range(3):
-            first = chance.randrange(len(left))
-            end = chance.randrange(first + 1, len(left) + 1)
-            name = chance.choice(("keep", "cut"))
-            after = left[first:end] if name == "keep" else left[:first] + left[end:]
-            if not after:
-                continue
-            steps.append(f"{name} {first} {end}")
-            if chance.randrange(3):
-                left = after
-            else:
-                steps.append("undo")
-        tasks.append({"file": path, "steps": steps, "save": folder / f"{path.stem}-edited.ivf"})
-        wanted.append(left)
-    for task, result, left in zip(tasks, node.tasks(tasks), wanted):
-        where = f"{task['file'].name}, {', '.join(task['steps'])}"
-        if result.get("error") or served(task["save"]) != left:
-            yield f"{where}: {result.get('error') or 'other frames'}"
-            continue
-        _, packets = ivf.read_packets(task["save"])
-        stamps = [stamp for stamp, data in packets if ivf.is_shown(data)]
-        if task["steps"] and stamps[:1] != [0] or any(after <= before for before, after in zip(stamps, stamps[1:])):
-            yield f"{where}: time stamps {stamps[:9]}"
+    for number in range(SAVES):
+        clip = chance.choice([EXAMPLE, *(path for path in CLIPS if path.stem in EDITED)])
+        lines = [line for line in test_library.requests(chance, 1, 20, False).splitlines() if is_edit(line.strip())]
+        accepted = made(clip, lines)
+        mine, other, exported, export = (folder / f"{number}-{name}.ivf" for name in ("mine", "other", "exported", "export"))
+        asks = [["ask", [[line], {}]] for line in accepted]
+        if accepted:
+            asks += [["ask", ["undo", {}]], ["ask", ["redo", {}]]]
+        asks += [["save", [0]], ["lines", []], ["beside.export", [accepted]]]
+        tasks.append({"files": [clip], "asks": asks, "saves": [mine, export]})
+        text = "".join(f"{line}\n" for line in accepted).encode()
+        restamps = ["--restamp"] if is_changed(clip, text) else []
+        ran(SERVE, clip, "-", "--save", other, "--pad", *restamps, input=text)
+        wanted.append((accepted, other, exported, ran(SERVE, clip, "-", "--export", exported, "--pad", input=text).returncode))
+    for task, result, (accepted, other, exported, status) in zip(tasks, node.tasks(tasks), wanted):
+        mine, export = task["saves"]
+        where = f"{task['files'][0].name}, {'; '.join(accepted)[:300]}"
+        if result.get("error") or result["results"][-2] != accepted:
+            yield f"{where}: {result.get('error') or result['results'][-2]}"
+        elif mine.read_bytes() != other.read_bytes():
+            yield f"{where}: another file is saved"
+        elif (status == 0) != export.is_file() or (status == 0 and export.read_bytes() != exported.read_bytes()):
+            yield f"{where}: another export, status {status}, {result['results'][-1]}"
 
 
-def repaired(node, folder):
-    """Streams with refused packets: after the repair none is refused, frames up to the first refused one are as before, and as many are shown."""
-    head, packets = ivf.read_packets(TOP / "crates/gate_clips/data/scene-cuts.ivf")
-    key = next(at for at, (_, data) in enumerate(packets) if at and ivf.is_key(data))
-    cases = {"middle": (3, len(packets)), "key": (key, len(packets)), "first": (0, len(packets) - key)}
+def made(clip, lines):
+    """The lines that vp8serve accepts one after the other."""
+    replies = ran(SERVE, clip, input="".join(f"{line}\n" for line in lines).encode()).stdout.decode().splitlines()
+    return [" ".join(line.split()) for line, reply in zip(lines, replies) if reply.startswith("ok ")]
+
+
+def is_changed(clip, text):
+    """Whether the packets of source 0 are others after these lines."""
+    with Session(clip) as session:
+        for line in text.decode().splitlines():
+            session.request(line)
+        contents = session.edits.contents()
+        return contents.is_edited(0, contents.streams[0])
+
+
+def refused(node, folder):
+    """Files that are refused, lists that are not this stream's, and requests of another revision: each is a sentence, and nothing is lost."""
+    files = {"empty.ivf": b"", "text.ivf": b"a text and no stream " * 9, "other.webm": webm([b"\0" * 40], [0], codec=b"V_VP9"), "short.ivf": EXAMPLE.read_bytes()[:20]}
+    says = {"empty.ivf": "Header", "text.ivf": "Magic", "other.webm": "NoVideo", "short.ivf": "Header"}
     tasks = []
-    for name, (at, _) in cases.items():
-        broken = [(stamp, data[:2] if place == at else data) for place, (stamp, data) in enumerate(packets)]
-        path = folder / f"{name}.ivf"
-        path.write_bytes(b"".join(ivf.pieces(head, len(broken), broken)))
-        tasks.append({"file": path, "steps": ["repair"], "save": folder / f"{name}-repaired.ivf"})
-    whole = served(TOP / "crates/gate_clips/data/scene-cuts.ivf")
-    for task, result, (at, count) in zip(tasks, node.tasks(tasks), cases.values()):
-        found = [] if result.get("error") else served(task["save"])
-        wanted = {**dict(enumerate(whole)), **({n: whole[at - 1] for n in range(at, max(at + 1, key if at < key else at + 1))} if at else {})}
-        start = found[: at or 1] == (whole[:at] if at else whole[key : key + 1])
-        if result.get("error") or len(found) != count or not start or any(" " in one for one in found) or (at and found[at] != wanted[at]):
-            yield f"{task['file'].name}: {result.get('error') or found}"
+    for name, data in files.items():
+        (folder / name).write_bytes(data)
+        tasks.append({"files": [EXAMPLE], "asks": [["add", [{"file": folder / name}]], ["state", []]]})
+    for (name, word), result in zip(says.items(), node.tasks(tasks)):
+        said, state = result.get("results", [None] * 4)[2:4]
+        if not said or word not in said.get("refused", {}).get("error", "") or state["packets"] != 48 or len(state["sources"]) != 1:
+            yield f"{name}: {result.get('error') or said} {state and state['sources']}"
+    yield from lists_of_others(node)
+    (result,) = node.tasks([{"files": [EXAMPLE], "asks": [["ask", [["delete 3"], {"revision": 9}]], ["ask", [["delete 3", "delete 99"], {}]], ["ask", [["delete 3"], {}]], ["state", []]]}])
+    stale, second, fine, state = result["results"][2:]
+    if "changed" not in stale["refused"]["error"] or second["refused"]["reply"] != "refused Place" or fine["reply"] != "ok 47" or state["edits"] != ["delete 3"]:
+        yield f"refused edits: {stale}, {second}, {fine['reply']}, {state['edits']}"
 
 
-@contextlib.contextmanager
-def browser_of():
-    """Chromium, or None."""
-    if shutil.which("chromium") is None or shutil.which("chromedriver") is None:
-        print("skipped: chromium and chromium-driver are not there")
-        yield None
+def lists_of_others(node):
+    """A list that the browser kept may be anybody's."""
+    with Session(EXAMPLE) as session:
+        item = session.edits.contents().inputs.all[0]
+        first = "# wokureti: edits of {} packets, {} bytes, sha256 {}\n".format(*item.extent(), item.digest())
+    good = f"{first}delete 3\n# step 2 <b>Two</b>\ndelete 4\nhold 2\n"
+    bad = {
+        "of another stream": "# wokureti: edits of 9 packets, 9 bytes, sha256 " + 64 * "0" + "\ndelete 3\n",
+        "no edit": f"{first}frame 3\n",
+        "a question": f"{first}script\n",
+        "refused": f"{first}delete 3\ndelete 999\n",
+        "cut off": f"{first}delete 3",
+        "no list": "\0\1\2",
+        "empty": "",
+        "a carriage return": f"{first}delete 3\rdelete 4\n",
+    }
+    texts = [good, *bad.values()]
+    for name, result in zip(["good", *bad], node.tasks([{"files": [EXAMPLE], "asks": [["take", [text]], ["state", []], ["text", []]]} for text in texts])):
+        if result.get("error"):
+            yield f"a list, {name}: {result['error']}"
+            continue
+        taken, state, text = result["results"][2:]
+        wanted = (True, ["delete 3", "delete 4", "hold 2"], good) if name == "good" else (False, [], first)
+        if (taken["isTaken"], state["edits"], text) != wanted or bool(state["notices"]) != (name != "good"):
+            yield f"a list, {name}: {taken}, {state['edits']}, {state['notices']}, {text!r}"
+
+
+def previews(node):
+    """Frames and findings after edits that are not made change nothing: no edit, no redo, no file."""
+    given = [["ask", [["delete 5"], {}]], ["ask", [["hold 3"], {}]], ["ask", ["undo", {}]]]
+    after = [["state", []], ["text", []]]
+    looks = [["beside.frames", [["delete 5", "delete 7"], [0, 7]]], ["beside.findings", [["delete 5", "replace 9 1000"], 9]], ["beside.before", [0, [5]]], ["beside.packet", [["delete 5"], 0, 9]]]
+    plain, looked = node.tasks([{"files": [EXAMPLE], "asks": [*given, *asks, *after, ["ask", ["redo", {}]]]} for asks in ([], looks)])
+    if plain.get("error") or looked.get("error"):
+        yield f"previews: {plain.get('error') or looked.get('error')}"
         return
-    from browser import Browser
-
-    with Browser(1200, 800) as browser:
-        yield browser
-
-
-SUMS = """
-const sums = [];
-const hex = (bytes) => Array.from(new Uint8Array(bytes), (byte) => byte.toString(16).padStart(2, "0")).join("");
-const stream = await page.client.call("open", Uint8Array.from(atob(args[0]), (letter) => letter.charCodeAt(0)));
-for (let n = 0; n < stream.frames.length; n++) {
-  try {
-    sums.push(hex(await crypto.subtle.digest("SHA-256", (await page.client.call("samples", n)).samples)));
-  } catch (error) {
-    sums.push(error.message);
-  }
-}
-return sums;
-"""
-
-
-def in_browser(browser, folder):
-    """The page itself, opened from the disk."""
-    browser.open((PAGE / "index.html").as_uri())
-    browser.run("await page.started")
-    for path in CLIPS:
-        found, count = browser.run(SUMS, base64.b64encode(path.read_bytes()).decode()), 0
-        with tempfile.TemporaryDirectory() as room:
-            out = pathlib.Path(room, "out.y4m")
-            ran(SERVE, path, "-", out, input="".join(f"frame {n}\n" for n in range(len(found))).encode())
-            for n, samples in enumerate(pieces(out.read_bytes())):
-                count += 1
-                if hashlib.sha256(samples).hexdigest() != found[n]:
-                    yield f"chromium: {path.name}: frame {n} is another one"
-        if not count:
-            yield f"chromium: {path.name}: no frame"
-    yield from by_hand(browser, folder)
-    errors = browser.errors()
-    if errors:
-        yield f"chromium: {errors[:3]}"
-
-
-def by_hand(browser, folder):
-    """A file is dropped, frames are stepped and played, a part is kept, the step is undone, and the file is saved."""
-    data, whole = EXAMPLE.read_bytes(), served(EXAMPLE)
-    drop = """const given = new DataTransfer(); given.items.add(new File([Uint8Array.from(atob(args[0]), (letter) => letter.charCodeAt(0))], "clip.ivf"));
-        document.dispatchEvent(new DragEvent("drop", { dataTransfer: given, bubbles: true, cancelable: true }))"""
-    browser.run(drop, base64.b64encode(data).decode())
-    browser.wait("page.count === args[0] && !page.isBusy && document.getElementById('picture').width > 1", len(whole))
-    for key, frame in (("Right", 1), ("Right", 2), ("Left", 1), ("End", len(whole) - 1), ("Home", 0)):
-        browser.key(key)
-        browser.wait("page.current === args[0] && !page.isBusy", frame)
-    shown = browser.run("const pen = document.getElementById('picture'); return Array.from(pen.getContext('2d').getImageData(pen.width >> 1, pen.height >> 1, 1, 1).data)")
-    if shown != colour_of(EXAMPLE):
-        yield f"chromium: the pixel in the middle is {shown}"
-    browser.click("#play")
-    browser.wait("page.current > 3")
-    browser.click("#play")
-    browser.wait("!page.isBusy")
-    for frame, side in ((7, "first"), (11, "last")):
-        browser.run("await page.step(args[0] - page.current)", frame)
-        browser.wait("page.current === args[0] && !page.isBusy", frame)
-        browser.run("page.mark(args[0])", side)
-    browser.click("#keep")
-    browser.wait("page.count === 5 && !page.isBusy")
-    saved = """const seen = new Promise((resolve) => { URL.createObjectURL = (blob) => { resolve(blob.arrayBuffer()); return "#"; }; });
-        document.getElementById("save").click(); const bytes = new Uint8Array(await seen); let text = ""; for (const byte of bytes) text += String.fromCharCode(byte); return btoa(text)"""
-    path = folder / "saved.ivf"
-    path.write_bytes(base64.b64decode(browser.run(saved)))
-    if served(path) != whole[7:12]:
-        yield "chromium: the saved file has other frames"
-    browser.click("#undo")
-    browser.wait("page.count === args[0] && !page.isBusy", len(whole))
-    yield from mended(browser)
-
-
-def mended(browser):
-    """A packet is refused: its frame says why, the frames up to the next key packet are red, and the repair leaves none."""
-    head, packets = ivf.read_packets(TOP / "crates/gate_clips/data/scene-cuts.ivf")
-    packets[3] = (packets[3][0], bytes(2))
-    given = base64.b64encode(b"".join(ivf.pieces(head, len(packets), packets))).decode()
-    browser.run("await page.open(new File([Uint8Array.from(atob(args[0]), (letter) => letter.charCodeAt(0))], 'broken.ivf'))", given)
-    browser.wait("page.refused.size > 0 && page.refused.has(3)")
-    browser.run("await page.go(3)")
-    text = browser.wait("!page.isBusy && document.getElementById('refusal').textContent")
-    if text != "Frame 3 is refused: packet 3 has 2 bytes, a tag needs 3":
-        yield f"chromium: the refusal is {text!r}"
-    browser.click("#repair")
-    browser.wait("document.getElementById('status').textContent.startsWith('Repaired')")
-    browser.wait("document.getElementById('refusal').hidden && page.count === args[0]", len(packets))
-    browser.run("await page.client.call('check', 0, 1e9)")
-    if browser.run("return page.refused.size"):
-        yield "chromium: a frame is refused after the repair"
-    yield from as_webm(browser)
-
-
-def as_webm(browser):
-    """A WebM file has the pictures of the same packets in an IVF file, and the rate of its time stamps. One without VP8 is refused by name."""
-    packets = [packet for _, packet in ivf.read_packets(EXAMPLE)[1]]
-    stamps = [40 * at for at in range(len(packets))]
-    given = [base64.b64encode(text).decode() for text in (EXAMPLE.read_bytes(), webm(packets, stamps))]
-    one, other = (browser.run(SUMS, text) for text in given)
-    if one != other or not one:
-        yield "chromium: the pictures of a WebM file are other ones than those of its packets in an IVF file"
-    opened = "await page.open(new File([Uint8Array.from(atob(args[0]), (letter) => letter.charCodeAt(0))], 'clip.webm')); return page.stream.rate"
-    if browser.run(opened, given[1]) != 25:
-        yield "chromium: a WebM file with a frame each 40 ms has not 25 frames a second"
-    coded = base64.b64encode(webm(packets[:3], stamps[:3], codec=b"V_VP9")).decode()
-    said = browser.run("return page.open(new File([Uint8Array.from(atob(args[0]), (letter) => letter.charCodeAt(0))], 'other.webm')).catch((error) => error.message)", coded)
-    if "NoVideo" not in said:
-        yield f"chromium: a WebM file of VP9: {said}"
-    if browser.run("return (await page.client.call('samples', 1)).samples.length") < 1:
-        yield "chromium: after a file that is refused, the one before it is not open"
-
-
-def colour_of(path):
-    """Red, green, blue and 255 of the sample in the middle of frame 0, as `wokureti png` has them."""
-    with Session(path) as session:
-        frame = session.frame(0)
-        rgb = frame.rgb().tobytes()
-    at = 3 * ((frame.height >> 1) * frame.width + (frame.width >> 1))
-    return [*rgb[at : at + 3], 255]
+    without = lambda found: [{**one, "instance": 0} if isinstance(one, dict) and "instance" in one else one for one in found]  # noqa: E731
+    if without(plain["results"][-3:-1]) != without(looked["results"][-3:-1]) or looked["results"][-1]["reply"] != ["hold 3"]:
+        yield f"previews: the state is another one: {looked['results'][-3:]}"
+    frames, findings, before, packet = looked["results"][5:9]
+    wanted = served(EXAMPLE)
+    if before != [wanted[5]] or frames[0] != wanted[0] or not any(one["kind"] == "refused" for one in findings) or len(packet) != 1:
+        yield f"previews: {before}, {findings}"
 
 
 def wide(folder):
@@ -326,29 +255,55 @@ def wide(folder):
         yield f"numbers of 128 bits: status {status} {built.stderr.decode()[-300:]}"
 
 
+def joined_wrongly(folder):
+    """Modules that cannot be joined, and what a page must have."""
+    for name, text in {"an import that is not known": 'import x from "./b.js";\n', "one at a time": 'const y = import("./b.js");\n', "an export that is not known": "export default 3;\n", "a circle": 'import "./a.js";\n'}.items():
+        (folder / "a.js").write_text(text)
+        (folder / "b.js").write_text("export const x = 3;\n")
+        kept, page.FOLDER = page.FOLDER, folder
+        try:
+            page.joined("a.js")
+            yield f"{name} is joined"
+        except Failed:
+            pass
+        finally:
+            page.FOLDER = kept
+    one, other = page.made(b"x", "1.2.3"), page.made(b"x", "1.2.3")
+    if one != other or len(one) > page.MOST:
+        yield f"the page is another one at each turn, or large: {len(one)}"
+    try:
+        page.made(random.Random(1).randbytes(page.MOST), "1.2.3")
+        yield "a page that is too large is made"
+    except Failed:
+        pass
+    script = re.search(r"<script>(.*)</script>", one.decode(), re.S).group(1)
+    policy = re.search(r'Content-Security-Policy" content="([^"]*)"', one.decode()).group(1)
+    if f"'sha256-{base64.b64encode(hashlib.sha256(script.encode()).digest()).decode()}'" not in policy or "connect-src" in policy or "default-src 'none'" not in policy:
+        yield f"the policy is {policy}"
+    if re.search(r"https?://(?!www\.w3\.org/2000/svg)|(?:await|return|=) fetch\(|XMLHttpRequest|WebSocket|sendBeacon|<link (?![^>]*data:)|<img [^>]*src=\"(?!data:)", one.decode()):
+        yield "the page asks for something from elsewhere"
+
+
 def stale():
-    """Files of the page that are not those of clients/web."""
-    own = [path for path in (TOP / "clients/web").iterdir() if path.suffix != ".c"]
-    differ = [path.name for path in own if not (PAGE / path.name).is_file() or (PAGE / path.name).read_bytes() != path.read_bytes()]
-    return [f"{PAGE} has another {name} than clients/web: ./build.py --web" for name in sorted(differ)]
+    """Whether the page is not that of the modules."""
+    found = re.search(r'id="module-text">([^<]*)<', PAGE.read_text(encoding="utf-8"))
+    made_now = page.made(gzip.decompress(base64.b64decode(found.group(1))), version()) if found else b""
+    return [] if made_now == PAGE.read_bytes() else [f"{PAGE} is not of these modules: ./build.py --web"]
 
 
 def main():
-    if not (PAGE / "module.js").is_file():
-        print("skipped: the page without a server is not built: ./build.py --web makes it")
-        return 0
-    wrong, chance = stale(), random.Random(75)
+    wrong, chance = [], random.Random(75)
     with tempfile.TemporaryDirectory() as name:
         folder = pathlib.Path(name)
-        wrong += wide(folder)
-        if shutil.which("node") is None:
+        wrong += [*wide(folder), *joined_wrongly(folder)]
+        if not PAGE.is_file():
+            print("skipped: the page in one file is not built: ./build.py --web makes it")
+        elif shutil.which("node") is None:
             print("skipped: Node is not there")
         else:
+            wrong += stale()
             node = Node()
-            wrong += [*frames(node), *lists(node, chance, folder), *questions(node, folder), *bounded(node, folder), *edited(node, chance, folder), *repaired(node, folder)]
-        with browser_of() as browser:
-            if browser is not None:
-                wrong += in_browser(browser, folder)
+            wrong += [*frames(node), *lists(node, chance, folder), *questions(node, folder), *bounded(node, folder), *saved(node, chance, folder), *refused(node, folder), *previews(node)]
     print("".join(line + "\n" for line in wrong), end="")
     return 1 if wrong else 0
 

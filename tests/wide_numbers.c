@@ -1,10 +1,10 @@
-/* Compares clients/web/wide.c with the compiler's own numbers of 128 bits, 300,000 random pairs. */
+/* Compares release/wasm/wide.c with the compiler's own numbers of 128 bits, 300,000 random pairs. */
 #define __ashlti3 shifted_left
 #define __lshrti3 shifted_right
 #define __multi3 product
 #define __udivti3 quotient_of
 #define __umodti3 remainder_of
-#include "../clients/web/wide.c"
+#include "../release/wasm/wide.c"
 #include <stdlib.h>
 
 static u64 random_word(void) {

@@ -5,6 +5,7 @@ import http.client
 import json
 import os
 import pathlib
+import posixpath
 import random
 import re
 import signal
@@ -112,7 +113,7 @@ class Files(PageCase):
     def test_each_file_has_its_type_and_the_policy(self):
         self.serve()
         files = files_of_page()
-        self.assertTrue({"index.html", "main.js", "page.css", "icon.svg"} <= set(files))
+        self.assertTrue({"index.html", "main.js", "engines/http.js", "page.css", "icon.svg"} <= set(files))
         for name, (kind, text) in files.items():
             status, headers, body = self.ask(f"/page/{name}")
             self.assertEqual((status, headers["Content-Type"], body), (200, kind, text), name)
@@ -132,8 +133,8 @@ class Files(PageCase):
             if name.endswith(".html"):
                 # The policy would refuse these.
                 self.assertNotRegex(text, r"<style|\sstyle=|\son\w+=|<script(?! type=\"module\" src=)|javascript:")
-            for other in re.findall(r'(?:from|import) "\./([\w.]+)"', text):
-                self.assertIn(other, names, name)
+            for other in re.findall(r'(?:from|import) "(\.[\w./]+)"', text):
+                self.assertIn(posixpath.normpath(posixpath.join(posixpath.dirname(name), other)), names, name)
 
     def test_serve_has_no_page(self):
         from wokureti.server.live import Live
@@ -1068,15 +1069,18 @@ class Macroblocks(PageCase):
         done = subprocess.run([programs.find("vp8list"), path, option, str(packet), "--json"], stdout=subprocess.PIPE, check=True)
         return [json.loads(line) for line in done.stdout.splitlines()]
 
+    def answer(self, word, packet, source=0):
+        """The objects of the reply to a question about a packet."""
+        status, _, body = self.ask(f"/answer?line={word}%20{packet}&source={source}")
+        self.assertEqual(status, 200, body)
+        first, *lines = body.decode().split("\n")
+        self.assertEqual(first, f"lines {len(lines)}")
+        return [json.loads(line) for line in lines]
+
     def assertListed(self, *packets):
         for packet in packets:
-            found = self.members(f"/macroblocks?packet={packet}")
-            self.assertEqual((found["packet"], found["refused"], found["repeats"]), (packet, None, False))
-            self.assertEqual(found["macroblocks"], self.listed("--macroblocks", packet))
-            header = self.members(f"/header?packet={packet}")
-            fields, *changes = self.listed("--header", packet)
-            self.assertEqual({"packet": packet, **header["fields"]}, fields)
-            self.assertEqual([{"packet": packet, **change} for change in header["changes"]], changes)
+            for word in ("macroblocks", "header"):
+                self.assertEqual(self.answer(word, packet), self.listed(f"--{word}", packet))
 
     def test_records_and_headers(self):
         self.serve(SCENES)
@@ -1086,29 +1090,28 @@ class Macroblocks(PageCase):
 
     def test_another_source(self):
         self.serve(SMALL, sources=[SCENES])
-        found = self.members("/macroblocks?packet=18&source=1")
+        found = self.answer("macroblocks", 18, 1)
         done = subprocess.run([programs.find("vp8list"), SCENES, "--macroblocks", "18", "--json"], stdout=subprocess.PIPE, check=True)
-        self.assertEqual(found["macroblocks"], [json.loads(line) for line in done.stdout.splitlines()])
+        self.assertEqual(found, [json.loads(line) for line in done.stdout.splitlines()])
 
     def test_packets_without_macroblocks(self):
         self.serve(self.broken(5))
         for packet in (5, 7, 15):
-            for path, empty in (("macroblocks", []), ("header", None)):
-                found = self.members(f"/{path}?packet={packet}")
-                self.assertEqual(found["refused"], {"packet": 5, "cause": "ShortPacket"})
-                self.assertEqual(found["fields" if path == "header" else "macroblocks"], empty)
+            for word in ("macroblocks", "header"):
+                self.assertEqual(self.answer(word, packet), [{"packet": packet, "refused": 5, "cause": "ShortPacket"}])
         self.assertListed(4, 16)
         self.step("replace 5 -")
-        found = self.members("/macroblocks?packet=5")
-        self.assertEqual((found["repeats"], found["refused"], found["macroblocks"]), (True, None, []))
+        self.assertEqual(self.answer("macroblocks", 5), [{"packet": 5, "repeats": True}])
         self.assertListed(6)
 
     def test_requests(self):
         self.serve(SMALL)
         count = len(packets_of(SMALL))
-        for path, status in ((f"packet={count}", 404), ("packet=0&source=1", 404), ("packet=x", 400), ("frame=0", 400)):
-            for name in ("macroblocks", "header"):
-                self.assertEqual(self.ask(f"/{name}?{path}")[0], status, path)
+        for path, status in ((f"header%20{count}", 409), ("header%200&source=1", 404), ("header%20x", 409), ("", 400), ("header%200&frame=0", 400), ("list%200%20x", 409)):
+            self.assertEqual(self.ask(f"/answer?line={path}")[0], status, path)
+        for line in ("delete%200", "frame%200", "script%20-", "use%201", "check%200%209", "undo", "header%200%0Adelete%200", "stats"):
+            self.assertIn(self.ask(f"/answer?line={line}")[0], (400, 409), line)
+        self.assertEqual((self.members("/session")["revision"], self.members("/session")["edits"]), (1, []))
 
     def test_many_readers_while_it_is_edited(self):
         self.serve(SCENES)
@@ -1116,8 +1119,8 @@ class Macroblocks(PageCase):
 
         def read():
             for packet in range(20):
-                found = self.members(f"/macroblocks?packet={packet}")
-                if found["refused"] is not None or len(found["macroblocks"]) == 0:
+                found = self.answer("macroblocks", packet)
+                if "refused" in found[0] or "column" not in found[0]:
                     failed.append(found)
 
         threads = [threading.Thread(target=read) for _ in range(3)]

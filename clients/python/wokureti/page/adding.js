@@ -1,7 +1,7 @@
 // Another stream of the folder is opened: as the last source, or on a page of its own.
 
 import { ask } from "./ask.js";
-import * as server from "./interface.js";
+import { engine } from "./engine.js";
 import { notice } from "./status.js";
 
 const find = (id) => document.getElementById(id);
@@ -27,6 +27,11 @@ export class Adding {
   constructor(model, status) {
     Object.assign(this, { model, status });
     find("add-source").addEventListener("click", () => this.add().catch((error) => this.status.say(error.message)));
+    find("stream-file").addEventListener("change", () => {
+      const files = [...find("stream-file").files];
+      find("stream-file").value = "";
+      this.drop(files).catch((error) => this.status.say(error.message));
+    });
     // For a file that is dropped a browser leaves the page, if the page does not take it.
     const hasFiles = ({ dataTransfer }) => dataTransfer !== null && dataTransfer.types.includes("Files");
     addEventListener("dragover", (event) => hasFiles(event) && event.preventDefault());
@@ -38,7 +43,8 @@ export class Adding {
   }
 
   async add() {
-    const { files } = await server.members("files");
+    if (!engine.files) return find("stream-file").click();
+    const files = await engine.files();
     if (files.length) await this.choose(files, files);
     else this.status.say("there is no stream in this folder");
   }
@@ -46,15 +52,42 @@ export class Adding {
   /** Opens a file that was dropped, where the server has it: a page learns its name and its bytes, and not its path. */
   async drop(dropped) {
     if (find("add-source").disabled || document.querySelector("dialog[open]")) return;
+    if (engine.take && (await engine.take(dropped))) return;
     if (dropped.length !== 1) {
       this.status.say("one file is opened at a time");
       return;
     }
+    if (!engine.files) return this.chooseHow(dropped[0]);
     const { name, size } = dropped[0];
     const digest = await digestOf(dropped[0]);
-    const same = digest ? (await server.members(`same?name=${encodeURIComponent(name)}&size=${size}&sha256=${digest}`)).files : [];
-    if (same.length) await this.choose(same, (await server.members("files")).files);
+    const same = digest ? await engine.same(name, size, digest) : [];
+    if (same.length) await this.choose(same, await engine.files());
     else notice(`${name} is no stream in the folders of those that are open, or below them: move it there, or name it with --source`, { isBad: true, id: "dropped" });
+  }
+
+  /** Opens a file of this machine: next to the stream that is open, or in its place. */
+  async chooseHow(file) {
+    const how = [
+      ["the next source", "source"],
+      ["the stream to edit, in the place of this one", "stream"],
+    ];
+    const found = await ask(`Open ${file.name}`, "Open", [{ name: "how", label: "As", value: "source", choices: how }], "Packets are copied from a source, and a script shows its frames. The edits of the stream that is open are kept.");
+    if (!found) return;
+    find("add-source").disabled = true;
+    try {
+      if (found.how === "stream") {
+        await engine.instead(file);
+        this.status.say(`${file.name} is open`);
+        return;
+      }
+      const { source, changes } = await engine.add(file);
+      await this.model.load(changes);
+      this.status.say(`${file.name} is source ${source}`);
+    } catch (error) {
+      notice(error.message, { isBad: true, id: "opened" });
+    } finally {
+      find("add-source").disabled = false;
+    }
   }
 
   /** Opens one of these streams, which are called as below the folder that `files` have in common. */
@@ -73,12 +106,12 @@ export class Adding {
     find("add-source").disabled = true;
     try {
       if (found.how === "page") {
-        const address = await server.openPage(found.file);
+        const address = await engine.page(found.file);
         if (!window.open(address, "_blank")) notice(`The page of ${found.file.split("/").pop()} is at ${address}`, { isBad: true, id: "opened" });
         this.status.say(`${found.file.split("/").pop()} is open on a page of its own`);
         return;
       }
-      const { source, changes } = await server.addSource(found.file);
+      const { source, changes } = await engine.add(found.file);
       await this.model.load(changes);
       this.status.say(`${found.file.split("/").pop()} is source ${source}`);
     } finally {

@@ -1,6 +1,6 @@
 // YCbCr of ITU-R BT.601 in limited range to red, green and blue, in integers: the bytes are those of `wokureti png`.
 
-import { sizeOf } from "./interface.js";
+import { sizeOf } from "./engine.js";
 
 const SHIFT = 16;
 const RED = 0.299;

@@ -1,7 +1,8 @@
 // A curve over the timeline: a number of each packet's header, of the packets that are seen, or how much their frames differ from those before the edits.
 
 import { compared } from "./colours.js";
-import * as server from "./interface.js";
+import { objectsOf } from "./details.js";
+import { Refusal, engine, offer } from "./engine.js";
 
 const find = (id) => document.getElementById(id);
 // Packets that a curve is drawn for, at most, and milliseconds for which nothing changes before they are asked for.
@@ -88,11 +89,11 @@ export class Curves {
     const { source, packets, session } = this.model;
     const rows = kind === "psnr" ? [...(this.timeline.curve?.values ?? [])].filter(([, value]) => value !== null).sort(([one], [other]) => one - other) : [];
     for (let first = 0; kind !== "psnr" && first < packets; first += MOST_ASKED) {
-      const answer = await server.members(`packets?from=${first}&count=${MOST_ASKED}&source=${source}`, "the numbers of the packets");
-      rows.push(...answer.packets.map((facts) => [facts.packet, this.valueIn(facts, kind)]));
+      const found = objectsOf(await engine.answer(`list ${first} ${MOST_ASKED}`, source, { waits: "the numbers of the packets" }));
+      rows.push(...found.map((facts) => [facts.packet, this.valueIn(facts, kind)]));
     }
     const stem = session.names[source].replace(/\.[^.]*$/, "");
-    server.offer(new Blob([csvOf(kind, rows)], { type: "text/csv" }), `${stem}-${kind}.csv`);
+    offer(new Blob([csvOf(kind, rows)], { type: "text/csv" }), `${stem}-${kind}.csv`);
     this.status.say(`${rows.length.toLocaleString("en")} packets are in ${stem}-${kind}.csv`);
   }
 
@@ -112,9 +113,9 @@ export class Curves {
       return;
     }
     const { kind } = this;
-    const answer = await server.members(`packets?from=${first}&count=${end - first}&source=${this.model.source}`);
+    const found = objectsOf(await engine.answer(`list ${first} ${end - first}`, this.model.source));
     if (key !== this.key) return;
-    const values = answer.packets.map((facts) => this.valueIn(facts, kind));
+    const values = found.map((facts) => this.valueIn(facts, kind));
     const most = MOST[kind] || values.reduce((one, other) => Math.max(one, other), 1);
     this.timeline.curve = { lines: linesOf(values, first, most), most };
     this.timeline.redraw();
@@ -123,7 +124,7 @@ export class Curves {
   /** Compares frames that show these packets with those before the edits, while the page has nothing else to do. */
   async compare(key, first, end) {
     const { source } = this.model;
-    const range = await server.members(`range?source=${source}&first=${first}&end=${end}`);
+    const range = await engine.look("range", { source, first, end });
     const numbers = range.first === null ? [] : spread(range.first, range.end, MOST_FRAMES);
     const points = [];
     const draw = () => {
@@ -156,7 +157,7 @@ export class Curves {
       const [now, then] = await Promise.all([this.frames.get(frame), this.frames.before(source, before)]);
       return psnrOf(now, then);
     } catch (error) {
-      if (error instanceof server.Refusal && error.status < 500) return null;
+      if (error instanceof Refusal && error.status < 500) return null;
       throw error;
     }
   }

@@ -1,7 +1,7 @@
 // Cuts, fades and stills by the script: frames vanish or are shown again, no packet is changed, and so nothing after them breaks.
 
 import { ask } from "./ask.js";
-import * as server from "./interface.js";
+import { engine } from "./engine.js";
 import { mark } from "./keys.js";
 import { nodesOf } from "./script.js";
 import * as parts from "./shots.js";
@@ -107,7 +107,7 @@ export class Cutting {
 
   /** The frames that show the packets of a source. */
   rangeOf(source, first, end) {
-    return server.members(`range?source=${source}&first=${first}&end=${end}`);
+    return engine.look("range", { source, first, end });
   }
 
   /** The frames that show the selected packets, or null. Frames that have others between them are refused: something else would be cut. */

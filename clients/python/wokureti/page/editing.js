@@ -1,7 +1,7 @@
 // The edits of the page: each is one step, and a refusal changes nothing.
 
 import { ask } from "./ask.js";
-import * as server from "./interface.js";
+import { Refusal, engine } from "./engine.js";
 import { notice } from "./status.js";
 import * as steps from "./steps.js";
 
@@ -65,7 +65,7 @@ export class Editing {
     performance.mark("edit");
     try {
       const title = typeof said === "string" ? said : "";
-      const answer = await this.model.change((page) => server.change(lines, this.model.revision, title, page));
+      const answer = await this.model.change((page) => engine.ask(lines, { revision: this.model.revision, title, page }));
       const text = typeof said === "function" ? said(answer.reply) : said;
       if (text && !isQuiet) this.status.say(`${text} (${Math.round(performance.now() - since)} ms)`);
       this.last = answer.reply;
@@ -81,7 +81,7 @@ export class Editing {
   async refuse(error) {
     if (error.status === 412) {
       notice("The stream was changed in another place, so nothing was done. Look, and try again.", { isBad: true });
-    } else if (error instanceof server.Refusal && error.reply) {
+    } else if (error instanceof Refusal && error.reply) {
       notice(`Refused, and nothing was changed: ${error.reason || error.reply}`, { isBad: true, id: "refused" });
     } else {
       notice(error.message, { isBad: true, id: "refused" });
@@ -113,7 +113,8 @@ export class Editing {
         .filter(([, number, edited]) => edited || number === 0);
       const canExport = script !== "-" && session.exports && !session.changing;
       if (canExport) choices.push(["the frames that are shown, as packets without coding again: Export", EXPORT]);
-      const note = script === "-" || canExport ? "" : `The script changes what is shown, and no packet. \`wokureti cat\` with --edits ${session.list} writes the frames that are shown.`;
+      const how = engine.isOver === "server" ? `\`wokureti cat\` with --edits ${session.list} writes the frames that are shown.` : "A crop or a fade is not in the file.";
+      const note = script === "-" || canExport ? "" : `The script changes what is shown, and no packet. ${how}`;
       const found = await ask("Save", "Save", [{ name: "source", label: "What", value: 0, choices }], note);
       if (!found) return;
       source = Number(found.source);
@@ -124,7 +125,7 @@ export class Editing {
     }
     return this.inTurn(async () => {
       try {
-        const { reply: path, renumbered } = await this.model.change((page) => server.save(source, page));
+        const { reply: path, renumbered } = await this.model.change((page) => engine.save(source, page));
         const what = source === 0 && this.model.session.script !== "-" ? "The packets were saved, without the script, to" : source ? `The packets of ${names[source]} were saved to` : "Saved to";
         const said = `${what} ${path}${renumbered ? "; times were numbered anew" : ""}`;
         notice(said, { id: "saved" });
@@ -184,7 +185,7 @@ export class Editing {
     return this.inTurn(async () => {
       try {
         const { first, end } = chosen;
-        const { contents, numbers } = await server.members(`numbers?source=${source}&first=${first}&count=${end - first}`);
+        const { contents, numbers } = await engine.look("numbers", { source, first, count: end - first });
         this.clipboard = { contents, numbers, isMove, source, count: end - first, said: packets(chosen) };
         this.enable();
         this.status.say(`${packets(chosen)} ${isMove ? "to move" : "to copy"}: go to a packet, and paste before it`);
@@ -202,7 +203,7 @@ export class Editing {
       const at = model.packet;
       const source = model.source;
       try {
-        const found = await model.change((page) => server.paste({ contents, numbers, source, at, move: isMove, revision: model.revision, page }));
+        const found = await model.change((page) => engine.paste({ contents, numbers, source, at, move: isMove, revision: model.revision, page }));
         if (isMove) this.clipboard = null;
         if (!found.made) return this.status.say("they are there already");
         model.select(found.first, found.first + found.count);

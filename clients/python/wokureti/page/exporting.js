@@ -1,6 +1,6 @@
 // Export: the frames that are shown as a file, or why that cannot be.
 
-import * as server from "./interface.js";
+import { engine, offer } from "./engine.js";
 import { notice } from "./status.js";
 
 const find = (id) => document.getElementById(id);
@@ -32,8 +32,8 @@ export class Exporting {
     const number = String(Math.random()).slice(2);
     this.tell(number, making).catch(() => {});
     try {
-      const { file, name, said } = await server.exported(number, making.signal, (done, total) => this.status.share("the export is read", done / total));
-      server.offer(file, name);
+      const { file, name, said } = await engine.file("export", { name: number, signal: making.signal, got: (done, total) => this.status.share("the export is read", done / total) });
+      if (file) offer(file, name);
       this.status.say(`exported ${name}: ${said}`);
     } catch (error) {
       if (error.name === "AbortError") this.status.say("the export was stopped");
@@ -49,7 +49,7 @@ export class Exporting {
   async tell(number, making) {
     for (;;) {
       await new Promise((done) => setTimeout(done, OFTEN));
-      const now = this.making === making ? await server.exportProgress(number) : null;
+      const now = this.making === making ? (await engine.progress(number)).exporting : null;
       if (this.making !== making) return;
       if (now?.total) this.status.share(`exporting: ${now.what}`, now.done / now.total);
       else if (now) this.status.share(`exporting: ${now.what}, ${now.seconds.toFixed(1)} s`, null);

@@ -1,6 +1,6 @@
 // The findings of vp8list --check, and the repairs that can work for each of them.
 
-import * as server from "./interface.js";
+import { engine } from "./engine.js";
 import { notice } from "./status.js";
 
 const find = (id) => document.getElementById(id);
@@ -245,8 +245,7 @@ export class Findings {
     this.open = open;
     try {
       const given = ["kind", "packet", "before", "stamp"].filter((name) => name === "kind" || Number.isInteger(finding[name]));
-      const query = given.map((name) => `${name}=${finding[name]}`).join("&");
-      const answer = await server.members(`repairs?${query}`, "the repairs");
+      const answer = await engine.look("repairs", Object.fromEntries(given.map((name) => [name, finding[name]])), { waits: "the repairs" });
       open.repairs = answer.repairs;
     } catch (error) {
       open.repairs = [];
@@ -294,7 +293,7 @@ export class Findings {
     const { revision } = this.model;
     await this.viewer.setPreview(repair.lines);
     try {
-      const { findings } = await server.previewFindings(repair.lines, repair.packet, revision);
+      const { findings } = await engine.task("check", { lines: repair.lines, packet: repair.packet, revision });
       if (this.shown !== repair) return;
       const damage = findings.filter(({ severity }) => severity === "damage").length;
       find("preview-result").textContent = damage ? `damage up to the next key frame: ${damage}` : "no damage up to the next key frame";
@@ -308,7 +307,7 @@ export class Findings {
     const button = find("repair-all");
     button.disabled = true;
     try {
-      const { lines, said, left } = await server.members("repair_all", "the repairs");
+      const { lines, said, left } = await engine.look("repair_all", {}, { waits: "the repairs" });
       if (!lines.length) {
         // It is not offered again for these packets.
         this.hopeless = this.check?.check;

@@ -1,8 +1,13 @@
 // Frames that were fetched: those of the current revision, and those before the edits.
 
-import * as server from "./interface.js";
+import { Refusal, engine } from "./engine.js";
 
 const MOST_BYTES = 192 << 20;
+
+/** Asks for one picture. */
+function one(number, of) {
+  return async (signal) => (await engine.frames([number], { of, signal }))[0];
+}
 
 export class Frames {
   constructor(model) {
@@ -14,8 +19,12 @@ export class Frames {
 
   /** Drops frames of other revisions. */
   forget() {
+    const { instance } = this.model.session;
+    const isOther = this.instance !== undefined && this.instance !== instance;
+    this.instance = instance;
     for (const [key, entry] of this.found) {
-      if (entry.revision !== null && entry.revision !== this.model.revision) this.drop(key);
+      if (isOther) this.drop(key);
+      else if (entry.revision !== null && entry.revision !== this.model.revision) this.drop(key);
     }
   }
 
@@ -30,12 +39,12 @@ export class Frames {
   /** The frame, fetched if it is not here. A refused one is an error, which is kept too. */
   get(frame) {
     const { revision } = this.model;
-    return this.fetch(`now ${frame}`, revision, (signal) => server.frame(frame, signal));
+    return this.fetch(`now ${frame}`, revision, one(frame));
   }
 
   /** The frame before a revision is known: it is of the one that its answer names. */
   async first(frame) {
-    const found = await this.fetch(`now ${frame}`, null, (signal) => server.frame(frame, signal));
+    const found = await this.fetch(`now ${frame}`, null, one(frame));
     const entry = this.found.get(`now ${frame}`);
     if (entry?.value === found) entry.revision = found.revision;
     return found;
@@ -45,26 +54,26 @@ export class Frames {
   getTogether(first, count) {
     if (count === 1) return this.get(first);
     const { revision } = this.model;
-    const group = server.frames(first, count);
-    const one = (place) => (signal) =>
+    const group = engine.frames(Array.from({ length: count }, (_, place) => first + place));
+    const each = (place) => (signal) =>
       group.then(
         (found) => found[place],
         (error) => {
-          if (error instanceof server.Refusal && error.status < 500) return server.frame(first + place, signal);
+          if (error instanceof Refusal && error.status < 500) return one(first + place)(signal);
           throw error;
         },
       );
-    return Promise.all(Array.from({ length: count }, (_, place) => this.fetch(`now ${first + place}`, revision, one(place))));
+    return Promise.all(Array.from({ length: count }, (_, place) => this.fetch(`now ${first + place}`, revision, each(place))));
   }
 
   /** The picture of a packet without the script. */
   aside(source, packet) {
     const { revision } = this.model;
-    return this.fetch(`aside ${source} ${packet}`, revision, (signal) => server.frameOfPacket(source, packet, signal));
+    return this.fetch(`aside ${source} ${packet}`, revision, one(packet, { packets: source }));
   }
 
   before(source, frame) {
-    return this.fetch(`before ${source} ${frame}`, null, (signal) => server.frameBefore(source, frame, signal));
+    return this.fetch(`before ${source} ${frame}`, null, one(frame, { before: source }));
   }
 
   /** The frame if it is here, else null. */
@@ -100,7 +109,7 @@ export class Frames {
       },
       (error) => {
         // A frame that is refused stays so at this revision; anything else is tried again.
-        if (!(error instanceof server.Refusal) || error.status >= 500) {
+        if (!(error instanceof Refusal) || error.status >= 500) {
           if (this.found.get(key) === entry) this.drop(key);
         }
         entry.error = error;

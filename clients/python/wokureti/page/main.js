@@ -10,7 +10,7 @@ import { Exporting } from "./exporting.js";
 import { Findings } from "./findings.js";
 import { Fragment, parse } from "./fragment.js";
 import { Frames } from "./frames.js";
-import * as server from "./interface.js";
+import { engine, whenLost } from "./engine.js";
 import * as keys from "./keys.js";
 import { writeLegend } from "./kinds.js";
 import { Macroblocks } from "./macroblock.js";
@@ -211,13 +211,22 @@ find("full").addEventListener("click", () => palette.fullScreen().catch((error) 
 
 // What the server says
 
+// Files that the page offers: by an address, or made here.
+for (const link of document.querySelectorAll("[data-file]")) {
+  link.addEventListener("click", (event) => {
+    if (engine.link(link.dataset.file, model.frame)) return;
+    event.preventDefault();
+    engine.offer(link.dataset.file, model.frame).catch((error) => notice(error.message, { isBad: true, id: "offered" }));
+  });
+}
+
 let isLost = false;
 let isReloading = false;
 let restarts = null;
 
-server.listen((name, changes) => {
+engine.changed((name, changes) => {
   if (name === "lost") {
-    if (!isLost) notice(server.whenLost(), { isBad: true, id: "lost" });
+    if (!isLost) notice(whenLost(), { isBad: true, id: "lost" });
     isLost = true;
     status.say("the server of this page does not answer");
     return;
@@ -237,7 +246,7 @@ server.listen((name, changes) => {
 async function meet() {
   const known = model.session?.instance;
   if (!known) return;
-  const { instance } = await server.members("session");
+  const { instance } = await engine.state();
   if (instance === known) return;
   isReloading = true;
   location.reload();
@@ -295,7 +304,7 @@ async function begin() {
 }
 
 // For tests.
-window.wokureti = { model, frames, viewer, macroblocks, player, sound, timeline, editing, findings, editList, scriptPanel, cutting, thumbs, curves, strip };
+window.wokureti = { engine, model, frames, viewer, macroblocks, player, sound, timeline, editing, findings, editList, scriptPanel, cutting, thumbs, curves, strip };
 begin().catch((error) => {
   status.say(error.message);
   notice(error.message, { isBad: true });

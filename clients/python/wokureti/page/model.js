@@ -1,6 +1,6 @@
 // What all parts of the page share: the state of the session on the server, the current frame, and the selection.
 
-import * as server from "./interface.js";
+import { engine, remember } from "./engine.js";
 
 /** Sends `session` when the stream was changed, `frame` when another frame is current, and `selection`. */
 export class Model extends EventTarget {
@@ -65,7 +65,7 @@ export class Model extends EventTarget {
   async read() {
     do {
       this.again = false;
-      this.use(await server.members("session", "the packets"));
+      this.use(await engine.state());
     } while (this.again);
     return this.session;
   }
@@ -75,7 +75,7 @@ export class Model extends EventTarget {
     const old = this.session;
     if (old && old.instance === session.instance && old.changes > session.changes) return;
     this.session = session;
-    server.remember(session);
+    remember(session);
     if (!old || old.revision !== session.revision || old.instance !== session.instance) this.blocks.clear();
     this.time().catch(() => {});
     if (this.selection && this.selection.end > this.packets) this.selection = null;
@@ -91,7 +91,7 @@ export class Model extends EventTarget {
     this.timed = key;
     if (!varies) this.times = null;
     else {
-      const { times } = await server.members("times");
+      const { times } = await engine.look("times");
       if (this.timed !== key) return;
       this.times = times;
     }
@@ -143,14 +143,14 @@ export class Model extends EventTarget {
 
   /** Goes to the next key packet, or to the one before. */
   async goKey(step) {
-    const { packet } = await server.members(`key?source=${this.source}&packet=${this.packet}&step=${step}`);
+    const { packet } = await engine.look("key", { source: this.source, packet: this.packet, step });
     if (packet !== null) await this.goPacket(packet);
   }
 
   /** Goes to the next frame that begins something else, or to the one before. */
   async goCut(step) {
     await this.going?.catch(() => {});
-    const { frame } = await server.members(`cut?frame=${this.frame}&step=${step}`);
+    const { frame } = await engine.look("cut", { frame: this.frame, step });
     if (frame !== null) await this.go(frame);
   }
 
@@ -193,7 +193,7 @@ export class Model extends EventTarget {
     if (!this.packets) return;
     const { source } = this;
     const asked = this.packet;
-    const place = this.placeGiven(source, asked) || (await server.members(`place?packet=${asked}&source=${source}`));
+    const place = this.placeGiven(source, asked) || (await engine.look("place", { packet: asked, source }));
     if (move !== this.moves) return;
     if (place.frame !== null) {
       await this.go(Math.min(place.frame, this.frames - 1), { keepPacket: true });
@@ -263,7 +263,7 @@ export class Model extends EventTarget {
   block(number) {
     let found = this.blocks.get(number);
     if (!found) {
-      found = server.members(`origins?from=${number * BLOCK}&count=${BLOCK}`);
+      found = engine.look("origins", { from: number * BLOCK, count: BLOCK });
       this.blocks.set(number, found);
       found.then(
         (block) => {

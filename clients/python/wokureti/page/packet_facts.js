@@ -1,6 +1,7 @@
 // What vp8list says of the current packet, and of its header.
 
-import * as server from "./interface.js";
+import { detailsOf, objectsOf } from "./details.js";
+import { engine } from "./engine.js";
 import { whyNone } from "./records.js";
 
 const find = (id) => document.getElementById(id);
@@ -55,9 +56,8 @@ export class PacketFacts {
     // The header of one packet is not shown below the name of another.
     writeTable(find("header-facts"), []);
     find("header-changes").hidden = true;
-    const answer = await server.members(`packets?from=${packet}&count=1&source=${source}`, "the facts of the packet");
+    const [facts] = objectsOf(await engine.answer(`list ${packet} 1`, source, { waits: "the facts of the packet" }));
     if (key !== this.asked) return;
-    const [facts] = answer.packets;
     if (!facts) return;
     body.replaceChildren();
     for (const [name, text] of NAMES) {
@@ -71,15 +71,16 @@ export class PacketFacts {
 
   /** The fields of the header, by their names in RFC 6386. */
   async showHeader(key, source, packet) {
-    const header = await server.members(`header?packet=${packet}&source=${source}`, "the header of the packet");
+    const details = detailsOf(await engine.answer(`header ${packet}`, source, { waits: "the header of the packet" }));
     if (key !== this.asked) return;
-    find("header-note").textContent = whyNone(header) ?? "";
-    const fields = Object.entries(header.fields ?? {}).filter(([name]) => name !== "bits");
-    writeTable(find("header-facts"), fields.map(([name, value]) => [name, Array.isArray(value) ? value.join(", ") : value, bitsText(header.fields.bits?.[name])]));
+    find("header-note").textContent = whyNone(packet, details) ?? "";
+    const [header = {}, ...probabilities] = details.objects;
+    const fields = Object.entries(header).filter(([name]) => !["bits", "packet"].includes(name));
+    writeTable(find("header-facts"), fields.map(([name, value]) => [name, Array.isArray(value) ? value.join(", ") : value, bitsText(header.bits?.[name])]));
     const changes = find("header-changes");
-    changes.hidden = !header.changes.length;
-    changes.querySelector("summary").textContent = `Probabilities that it changes: ${header.changes.length}`;
-    writeTable(changes.querySelector("table"), header.changes.map(({ probability, index, old, new: now }) => [`${probability}[${index}]`, `${old} → ${now}`]));
+    changes.hidden = !probabilities.length;
+    changes.querySelector("summary").textContent = `Probabilities that it changes: ${probabilities.length}`;
+    writeTable(changes.querySelector("table"), probabilities.map(({ probability, index, old, new: now }) => [`${probability}[${index}]`, `${old} → ${now}`]));
   }
 }
 

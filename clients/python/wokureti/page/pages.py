@@ -12,7 +12,6 @@ import time
 
 from .. import system
 from . import adding, others
-from ..session import records
 from ..tools import cut_lists, exports, ivf, muxing, progress, repair
 from .checking import Earlier, News
 from .clipboard import Clipboard, Gone, numbers_of, runs_of
@@ -39,6 +38,8 @@ KINDS = {
 }
 CONTAINERS = {".ivf": "video/x-ivf", ".webm": "video/webm", ".mkv": "video/x-matroska"}
 REFUSALS = (404, 409, 412)
+# The questions that the page asks of the session itself.
+QUESTIONS = ("list", "header", "macroblocks", "packet")
 # The steps of `wokureti repair` that act on packets.
 STEPS = frozenset(("double", "sort", "hold"))
 # The edits of one request, at most. A body of 8 MiB has some 400,000.
@@ -57,7 +58,7 @@ RANGE = re.compile("([0-9]{1,15})-([0-9]{1,15})\\.y4m")
 def files_of_page():
     """The files of the page, by their names: nothing else is served as a file."""
     folder = pathlib.Path(__file__).resolve().parent
-    return {path.name: (KINDS[path.suffix], path.read_bytes()) for path in sorted(folder.iterdir()) if path.suffix in KINDS}
+    return {path.relative_to(folder).as_posix(): (KINDS[path.suffix], path.read_bytes()) for path in sorted(folder.rglob("*")) if path.suffix in KINDS}
 
 
 class PageRoutes(Routes):
@@ -96,8 +97,7 @@ class PageRoutes(Routes):
                 ("repairs",): self.repairs,
                 ("repair_all",): self.repair_all,
                 ("differs",): self.differs,
-                ("macroblocks",): self.macroblocks,
-                ("header",): self.header,
+                ("answer",): self.answered,
                 ("stream.ivf",): self.stream,
                 ("download",): self.download,
                 ("exported",): self.exported,
@@ -131,8 +131,8 @@ class PageRoutes(Routes):
         return response
 
     def read(self, request, parts):
-        if len(parts) == 2 and parts[0] == "page":
-            kind, text = self.files.get(parts[1] or "index.html", (None, None))
+        if len(parts) > 1 and parts[0] == "page":
+            kind, text = self.files.get("/".join(parts[1:]) or "index.html", (None, None))
             if kind is not None:
                 self.only(request)
                 return Response(200, kind, text)
@@ -421,35 +421,17 @@ class PageRoutes(Routes):
                 self.live.run_step(lines, f"{'Move' if members['move'] else 'Copy'} {found.count} packets to {found.first}")
             return self.changed(page, first=found.first, count=found.count, deleted=found.deleted, made=len(lines))
 
-    def lines_of(self, request, word):
-        """What `header` or `macroblocks` reports of a packet: lines, and members that say why there are none."""
-        self.only(request, "packet", "source")
+    def answered(self, request):
+        """The reply to a question about the packets of a source, as a text."""
+        self.only(request, "line", "source")
+        line = request.query.get("line", "")
+        if first_word(line) not in QUESTIONS or not line.isprintable():
+            raise Refuse(400, f"a question is one line of {', '.join(QUESTIONS)}")
         with self.live.lock:
             view = self.live.current_view()
             source = self.source_of(request, view)
-            packet = self.number(request, "packet", 0)
-            if packet >= len(view.streams[source]):
-                raise Refuse(404, "there is no such packet")
-            lines = self.live.details(word, source, packet)
-        members = {"revision": view.revision, "source": source, "packet": packet, "refused": None, "repeats": False}
-        try:
-            return records.checked(lines), members
-        except records.Refused as refused:
-            return [], {**members, "refused": {"packet": refused.packet, "cause": refused.cause}}
-        except records.NoBytes:
-            return [], {**members, "repeats": True}
-
-    def macroblocks(self, request):
-        """The macroblocks of a packet, in raster order, as objects of the question `macroblocks`."""
-        lines, members = self.lines_of(request, "macroblocks")
-        # Thousands of lines that are JSON are not read here to be written again.
-        text = f'{json.dumps(members)[:-1]}, "macroblocks": [{",".join(lines)}]}}\n'.encode()
-        return Response(200, "application/json", text)
-
-    def header(self, request):
-        """The header of a packet: its fields, and the probabilities that it changes."""
-        lines, members = self.lines_of(request, "header")
-        return as_json({**members, **(records.header(lines) if lines else {"fields": None, "changes": []})})
+            reply = self.live.ask(lambda session: session.ask(line, source))
+            return Response(200, "text/plain; charset=utf-8", reply.encode(), headers=[("ETag", self.tag_of(view.revision))])
 
     def check_of(self, request):
         """The findings of the current stream so far, starting at one of them."""

@@ -1,6 +1,6 @@
 // Playback at the stream's rate, in both directions. Frames are fetched ahead; those that come late are dropped.
 
-import * as server from "./interface.js";
+import { engine } from "./engine.js";
 
 // Frames that are asked for at a time, and how far ahead.
 const AT_ONCE = 2;
@@ -101,7 +101,7 @@ export class Player {
   async rangeOf() {
     const { selection, source, frames } = this.model;
     if (!this.isLoop || !selection) return { first: 0, end: frames };
-    const [first, last] = await Promise.all([selection.first, selection.end - 1].map((packet) => server.members(`place?packet=${packet}&source=${source}`)));
+    const [first, last] = await Promise.all([selection.first, selection.end - 1].map((packet) => engine.look("place", { packet, source })));
     if (first.frame === null || last.frame === null || last.frame < first.frame) return { first: 0, end: frames };
     return { first: first.frame, end: Math.min(frames, last.frame + 1) };
   }

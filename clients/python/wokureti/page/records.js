@@ -1,20 +1,21 @@
 // What vp8list says of the macroblocks of packets, fetched when it is looked at.
 
-import * as server from "./interface.js";
+import { detailsOf } from "./details.js";
+import { engine } from "./engine.js";
 
 // Packets whose records are stored: a frame of 1080p has 8,160.
 const MOST_PACKETS = 6;
 
 /** The records of a packet: columns and rows of macroblocks, `at(column, row)`, and `why` there are none. */
 export class Records {
-  constructor(members) {
-    this.macroblocks = members.macroblocks;
+  constructor(source, packet, details) {
+    this.macroblocks = details.objects;
     const last = this.macroblocks.at(-1);
     this.columns = last ? last.column + 1 : 0;
     this.rows = last ? last.row + 1 : 0;
-    this.packet = members.packet;
-    this.source = members.source;
-    this.why = whyNone(members);
+    this.packet = packet;
+    this.source = source;
+    this.why = whyNone(packet, details);
   }
 
   at(column, row) {
@@ -28,7 +29,7 @@ export class Records {
 }
 
 /** Why a packet has no macroblocks, or null. */
-export function whyNone({ packet, refused, repeats }) {
+export function whyNone(packet, { refused, repeats }) {
   if (repeats) return `packet ${packet} has no bytes: it shows the last frame again`;
   if (refused && refused.packet !== packet) return `packet ${packet} is lost with packet ${refused.packet}: ${refused.cause}`;
   return refused ? `packet ${packet} is refused: ${refused.cause}` : null;
@@ -45,7 +46,7 @@ export class RecordStore {
     const key = `${this.model.revision} ${source} ${packet}`;
     let found = this.found.get(key);
     if (!found) {
-      found = server.members(`macroblocks?packet=${packet}&source=${source}`, `the macroblocks of packet ${packet}`).then((members) => new Records(members));
+      found = engine.answer(`macroblocks ${packet}`, source, { waits: `the macroblocks of packet ${packet}` }).then((reply) => new Records(source, packet, detailsOf(reply)));
       found.catch(() => this.found.delete(key));
     }
     // The entries that were used last are at the end.

@@ -1,6 +1,6 @@
 // The script as text, a node a line; a refusal is shown at its node.
 
-import * as server from "./interface.js";
+import { engine, offer } from "./engine.js";
 import { notice } from "./status.js";
 
 const find = (id) => document.getElementById(id);
@@ -82,7 +82,7 @@ export class ScriptPanel {
     const [file] = find("cuts-file").files;
     if (!file) return;
     try {
-      const script = await server.scriptOfCuts(await file.text());
+      const script = await engine.scriptOfCuts(await file.text());
       await this.editing.make([`script ${script}`], `the parts of ${file.name} are shown`);
     } catch (error) {
       notice(error.message, { isBad: true, id: "cuts" });
@@ -94,8 +94,8 @@ export class ScriptPanel {
   /** Offers the parts that are shown as a list of cuts. */
   async saveCuts() {
     try {
-      const { name, file } = await server.cuts();
-      server.offer(file, name);
+      const { name, file } = await engine.file("cuts");
+      offer(file, name);
     } catch (error) {
       notice(error.message, { isBad: true, id: "cuts" });
     }

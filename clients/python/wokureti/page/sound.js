@@ -1,6 +1,6 @@
 // The sound of playback at the stream's own speed, forward, if a stream has some. The picture is the clock: sound that parts from it is set again.
 
-import { BASE } from "./interface.js";
+import { engine } from "./engine.js";
 
 const find = (id) => document.getElementById(id);
 // Seconds by which sound and picture may part.
@@ -22,9 +22,8 @@ export class Sound {
 
   /** The switch is there if a stream has sound, and the sound is that of the frames that are shown now. */
   follow() {
-    const { sounds, revision, instance } = this.model.session;
-    find("sound").hidden = !sounds;
-    const key = sounds ? `sound.webm?revision=${revision}&instance=${instance}` : null;
+    const key = engine.sound(this.model.session);
+    find("sound").hidden = !key;
     if (key === this.key) return;
     this.key = key;
     this.stop();
@@ -42,7 +41,7 @@ export class Sound {
     if (!this.key || !this.isOn || speed !== 1) return this.stop();
     if (!this.isLoaded) {
       this.isLoaded = true;
-      this.audio.src = new URL(this.key, BASE);
+      this.audio.src = this.key;
     }
     const { rate, times } = this.model;
     const due = secondOf(frame, rate, times);

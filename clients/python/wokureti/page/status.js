@@ -1,6 +1,6 @@
 // The line that says what goes on, and notices.
 
-import * as server from "./interface.js";
+import { OPENING, engine, waiting } from "./engine.js";
 
 const find = (id) => document.getElementById(id);
 // Milliseconds after which a request that is not answered is shown.
@@ -45,7 +45,7 @@ export class Status {
   /** Shows the request that is not answered for the longest time, with a number. */
   look() {
     if (performance.now() < this.until) return;
-    const oldest = [...server.waiting.values()].sort((one, other) => one.since - other.since)[0];
+    const oldest = [...waiting.values()].sort((one, other) => one.since - other.since)[0];
     const passed = oldest ? performance.now() - oldest.since : 0;
     if (passed < SOON) {
       if (this.isBusy) this.write(this.text, null);
@@ -56,7 +56,7 @@ export class Status {
     const seconds = `${(passed / 1000).toFixed(1)} s`;
     if (oldest.what === "edit") {
       this.ask(seconds);
-    } else if (oldest.what === server.OPENING) {
+    } else if (oldest.what === OPENING) {
       this.askOpening(seconds);
     } else {
       this.write(`${oldest.what.startsWith("frame") ? "decoding" : "waiting for"} ${oldest.what}: ${seconds}`, null);
@@ -68,11 +68,11 @@ export class Status {
     if (this.polling) return;
     this.polling = true;
     try {
-      const { opening } = await server.members("progress");
+      const { opening } = await engine.progress();
       if (opening?.total) this.share(opening.what, opening.done / opening.total);
-      else this.write(`waiting for ${server.OPENING}: ${seconds}`, null);
+      else this.write(`waiting for ${OPENING}: ${seconds}`, null);
     } catch {
-      this.write(`waiting for ${server.OPENING}: ${seconds}`, null);
+      this.write(`waiting for ${OPENING}: ${seconds}`, null);
     } finally {
       this.polling = false;
     }
@@ -83,7 +83,7 @@ export class Status {
     if (this.polling) return;
     this.polling = true;
     try {
-      const { doing } = await server.members("progress");
+      const { doing } = await engine.progress();
       if (doing && doing.total > 1) this.progress("edits made", doing.done, doing.total);
       else this.write(`an edit is being applied: ${seconds}`, null);
     } catch {

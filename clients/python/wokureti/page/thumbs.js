@@ -1,7 +1,7 @@
 // Small pictures along the timeline: those of the key packets that are seen, since each of these is decoded by itself.
 
 import { toColour } from "./colours.js";
-import * as server from "./interface.js";
+import { engine } from "./engine.js";
 
 const find = (id) => document.getElementById(id);
 // Pixels of a place, and how many pictures are stored.
@@ -76,17 +76,16 @@ export class Thumbs {
       const { name, packet, frame } = found;
       // Without a script the program of the stream has it, else the one beside it.
       const isPlain = source === 0 && this.model.session.script === "-";
-      const path = isPlain ? `frames/${frame}.y4m` : `packets/${packet}.y4m?source=${source}`;
-      this.found.set(name, await this.small(path));
+      this.found.set(name, await (isPlain ? this.small(frame) : this.small(packet, { packets: source })));
       this.trim();
       this.draw();
     }
   }
 
   /** A small picture, or null if it is refused. */
-  async small(path) {
+  async small(number, of) {
     try {
-      const frame = await server.small(path);
+      const [frame] = await engine.frames([number], { of, low: true });
       const { width, height } = frame;
       const data = new ImageData(new Uint8ClampedArray(toColour(frame).buffer), width, height);
       const tall = this.canvas.clientHeight * (devicePixelRatio || 1);

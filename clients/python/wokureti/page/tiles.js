@@ -1,6 +1,6 @@
 // The packets that the timeline draws: tiles of 1,024 columns, of one packet each or of a power of two of them.
 
-import * as server from "./interface.js";
+import { engine } from "./engine.js";
 
 export const COLUMNS = 1024;
 const MOST_TILES = 200;
@@ -55,7 +55,7 @@ export class Tiles {
     this.found.delete(key);
     this.found.set(key, entry);
     try {
-      const tile = await server.members(`timeline?source=${source}&first=${number * COLUMNS * per}&per=${per}&count=${COLUMNS}`, "the packets of the timeline");
+      const tile = await engine.look("timeline", { source, first: number * COLUMNS * per, per, count: COLUMNS }, { waits: "the packets of the timeline" });
       if (state !== this.state && this.found.get(key) !== entry) return;
       entry.tile = prepared(tile);
       entry.state = state;

@@ -1,7 +1,7 @@
 // What is shown in the picture: the current frame, its comparison with the frame before the edits, or a preview.
 
 import { compared } from "./colours.js";
-import * as server from "./interface.js";
+import { Refusal, engine } from "./engine.js";
 import { Loupe } from "./loupe.js";
 import { Picture } from "./picture.js";
 
@@ -160,7 +160,7 @@ export class Viewer {
     const { frame, frames, look, aside } = this.model;
     const png = find("png");
     png.hidden = Boolean(aside);
-    png.href = `../frames/${frame}.png`;
+    png.href = engine.link("png", frame) ?? "";
     png.download = `frame-${frame}.png`;
     if (!this.model.session) return;
     if (!frames && !aside) {
@@ -250,8 +250,8 @@ export class Viewer {
       const revision = this.model.revision;
       this.preview = {
         lines,
-        picture: (frame) => server.previewFrame(lines, frame, revision),
-        packet: ({ source, packet }) => server.previewPacket(lines, source, packet, revision),
+        picture: async (frame) => (await engine.frames([frame], { lines, revision }))[0],
+        packet: async ({ source, packet }) => (await engine.frames([packet], { of: { packets: source }, lines, revision }))[0],
       };
     }
     return this.show();
@@ -268,11 +268,11 @@ export class Viewer {
     button.textContent = "Stop the search";
     const start = this.model.frame;
     const { other } = this;
-    const against = this.against === "before" ? "" : `&against=${this.against}`;
+    const against = this.against === "before" ? {} : { against: this.against };
     try {
       let from = start + step;
       while (from >= 0 && from < this.model.frames) {
-        const found = await server.members(`differs?from=${from}&step=${step}${against}`, "", this.search.signal);
+        const found = await engine.task("differs", { from, step, ...against }, { signal: this.search.signal });
         if (found.frame !== null) {
           await this.model.go(found.frame);
           this.status.say(`frame ${found.frame} differs from ${other}`);
@@ -293,7 +293,7 @@ export class Viewer {
 }
 
 function refusalOf(error) {
-  if (error instanceof server.Refusal && error.reply) {
+  if (error instanceof Refusal && error.reply) {
     return { text: error.reason ? `${error.reply.replace(/^refused /, "")}: ${error.reason}` : error.reply, title: "This frame is refused" };
   }
   return { text: error.message, title: "There is no picture" };

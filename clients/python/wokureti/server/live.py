@@ -9,7 +9,6 @@ import threading
 from ..tools import containers, facts, muxing, rooms
 from ..session.edit_files import NotWritten
 from ..session.errors import Ended, Lost, Refused
-from ..session.lines import lines_of
 from ..session.outcomes import Outcomes
 from ..tools.progress import say
 from .saves import Saves
@@ -267,10 +266,6 @@ class Live:
         """The revision, the rate of the frames, and some of them, of one size."""
         with self.lock:
             return self.revision, self.rate(), self.pictures(numbers)
-
-    def details(self, word, source, packet):
-        """What `header` or `macroblocks` reports of a packet of a source now, line by line."""
-        return lines_of(self.ask(lambda session: session.ask(f"{word} {packet}", source)))
 
     def ask(self, function):
         """What a function returns of the session. If the program ended, it is started again, and asked again once."""

@@ -1,0 +1,41 @@
+// Lists of edits in the browser's store, by the digest of their stream. All pages from the disk share it, so what is read is checked as anybody's list.
+
+const [NAME, STORE] = ["wokureti", "lists"];
+
+function settled(request) {
+  return new Promise((resolve, reject) => {
+    request.onsuccess = () => resolve(request.result);
+    request.onerror = () => reject(request.error);
+    request.onblocked = () => reject(new Error("the store is in use"));
+  });
+}
+
+let store = null;
+
+function opened() {
+  store ??= (() => {
+    const request = indexedDB.open(NAME, 1);
+    request.onupgradeneeded = () => request.result.createObjectStore(STORE);
+    return settled(request);
+  })();
+  store.catch(() => (store = null));
+  return store;
+}
+
+/** The text that is kept under a name, or null. */
+export async function read(name) {
+  const base = await opened();
+  const found = await settled(base.transaction(STORE, "readonly").objectStore(STORE).get(name));
+  return typeof found?.text === "string" ? found.text : null;
+}
+
+/** Keeps a text under a name: it is on the disk when this returns. */
+export async function write(name, text) {
+  const base = await opened();
+  const made = base.transaction(STORE, "readwrite", { durability: "strict" });
+  made.objectStore(STORE).put({ text, time: Date.now() }, name);
+  return new Promise((resolve, reject) => {
+    made.oncomplete = () => resolve();
+    made.onabort = made.onerror = () => reject(made.error ?? new Error("the store is full"));
+  });
+}

@@ -1,0 +1,464 @@
+// The stream that the page edits: its session, its steps, and what the page asks of it.
+
+import { objectsOf } from "../details.js";
+import { nodesOf } from "../script.js";
+import { shotsOf } from "../shots.js";
+import { Refused } from "./calls.js";
+import { Check, atEnd, atHeader } from "./checking.js";
+import { Clipboard, runsOf } from "./clipboard.js";
+import { Causes, Contents, readIvf } from "./contents.js";
+import { scriptOf, textOf as cutsOf } from "./cut_lists.js";
+import { plain, spaced } from "./lines.js";
+import { stepsOf, textOf, titled } from "./lists.js";
+import { rateOf } from "./rates.js";
+import { Repairs } from "./repairs.js";
+import { Session } from "./session.js";
+import { Sha256 } from "./sha256.js";
+import { Runs, Timeline, original } from "./views.js";
+
+// Bytes of the pictures of cached states; edits and notices that are told, at most; characters of an edit; checks that are remembered.
+const MOST_STATES = 1 << 29;
+const MOST_EDITS = 500;
+const MOST_LINE = 200;
+const MOST_CHECKS = 8;
+// Packets, frames or columns that are told at a time.
+const MOST_ENTRIES = 4096;
+// The columns of the tiles that an answer to a change has; places of selected packets that are named; packets that a step inserts, at most.
+const COLUMNS = 1024;
+const MOST_PLACES = 3;
+const MOST_LINES = 1 << 20;
+// Nodes that may change samples.
+const CHANGING = /(?:^|; ?)(?:crop|fade) /;
+
+/** Reads what is known of the files while they are opened. A WebM file is read as the session has it. */
+function indexes(module, sources) {
+  const found = [];
+  const read = (bytes) => {
+    const digest = new Sha256();
+    return Object.assign(readIvf(bytes, (part) => digest.add(part)), { digest: digest.hex() });
+  };
+  const session = new Session(module, sources, MOST_STATES, (place, bytes) => {
+    const given = bytes();
+    if (given.length >= 32 && given[0] === 0x44) found[place] = read(given);
+  });
+  sources.forEach((source, place) => {
+    if (!found[place]) {
+      const pieces = session.calls.save(place, false, false);
+      const whole = new Uint8Array(pieces.reduce((sum, { length }) => sum + length, 0));
+      pieces.reduce((at, piece) => (whole.set(piece, at), at + piece.length), 0);
+      found[place] = Object.assign(read(whole), { isIvf: false, cut: null });
+    }
+    found[place].name = source.name ?? `source ${place}`;
+  });
+  return { session, found };
+}
+
+export class Stream {
+  constructor(module) {
+    this.module = module;
+    this.restarts = 0;
+    this.checkNumber = 0;
+    this.notices = [];
+  }
+
+  /** Opens files; the first one is edited. Revisions go on from one. */
+  open(sources, revision) {
+    this.revision = revision;
+    const { session, found } = indexes(this.module, sources);
+    Object.assign(this, { session, files: found, sources });
+    this.instance = Math.random().toString(16).slice(2, 10);
+    this.checks = [];
+    this.check = null;
+    this.saves = found.map(() => ({ stream: null, file: null }));
+    this.saved = 0;
+    this.unwritten = 0;
+    this.steps = [];
+    this.undone = [];
+    this.readAgain();
+    this.changed();
+    return this.about();
+  }
+
+  /** What the page keeps a list by. */
+  about() {
+    const { digest, count, bytes, name } = this.files[0];
+    return { digest, count, bytes, name, text: this.text() };
+  }
+
+  readAgain() {
+    this.contents = new Contents(this.files, (line, source) => this.session.ask(line, source));
+    this.contents.name = Math.random().toString(16).slice(2, 10);
+    this.causes = new Causes(this.contents);
+  }
+
+  /** Makes the edits of a list. It may be anybody's: what is no list of this stream is not taken, and said. Returns whether it was taken. */
+  take(text) {
+    this.waits = null;
+    let isTaken = true;
+    try {
+      const { steps, others } = stepsOf(text, this.files[0]);
+      const missing = others.filter(({ source, digest }) => this.files[source]?.digest !== digest);
+      if (missing.length) {
+        this.waits = text;
+        this.notice(`The edits of ${this.files[0].name} are kept, and need ${missing.map(({ source, name }) => `${name} as source ${source}`).join(" and ")}: open that too, and they are made.`);
+        return { isTaken: false };
+      }
+      for (const { title, lines } of steps) this.makeStep(lines, title);
+    } catch (error) {
+      this.steps = [];
+      this.session.follow([]);
+      this.contents.begin();
+      isTaken = false;
+      this.notice(`The list of edits that this browser keeps for ${this.files[0].name} is not taken: ${error.message}. It stays in the browser's store, and the stream is shown without edits.`);
+    }
+    this.changed();
+    return { isTaken };
+  }
+
+  /** Opens another file as the last source. If it is refused, all is as before. */
+  add(source) {
+    const { sources, files, session, steps, undone, contents, causes } = this;
+    if (sources.length === 8) throw new Refused(409, { error: "a session has at most 8 streams" });
+    const { lines } = session;
+    try {
+      const opened = indexes(this.module, [...sources, source]);
+      Object.assign(this, { session: opened.session, files: opened.found, sources: [...sources, source], steps: [], undone: [] });
+      this.readAgain();
+      for (const step of steps) this.makeStep(step.lines, step.title);
+      this.undone = undone;
+    } catch (error) {
+      Object.assign(this, { session, files, sources, steps, undone, contents, causes });
+      session.goTo(lines);
+      throw error;
+    }
+    this.saves.push({ stream: null, file: null });
+    this.changed();
+    if (this.waits) this.take(this.waits);
+    return { source: this.sources.length - 1, ...this.told() };
+  }
+
+  /** The engine ended in the middle of a call: it is started again, with the same edits. */
+  restart() {
+    this.restarts++;
+    this.session.restart();
+  }
+
+  notice(text) {
+    this.notices.push([this.notices.length + 1, text]);
+  }
+
+  // Edits
+
+  text() {
+    return textOf(this.steps, this.files);
+  }
+
+  makeStep(lines, title) {
+    const edits = lines.map(plain);
+    const reply = this.session.run(edits);
+    const first = this.contents.unused;
+    this.contents.apply(edits, first);
+    this.steps.push({ title: edits.length > 1 ? titled(title) : "", lines: edits, first });
+    return reply;
+  }
+
+  /** The stream is another one now. */
+  changed() {
+    this.revision++;
+    this.contents.learn();
+    this.causes.follow();
+    this.timelines = [];
+    this.runs = null;
+    this.scriptText = spaced(this.session.calls.answered("script").slice("script ".length));
+    this.frameCount = this.session.count();
+    this.begun = null;
+  }
+
+  undo() {
+    const step = this.steps.pop();
+    if (!step) return [];
+    this.undone.push(step);
+    this.session.follow(this.steps.flatMap(({ lines }) => lines));
+    this.contents.begin();
+    for (const { lines, first } of this.steps) this.contents.apply(lines, first);
+    this.changed();
+    return step.lines;
+  }
+
+  redo() {
+    const step = this.undone.pop();
+    if (!step) return [];
+    this.session.run(step.lines);
+    this.contents.apply(step.lines, step.first);
+    this.steps.push(step);
+    this.changed();
+    return step.lines;
+  }
+
+  /** Edits as one step, or the text `undo` or `redo`. If the stream is of another revision, nothing is done. */
+  ask(lines, { revision, title = "", page } = {}) {
+    if (revision !== undefined && revision !== this.revision) throw new Refused(412, { error: "the stream was changed" });
+    if (lines === "undo" || lines === "redo") return { reply: this[lines](), ...this.told(page) };
+    const reply = this.makeStep(lines, title);
+    this.undone = [];
+    this.changed();
+    return { reply, ...this.told(page) };
+  }
+
+  /** What is told after a change: the state, and what of the page is shown. */
+  told(page) {
+    const found = { revision: this.revision, changes: this.changes, session: this.state() };
+    if (!page) return found;
+    const source = Math.min(page.source, this.files.length - 1);
+    const packet = Math.max(0, Math.min(page.packet, this.contents.streams[source].length - 1));
+    return { ...found, place: this.place({ source, packet }), tiles: page.tiles.map(([per, number]) => this.tile({ source, first: number * COLUMNS * per, per, count: COLUMNS })) };
+  }
+
+  /** Inserts remembered packets as one step. */
+  paste({ contents, numbers, source, at, move, revision, page }) {
+    if (revision !== this.revision) throw new Refused(412, { error: "the stream was changed" });
+    if (contents !== this.contents.name) throw new Refused(409, { error: "the packets that were copied are gone, since the stream was opened again" });
+    if (numbers.reduce((sum, [, count]) => sum + count, 0) > MOST_LINES) throw new Refused(400, { error: `at most ${MOST_LINES} packets are inserted at a time` });
+    const board = new Clipboard(this.contents.streams, numbers, source, at, (number, place) => this.insertion(number, place));
+    const { lines, first } = move ? board.moves() : board.copies();
+    const count = board.numbers.length;
+    const { deleted } = board;
+    if (lines.length) {
+      this.makeStep(source === this.session.current ? lines : [`use ${source}`, ...lines], `${move ? "Move" : "Copy"} ${count} packets to ${first}`);
+      this.undone = [];
+      this.changed();
+    }
+    return { first, count, deleted, made: lines.length, ...this.told(page) };
+  }
+
+  /** The line that inserts a packet that is in no stream any more: another session, with the edits up to the one after which it was there, has its bytes. */
+  insertion(number, at) {
+    const contents = new Contents(this.files, () => "");
+    const isThere = () => contents.streams.findIndex((stream) => stream.includes(number));
+    contents.made = [...this.contents.made];
+    const lines = [];
+    const steps = [...this.steps, ...[...this.undone].reverse()];
+    let source = isThere();
+    let found = source < 0 ? null : { lines: [], source, index: contents.streams[source].indexOf(number) };
+    for (const step of steps) {
+      let { first } = step;
+      for (const line of step.lines) {
+        contents.apply([line], first);
+        first = contents.next;
+        lines.push(line);
+        source = isThere();
+        if (source >= 0) found = { lines: [...lines], source, index: contents.streams[source].indexOf(number) };
+      }
+    }
+    if (!found) throw new Refused(409, { error: "the packets that were copied are gone" });
+    const other = new Session(this.module, this.sources, 1 << 20);
+    other.follow(found.lines);
+    const [, stamp, hex] = other.ask(`packet ${found.index}`, found.source).split(" ");
+    return `insert ${at} ${stamp} ${hex}`;
+  }
+
+  // What the page asks
+
+  get changes() {
+    return this.revision + this.saved + this.restarts;
+  }
+
+  timeline(source) {
+    return (this.timelines[source] ??= new Timeline(this.contents, source, this.causes.isWhole ? this.causes.seen[source].causes : []));
+  }
+
+  served() {
+    if (!this.runs) {
+      const frames = this.files.map((_, source) => this.timeline(source).shown);
+      this.runs = new Runs(this.scriptText === "-" ? [{ source: 0, first: 0, count: frames[0] }].filter(({ count }) => count) : shotsOf(this.scriptText, frames).shots, (source) => this.timeline(source));
+    }
+    return this.runs;
+  }
+
+  /** The number and the text of the first node that changes samples of a frame, or null. */
+  changing() {
+    if (!CHANGING.test(this.scriptText)) return null;
+    for (let first = 0; first < this.frameCount; first += MOST_ENTRIES) {
+      const node = objectsOf(this.session.calls.answered(`origins ${first} ${MOST_ENTRIES}`)).find(({ changed }) => changed.length)?.changed[0];
+      if (node) return [node, nodesOf(this.scriptText)[node - 1]];
+    }
+    return null;
+  }
+
+  savesOf() {
+    return this.saves.map(({ stream, file }, source) => {
+      const now = this.contents.streams[source];
+      const edited = this.contents.isEdited(source);
+      const isSame = stream !== null && stream.length === now.length && stream.every((number, place) => number === now[place]);
+      return { edited, saved: isSame || !edited, file: isSame ? file : null, next: `${this.stem(source)}-edited.ivf` };
+    });
+  }
+
+  stem(source = 0) {
+    return this.files[source].name.replace(/\.[^.]*$/, "");
+  }
+
+  state() {
+    const lines = this.steps.flatMap((step, place) => step.lines.map((line, turn) => ({ line: line.slice(0, MOST_LINE), step: place, title: turn ? "" : step.title })));
+    const told = lines.slice(-MOST_EDITS);
+    const saves = this.savesOf();
+    return {
+      revision: this.revision, changes: this.changes, instance: this.instance, names: this.files.map(({ name }) => name), packets: this.contents.streams[0].length,
+      frames: this.frameCount, rate: (this.rate ??= rateOf(this.files[0])), varies: false, sounds: false, sources: this.contents.streams.map(({ length }) => length), source: this.session.current,
+      script: this.scriptText, edits_before: lines.length - told.length, edits: told.map(({ line }) => line), steps: told.map(({ step }) => step),
+      titles: Object.fromEntries(told.map(({ title }, place) => [place, title]).filter(([, title]) => title)),
+      undone: [...this.undone].reverse().flatMap((step) => step.lines.map((line) => line.slice(0, MOST_LINE))).slice(0, MOST_EDITS),
+      saved: saves.every(({ saved }) => saved), saves, exports: true, changing: this.changing(), list: "this browser", again: null, unwritten: this.unwritten, notices: this.notices,
+      listed: this.causes.isWhole, restarts: this.restarts, shown: this.timeline(0).shown, source_frames: this.files.map((_, source) => this.timeline(source).shown),
+    }; // prettier-ignore
+  }
+
+  tile({ source, first, per, count }) {
+    const timeline = this.timeline(source);
+    if (this.check && source === 0 && this.isOfNow(this.check)) timeline.damage(this.check.inside);
+    const start = Math.min(first, timeline.count);
+    const columns = Math.min(count, MOST_ENTRIES);
+    const keys = timeline.keysOf(start, per, columns).map((packet) => [packet, timeline.stream[packet], timeline.ownFrame(packet)]);
+    return { revision: this.revision, contents: this.contents.name, source, first, per, packets: timeline.count, ...timeline.tile(start, per, columns), keys };
+  }
+
+  place({ source, packet }) {
+    const found = { revision: this.revision, source, packet, frame: this.served().frameOf(source, packet) };
+    const timeline = this.timeline(source);
+    return packet < timeline.count ? { ...found, own: timeline.ownFrame(packet), before: this.before(source, packet) } : found;
+  }
+
+  /** The frame that the file of a source shows at a packet, or null. */
+  before(source, packet) {
+    const index = original(this.contents, source, packet);
+    if (index === null) return null;
+    this.shownOf ??= [];
+    this.shownOf[source] ??= this.files[source].tags.reduce((list, tag) => (list.push(list.at(-1) + (tag & 2 ? 1 : 0)), list), [0]);
+    const shown = this.shownOf[source];
+    return shown.at(-1) ? Math.min(shown[index], shown.at(-1) - 1) : null;
+  }
+
+  origins({ from, count }) {
+    const found = { revision: this.revision, from, sources: [], packets: [], before: [] };
+    for (let frame = from; frame < Math.min(from + Math.min(count, MOST_ENTRIES), this.frameCount); frame++) {
+      const { source, packet } = this.served().origin(frame);
+      found.sources.push(source);
+      found.packets.push(packet);
+      found.before.push(this.before(source, packet));
+    }
+    return found;
+  }
+
+  key({ source, packet, step }) {
+    const timeline = this.timeline(source);
+    const found = step > 0 ? timeline.nextKey(packet + 1) : timeline.keyBefore(packet - 1);
+    return { revision: this.revision, source, packet: found < 0 || found >= timeline.count ? null : found };
+  }
+
+  cut({ frame, step }) {
+    return { revision: this.revision, frame: this.served().join(frame, step) };
+  }
+
+  range({ source, first, end }) {
+    const found = this.served().rangeOf(source, first, end);
+    return { revision: this.revision, ...found, places: found.places.slice(0, MOST_PLACES) };
+  }
+
+  numbers({ source, first, count }) {
+    return { revision: this.revision, contents: this.contents.name, numbers: runsOf(this.contents.streams[source].slice(first, first + count)) };
+  }
+
+  times() {
+    return { revision: this.revision, times: null };
+  }
+
+  repairsNow() {
+    const hex = (packet, source) => this.session.ask(`packet ${packet}`, source).split(" ")[2];
+    return new Repairs(this.contents, this.timeline(0), this.files.map(({ name }) => name), hex);
+  }
+
+  repairs(finding) {
+    return { revision: this.revision, repairs: this.repairsNow().of(finding) };
+  }
+
+  repair_all() {
+    return { revision: this.revision, ...this.repairsNow().all(this.check?.findings ?? []) };
+  }
+
+  look(what, query) {
+    return what === "timeline" ? this.tile(query) : this[what](query);
+  }
+
+  frames(list) {
+    return list.map((number) => ({ ...this.session.frame(number), revision: this.revision }));
+  }
+
+  /** What shows a packet by itself, without the script: edits, and a frame after them; the frame is null if other edits follow. */
+  aside(source, packet, lines) {
+    const edits = [...this.session.lines, ...(lines ?? [])].filter((line) => !line.startsWith("script"));
+    return { lines: source ? [...edits, `script source ${source}`] : edits, frame: lines ? null : this.timeline(source).ownFrame(packet) };
+  }
+
+  // Files
+
+  /** The packets of a source as a file, and whether its times were numbered anew. */
+  save(source, pads = true) {
+    const restamps = this.contents.isEdited(source);
+    const pieces = this.session.calls.save(source, pads, restamps);
+    return { pieces, name: `${this.stem(source)}-edited.ivf`, renumbered: restamps };
+  }
+
+  savedAs(source, file, page) {
+    this.saves[source] = { stream: this.contents.streams[source].slice(), file };
+    this.saved++;
+    return this.told(page);
+  }
+
+  begins() {
+    const { rate, scale } = this.files[0].head;
+    const tick = rate ? (1e6 * scale) / rate : 1e6 / 30;
+    let clock = 0;
+    const found = [0];
+    for (const number of this.contents.streams[0]) {
+      if (!(this.contents.tags[number] & 2)) continue;
+      clock += this.contents.duration(number, 0);
+      found.push(Math.round(clock * tick * 1000) / 1000);
+    }
+    return found;
+  }
+
+  cuts() {
+    return cutsOf(this.served().shots, this.begins());
+  }
+
+  scriptOfCuts(text) {
+    return scriptOf(text, this.begins());
+  }
+
+  // The check
+
+  isOfNow({ timeline }) {
+    const now = this.contents.streams[0];
+    return timeline.contents === this.contents && timeline.stream.length === now.length && timeline.stream.every((number, place) => number === now[place]);
+  }
+
+  /** The check of the current packets, begun now if it is another one than that of the check before. After undo nothing is checked again. */
+  checked() {
+    if (this.begun && this.begun === this.check) return this.check;
+    const known = [this.check, ...this.checks].find((one) => one && !one.failed && this.isOfNow(one));
+    this.begun = this.check = known ?? this.newCheck();
+    return this.check;
+  }
+
+  newCheck() {
+    if (this.check?.isOver) this.checks = [this.check, ...this.checks].slice(0, MOST_CHECKS);
+    const [file] = this.files;
+    const timeline = this.timeline(0);
+    timeline.contents = this.contents;
+    const isWhole = file.isIvf && !this.contents.isEdited(0);
+    const key = timeline.stream.find((number) => this.contents.tags[number] & 1 && this.contents.pictures.has(number));
+    const header = atHeader(file, isWhole, key === undefined ? null : this.contents.pictures.get(key));
+    return new Check(++this.checkNumber, timeline, (line, source) => this.session.ask(line, source), header, atEnd(file, isWhole));
+  }
+}
+

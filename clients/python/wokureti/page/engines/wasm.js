@@ -1,0 +1,348 @@
+// The engine in the browser: the library in WebAssembly, in a worker. A second worker has files as they were opened, previews and exports; it is there as long as
+// it is asked.
+
+import { toColour } from "../colours.js";
+import { OPENING, Refusal, offer, use, waited } from "../engine.js";
+import { placeOf, sentence } from "../findings.js";
+import { notice } from "../status.js";
+import { Channel } from "./channel.js";
+import * as kept from "./kept.js";
+
+// Milliseconds after which the second worker ends if it is not asked, and frames of one search for a difference.
+const IDLE = 60000;
+const MOST_COMPARED = 64;
+// Bytes of a file above which the page says that it is large: its packets are in the memory, and while it is opened twice.
+const LARGE = 1 << 29;
+
+const find = (id) => document.getElementById(id);
+
+/** What the engine has: the workers, the files, and the state that was told last. */
+const own = { module: null, main: null, beside: null, timer: 0, sources: [], about: null, session: null, only: "", heard: () => {}, found: () => {}, release: async () => {} };
+let isOpen;
+const opened = new Promise((resolve) => (isOpen = resolve));
+
+async function compiled() {
+  const packed = Uint8Array.from(atob(find("module-text").textContent.trim()), (letter) => letter.charCodeAt(0));
+  const bytes = new Response(new Blob([packed]).stream().pipeThrough(new DecompressionStream("gzip"))).arrayBuffer();
+  try {
+    return await WebAssembly.compile(await bytes);
+  } catch (error) {
+    throw new Error(`The engine does not start: ${error.message}. It needs WebAssembly with vectors, as Chromium 91, Firefox 113 and Safari 16.4 have it.`);
+  }
+}
+
+async function channel(heard) {
+  own.module ??= compiled();
+  const made = new Channel(find("worker-text").textContent, heard);
+  await made.call("start", [await own.module]);
+  return made;
+}
+
+/** The worker with the sessions beside the stream. */
+async function beside() {
+  clearTimeout(own.timer);
+  own.timer = setTimeout(leave, IDLE);
+  own.beside ??= channel().then(async (made) => {
+    await made.call("beside", [own.sources]);
+    return made;
+  });
+  return own.beside;
+}
+
+function leave() {
+  clearTimeout(own.timer);
+  own.beside?.then((made) => made.end()).catch(() => {});
+  own.beside = null;
+}
+
+// Opening, and what is kept
+
+/** Only one tab edits a stream; others look. */
+async function lock(digest) {
+  await own.release();
+  own.only = "";
+  own.release = async () => {};
+  if (!navigator.locks) return;
+  await new Promise((resolve) => {
+    const held = navigator.locks.request(`wokureti ${digest}`, { ifAvailable: true }, (found) => {
+      if (!found) own.only = "This stream is open in another tab, which edits it: this one only looks. Close the other one, and open the file again.";
+      resolve();
+      return found ? new Promise((done) => (own.release = () => (done(), held))) : null;
+    });
+  });
+  if (own.only) notice(own.only, { isBad: true, id: "only" });
+}
+
+/** Opens files in the place of those that are open. If one is refused, all is as before. */
+async function open(sources) {
+  const fresh = await channel(({ members }) => fresh === own.main && own.found(members));
+  try {
+    const about = await fresh.call("open", [sources, own.session?.revision ?? 0]);
+    await lock(about.digest);
+    own.main?.end();
+    leave();
+    Object.assign(own, { main: fresh, sources, about });
+    const text = await kept.read(about.digest).catch(() => null);
+    // A list that is not taken stays, under another name.
+    if (text !== null && !(await fresh.call("take", [text])).isTaken) await kept.write(`${about.digest} ${Date.now()}`, text).catch(() => {});
+  } catch (error) {
+    if (own.main !== fresh) fresh.end();
+    throw error;
+  }
+  own.session = await fresh.call("state");
+  find("welcome").hidden = true;
+  document.body.classList.remove("is-empty");
+  isOpen();
+  own.heard("edit", own.session.changes);
+}
+
+function warnOf(files) {
+  const size = files.reduce((sum, file) => sum + file.size, 0);
+  if (size > LARGE) notice(`${(size / 2 ** 30).toFixed(2)} GiB are read into the memory, and twice as much is needed while that goes on. If this tab ends, open the file with \`wokureti open\`.`, { id: "large" });
+}
+
+/** Opens files that were dropped or chosen, if none is open. */
+async function take(files) {
+  if (own.session || !files.length) return false;
+  warnOf(files);
+  try {
+    await waited(OPENING, open(files));
+  } catch (error) {
+    notice(error.message, { isBad: true, id: "opened" });
+  }
+  return true;
+}
+
+async function add(file) {
+  warnOf([file]);
+  const { about, ...found } = await waited(OPENING, own.main.call("add", [file]));
+  leave();
+  own.sources = [...own.sources, file];
+  own.about = about;
+  return keep({ ...found, text: about.text });
+}
+
+/** Keeps the list of edits before a change is shown. */
+async function keep({ text, ...found }) {
+  try {
+    await kept.write(own.about.digest, text);
+    if (found.session.unwritten) await own.main.call("unwritten", [0]);
+    found.session.unwritten = 0;
+  } catch (error) {
+    found.session.unwritten = found.session.edits.length;
+    await own.main.call("unwritten", [found.session.unwritten]);
+    notice(`This browser does not keep the edits: ${error.message}. Save before you close this tab.`, { isBad: true, id: "kept" });
+  }
+  own.session = found.session;
+  return found;
+}
+
+function checkOpen() {
+  if (!own.session) throw new Refusal(409, { error: "no file is open: drop one on the page" });
+}
+
+async function edited(name, given) {
+  checkOpen();
+  if (own.only) throw new Refusal(409, { error: own.only });
+  return waited("edit", own.main.call(name, given).then(keep));
+}
+
+// Pictures
+
+async function linesAfter(lines, revision) {
+  if (revision !== undefined && revision !== own.session.revision) throw new Refusal(412, { error: "the stream was changed" });
+  return [...(await own.main.call("lines")), ...lines];
+}
+
+async function asked(list, { of, lines, revision, low, signal }) {
+  const how = { low, signal };
+  if (!of && !lines) return own.main.call("frames", [list], how);
+  if (of?.before !== undefined) return (await beside()).call("beside.before", [of.before, list], how);
+  if (!of) return (await beside()).call("beside.frames", [await linesAfter(lines, revision), list], how);
+  const found = await own.main.call("aside", [of.packets, list[0], lines], how);
+  if (found.frame === null) return (await beside()).call("beside.packet", [found.lines, of.packets, list[0]], how);
+  return (await beside()).call("beside.frames", [found.lines, [found.frame]], how);
+}
+
+async function frames(list, given = {}) {
+  await opened;
+  return waited(given.low ? "" : `frame ${list[0]}`, asked(list, given));
+}
+
+// Long work
+
+async function differs({ from, step, against }, signal) {
+  const { frames: count, revision } = own.session;
+  const list = Array.from({ length: MOST_COMPARED }, (_, turn) => from + turn * step).filter((frame) => frame >= 0 && frame < count);
+  const origins = await own.main.call("look", ["origins", { from: Math.min(...list), count: list.length }]);
+  const pairs = list.map((frame) => {
+    if (against !== undefined) return { frame, source: Number(against), other: frame };
+    const place = frame - origins.from;
+    return { frame, source: origins.sources[place], other: origins.before[place] };
+  });
+  const found = await (await beside()).call("beside.differs", [await linesAfter([]), pairs], { signal });
+  const next = from + found.compared * step;
+  return { revision, frame: found.frame, next: found.frame !== null || next < 0 || next >= count ? null : next, frames: count };
+}
+
+async function task(kind, query, { signal } = {}) {
+  if (kind === "differs") return differs(query, signal);
+  const { lines, packet, revision } = query;
+  return { revision, findings: await (await beside()).call("beside.findings", [await linesAfter(lines, revision), packet], { signal }) };
+}
+
+// Files
+
+/** A file that a person chose to write to, or null: the browser then keeps it as a download. */
+async function chosen(name) {
+  if (!window.showSaveFilePicker) return null;
+  try {
+    return await window.showSaveFilePicker({ suggestedName: name });
+  } catch (error) {
+    if (error.name === "AbortError") throw new Refusal(409, { error: "no file was chosen, so nothing was written" });
+    return null;
+  }
+}
+
+/** Writes pieces to a file, and returns its name. */
+async function written(handle, pieces, name) {
+  if (!handle) {
+    offer(new Blob(pieces, { type: "video/x-ivf" }), name);
+    return name;
+  }
+  const file = await handle.createWritable();
+  for (const piece of pieces) await file.write(piece);
+  await file.close();
+  return handle.name;
+}
+
+async function save(source, page) {
+  checkOpen();
+  const { file, next } = own.session.saves[source];
+  const handle = await chosen(file ?? next);
+  const { pieces, name, renumbered } = await waited("the packets to be saved", own.main.call("save", [source]));
+  const reply = await written(handle, pieces, file ?? name);
+  const found = await own.main.call("savedAs", [source, reply, page]);
+  own.session = found.session;
+  return { reply, renumbered, ...found };
+}
+
+/** What an export has, in words. */
+function saidOf(pieces) {
+  const bytes = new Uint8Array(pieces.reduce((sum, { length }) => sum + length, 0));
+  pieces.reduce((at, piece) => (bytes.set(piece, at), at + piece.length), 0);
+  const view = new DataView(bytes.buffer);
+  const [rate, scale] = [view.getUint32(16, true), view.getUint32(20, true)];
+  const stamps = [];
+  let [count, hidden] = [0, 0];
+  for (let at = 32; at + 12 <= bytes.length; at += 12 + view.getUint32(at, true)) {
+    count++;
+    const size = view.getUint32(at, true);
+    if (size >= 3 && !(bytes[at + 12] & 16)) hidden += size;
+    else stamps.push(Number(view.getBigUint64(at + 4, true)));
+  }
+  const seconds = stamps.length > 1 ? ((2 * stamps.at(-1) - stamps.at(-2)) * scale) / rate : scale / rate;
+  const many = (number) => number.toLocaleString("en");
+  const without = count - stamps.length;
+  return `${seconds.toFixed(3)} s, ${many(stamps.length)} frames, in ${many(count)} packets, ${without ? `${many(without)} of them hidden: ${many(hidden)} bytes` : "none of them hidden"}`;
+}
+
+async function exported({ signal }) {
+  const name = `${own.about.name.replace(/\.[^.]*$/, "")}-export.ivf`;
+  const handle = await chosen(name);
+  const lines = await own.main.call("lines");
+  // An export is one call, which hears nothing: whoever stops it ends the worker.
+  signal?.addEventListener("abort", leave);
+  const pieces = await (await beside()).call("beside.export", [lines], { signal });
+  return { file: null, name: await written(handle, pieces, name), said: saidOf(pieces) };
+}
+
+async function file(kind, given = {}) {
+  checkOpen();
+  if (kind === "export") return exported(given);
+  return { file: new Blob([await own.main.call("cuts")], { type: "text/csv" }), name: `${own.about.name.replace(/\.[^.]*$/, "")}-cuts.csv` };
+}
+
+async function pngOf(number) {
+  const [frame] = await frames([number]);
+  const canvas = document.createElement("canvas");
+  [canvas.width, canvas.height] = [frame.width, frame.height];
+  canvas.getContext("2d").putImageData(new ImageData(new Uint8ClampedArray(toColour(frame).buffer), frame.width, frame.height), 0, 0);
+  return new Promise((resolve) => canvas.toBlob(resolve, "image/png"));
+}
+
+/** The findings as a page of their own. */
+function reportOf(findings, title) {
+  const page = document.implementation.createHTMLDocument(title);
+  page.body.append(Object.assign(page.createElement("h1"), { textContent: title }));
+  const table = page.createElement("table");
+  for (const finding of findings) {
+    const row = table.insertRow();
+    for (const text of [finding.severity, placeOf(finding), sentence(finding)]) row.insertCell().textContent = text;
+  }
+  page.body.append(table);
+  return `<!doctype html>\n<meta charset="utf-8">\n${page.documentElement.innerHTML}\n`;
+}
+
+async function offered(kind, number) {
+  checkOpen();
+  const stem = own.about.name.replace(/\.[^.]*$/, "");
+  if (kind === "png") return offer(await pngOf(number), `frame-${number}.png`);
+  if (kind === "edits") return offer(new Blob([await own.main.call("text")], { type: "text/plain" }), `${stem}.edits`);
+  const { findings, damage, notes } = await own.main.call("findings");
+  const title = `Findings of ${own.about.name}`;
+  if (kind === "report") return offer(new Blob([reportOf(findings, title)], { type: "text/html" }), `${stem}-findings.html`);
+  return offer(new Blob([JSON.stringify({ stream: own.about.name, findings, damage, notes }, null, 1)], { type: "application/json" }), `${stem}-findings.json`);
+}
+
+async function answer(line, source, { waits = "", signal } = {}) {
+  await opened;
+  return waited(waits, own.main.call("answer", [line, source], { signal }));
+}
+
+async function look(what, query = {}, { waits = "", signal } = {}) {
+  await opened;
+  return waited(waits, own.main.call("look", [what, query], { signal }));
+}
+
+async function state() {
+  await opened;
+  own.session = await own.main.call("state");
+  return own.session;
+}
+
+use({
+  isOver: "browser",
+  answer,
+  look,
+  state,
+  frames,
+  task,
+  save,
+  file,
+  take,
+  add,
+  instead: (sources) => waited(OPENING, open([sources])),
+  ask: (lines, given) => edited("ask", [lines, given]),
+  paste: (members) => edited("paste", [members]),
+  scriptOfCuts: (text) => own.main.call("scriptOfCuts", [text]),
+  link: () => null,
+  offer: offered,
+  sound: () => null,
+  progress: async () => ({ doing: null, opening: null, exporting: undefined }),
+  changed(heard, found) {
+    Object.assign(own, { heard, found });
+  },
+});
+
+/** The page before a file is open. */
+function welcome() {
+  const input = find("welcome-file");
+  for (const id of ["welcome", "about", "list-save"]) find(id).hidden = false;
+  document.body.classList.add("is-empty");
+  find("download").hidden = true;
+  find("welcome-open").addEventListener("click", () => input.click());
+  input.addEventListener("change", () => take([...input.files]));
+}
+
+welcome();

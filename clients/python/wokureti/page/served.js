@@ -1,0 +1,4 @@
+// The page over a server.
+
+import "./engines/http.js";
+import "./main.js";

@@ -1,0 +1,390 @@
+#!/usr/bin/env python3
+"""Opens the page in one file from a folder that has nothing else, in a network namespace that has no network, and does what a person does there, in chromium and in
+Firefox; the same acts on the page of `wokureti open`. Files that come out, and answers, are those of the other engine and of vp8serve with the same lines.
+
+    tests/test_one_file.py [--shots FOLDER]
+
+The page is that of the variable WOKURETI_PAGE, or bin/wokureti.html: ./build.py --web makes it. It prints what differs and ends with 1, or prints nothing and ends
+with 0; a line `skipped: ..` names what could not be run. With --shots it writes what the page looks like.
+"""
+
+import contextlib
+import http.server
+import os
+import pathlib
+import re
+import shutil
+import struct
+import subprocess
+import sys
+import tempfile
+import threading
+
+sys.dont_write_bytecode = True
+import pages  # noqa: E402
+import test_web  # noqa: E402
+from test_web import EXAMPLE, PAGE, SERVE, TOP, ran, webm  # noqa: E402
+from wokureti.tools import ivf  # noqa: E402
+
+CLIPS = TOP / "crates/gate_clips/data"
+MOST_TIME = 800
+SIZES = ((1280, 800), (390, 844))
+
+
+def samples_of(path, lines=()):
+    """The samples of each frame after edits, or why vp8serve refuses it."""
+    count = int(ran(SERVE, path, input="".join(f"{line}\n" for line in [*lines, "count"]).encode()).stdout.split()[-1])
+    with tempfile.TemporaryDirectory() as folder:
+        out = pathlib.Path(folder, "out.y4m")
+        done = ran(SERVE, path, "-", out, input="".join(f"{line}\n" for line in [*lines, *(f"frame {n}" for n in range(count))]).encode())
+        found = test_web.pieces(out.read_bytes())
+    return [bytes(next(found)) if reply.startswith("served ") else reply for reply in done.stdout.decode().splitlines()[len(lines) :]]
+
+
+def written(path, lines, folder, *options):
+    """The file that vp8serve writes after edits."""
+    out = pathlib.Path(folder, "wanted.ivf")
+    out.unlink(missing_ok=True)
+    ran(SERVE, path, "-", options[0], out, *options[1:], input="".join(f"{line}\n" for line in lines).encode())
+    return out.read_bytes() if out.is_file() else None
+
+
+def damaged(folder):
+    """A clip with a packet that is cut to two bytes, and one that comes twice."""
+    head, packets = ivf.read_packets(CLIPS / "scene-cuts.ivf")
+    packets[3] = (packets[3][0], packets[3][1][:2])
+    packets.insert(10, packets[9])
+    path = folder / "damaged.ivf"
+    path.write_bytes(b"".join(ivf.pieces(head, len(packets), packets)))
+    return path
+
+
+class Alone:
+    """The page in one file, opened at an address."""
+
+    name = "one file"
+
+    def __init__(self, browser, address):
+        self.page, self.address = pages.Page(browser), address
+
+    @contextlib.contextmanager
+    def opened(self, *paths):
+        browser = self.page.browser
+        browser.open("about:blank")
+        browser.open(self.address)
+        self.page.wait("document.getElementById('welcome') && !document.getElementById('welcome').hidden")
+        # Each act begins without edits.
+        self.page.js("await new Promise((done) => { const request = indexedDB.deleteDatabase('wokureti'); request.onsuccess = request.onerror = request.onblocked = done; })")
+        self.page.drop(*paths)
+        self.page.ready()
+        yield self.page
+        self.page.js("window.onbeforeunload = null; addEventListener('beforeunload', (event) => event.stopImmediatePropagation(), { capture: true })")
+        browser.open("about:blank")
+
+    def saved(self, folder):
+        return self.page.offered("save")[1]
+
+    def exported(self):
+        return self.page.offered("export")[1]
+
+
+class Served:
+    """The page of `wokureti open`."""
+
+    name = "server"
+
+    def __init__(self, browser):
+        self.page = pages.Page(browser)
+
+    @contextlib.contextmanager
+    def opened(self, *paths):
+        with tempfile.TemporaryDirectory() as name:
+            folder = pathlib.Path(name)
+            for path in paths:
+                shutil.copyfile(path, folder / path.name)
+            first, *others = [folder / path.name for path in paths]
+            words = [sys.executable, "-m", "wokureti", "open", first, "--no-browser", *(word for path in others for word in ("--source", path))]
+            environment = {**os.environ, "PYTHONPATH": str(TOP / "clients/python"), "PYTHONDONTWRITEBYTECODE": "1", "PYTHONUNBUFFERED": "1", "XDG_STATE_HOME": str(folder / "state")}
+            with subprocess.Popen(list(map(str, words)), stdout=subprocess.PIPE, stderr=subprocess.STDOUT, text=True, env=environment, cwd=folder) as server:
+                try:
+                    address = next((found.group(0) for found in (re.search(r"http://127\.0\.0\.1:\d+/\S+", line) for line in server.stdout) if found), None)
+                    if address is None:
+                        raise AssertionError("wokureti open names no address")
+                    self.page.browser.open(address)
+                    self.page.ready()
+                    self.folder = folder
+                    yield self.page
+                    self.page.browser.open("about:blank")
+                finally:
+                    server.terminate()
+                    server.communicate(timeout=60)
+
+    def saved(self, folder):
+        self.page.js("document.getElementById('save').click()")
+        self.page.wait("document.querySelector('#notices [data-id=saved]')")
+        return next(self.folder.glob("*-edited.ivf")).read_bytes()
+
+    def exported(self):
+        return self.page.offered("export")[1]
+
+
+def looks(engine, clip):
+    """Frames, the timeline and answers before edits and after them."""
+    with engine.opened(clip) as page:
+        page.wait("wokureti.model.session.listed")
+        found = {"frames": page.frames(), "plain": pages.looked(page), "findings": page.checked()}
+        found["packets"] = pages.edited(page)
+        found["findings after"] = page.checked()
+        found["edited"] = pages.looked(page)
+        found["script"] = pages.scripted(page)
+        found["scripted"] = pages.looked(page)
+        found["frames after"] = page.frames()
+        return found
+
+
+def files(engine, clip, folder):
+    """A cut is exported and its packets saved; returned with the edits."""
+    with engine.opened(clip) as page:
+        page.select(3, 6)
+        page.press("delete")
+        page.select(5, 9)
+        page.press("hold")
+        saved = engine.saved(folder)
+        page.select(8, 11)
+        page.press("cut-out")
+        export = engine.exported()
+        return page.session()["edits"], saved, export
+
+
+def repaired(engine, clip):
+    """A finding's repairs, their preview, and all repairs."""
+    with engine.opened(clip) as page:
+        page.checked()
+        page.js("document.querySelector('#findings-list .row').click()")
+        page.wait("document.querySelector('.repairs button')")
+        offers = page.js("return wokureti.findings.open.repairs.map(({ name, title, lines, packet }) => ({ name, title, lines, packet }))")
+        page.js("document.querySelector('.repairs button').click()")
+        page.wait("document.getElementById('preview-result').textContent")
+        result = page.js("return document.getElementById('preview-result').textContent")
+        state = page.session()
+        page.press("preview-take")
+        left = [one for one in page.checked() if one["severity"] == "damage"]
+        return {"offers": offers, "result": result, "before": state["edits"], "after": page.session()["edits"], "left": left}
+
+
+def others(engine, clip, other):
+    """Two streams: packets are copied from the second one, which is joined."""
+    with engine.opened(clip, other) as page:
+        page.js("await wokureti.model.useSource(1); wokureti.model.select(2, 4); await wokureti.editing.copy(false); await wokureti.model.useSource(0); await wokureti.model.goPacket(3)")
+        page.press("paste")
+        page.js("await wokureti.cutting.join(1)")
+        session = page.session()
+        return {"edits": session["edits"], "frames": session["frames"], "pictures": page.frames()}
+
+
+def played(engine, clip):
+    """Playback shows frames as time passes."""
+    with engine.opened(clip) as page:
+        page.js("await wokureti.model.go(0)")
+        page.js("document.getElementById('play').click()")
+        page.wait("wokureti.model.frame > 5")
+        page.js("if (wokureti.player.isPlaying) document.getElementById('play').click()")
+        return page.js("return wokureti.player.isPlaying")
+
+
+def compare(name, one, other):
+    """What differs between what two engines give."""
+    for key in one:
+        if one[key] != other[key]:
+            first = next((pair for pair in zip(one[key], other[key]) if pair[0] != pair[1]), None) if isinstance(one[key], list) else {part: (one[key][part], other[key].get(part)) for part in one[key] if one[key][part] != other[key].get(part)} if isinstance(one[key], dict) else (one[key], other[key])
+            yield f"{name}: {key} differ: {str(first)[:700]}"
+
+
+def same(alone, served, folder):
+    """The same acts over both engines."""
+    broken = damaged(folder)
+    for clip in (EXAMPLE, CLIPS / "hidden-altref.ivf", broken):
+        mine, other = looks(alone, clip), looks(served, clip)
+        yield from compare(clip.name, mine, other)
+        if mine["frames after"] != samples_of(clip, mine["script"]["edits"]):
+            yield f"{clip.name}: frames after edits are not vp8serve's"
+    for clip in (EXAMPLE, CLIPS / "scene-cuts.ivf"):
+        mine, other = files(alone, clip, folder), files(served, clip, folder)
+        lines = mine[0]
+        if mine != other:
+            yield f"{clip.name}: files of both engines differ: {mine[0]} {other[0]}"
+        if mine[1] != written(clip, lines, folder, "--save", "--pad", "--restamp") or mine[2] != written(clip, lines, folder, "--export", "--pad"):
+            yield f"{clip.name}: the files are not vp8serve's with {lines}"
+    yield from compare("repairs", repaired(alone, broken), repaired(served, broken))
+    yield from compare("two streams", *(others(one, EXAMPLE, CLIPS / "scene-cuts.ivf") for one in (alone, served)))
+
+
+def kept(alone, clip):
+    """Edits are there again when the file is opened again, with their titles; a list that is not this stream's is not made."""
+    with alone.opened(clip) as page:
+        page.select(3, 6)
+        page.press("delete")
+        page.press("undo")
+        page.press("redo")
+        page.js("addEventListener('beforeunload', (event) => event.stopImmediatePropagation(), { capture: true })")
+        before = page.session()["edits"]
+    page.browser.open(alone.address)
+    page.wait("document.getElementById('welcome') && !document.getElementById('welcome').hidden")
+    page.drop(clip)
+    page.ready()
+    if page.session()["edits"] != before:
+        yield f"{page.browser.name}: edits are not kept: {page.session()['edits']}, not {before}"
+
+
+def tabs(alone, clip):
+    """A second tab with the same stream only looks."""
+    page = alone.page
+    browser = page.browser.browser
+    with alone.opened(clip):
+        page.select(3, 6)
+        page.press("delete")
+        first = browser.send("GET", "/window")
+        browser.use_tab(browser.new_tab())
+        page.browser.open(alone.address)
+        page.wait("document.getElementById('welcome') && !document.getElementById('welcome').hidden")
+        page.drop(clip)
+        page.ready()
+        said = page.wait("document.querySelector('#notices [data-id=only] span')?.textContent")
+        edits = page.session()["edits"]
+        page.js("document.querySelectorAll('#notices .notice').forEach((one) => one.remove()); wokureti.model.select(8, 9); document.getElementById('delete').click()")
+        again = page.wait("document.querySelector('#notices span')?.textContent")
+        if "another tab" not in said or said != again or page.session()["edits"] != edits or len(edits) != 3:
+            yield f"two tabs: {said!r}, {again!r}, {edits}, {page.session()['edits']}"
+        browser.send("DELETE", "/window")
+        browser.use_tab(first)
+        page.press("undo")
+
+
+def in_browser(browser, folder, address):
+    """What one browser shows."""
+    alone = Alone(browser, address)
+    with alone.opened(EXAMPLE) as page:
+        if page.frames() != samples_of(EXAMPLE):
+            yield f"{browser.name}: frames are not vp8serve's"
+        name, data = page.offered("png")
+        size = struct.unpack(">II", data[16:24])
+        if name != "frame-0.png" or data[:4] != b"\x89PNG" or size != ivf.read_packets(EXAMPLE)[0][:2]:
+            yield f"{browser.name}: {name} is no picture: {data[:24]!r}"
+    if played(alone, EXAMPLE):
+        yield f"{browser.name}: playback does not stop"
+    yield from kept(alone, EXAMPLE)
+    packets = [packet for _, packet in ivf.read_packets(EXAMPLE)[1]]
+    path = folder / "clip.webm"
+    path.write_bytes(webm(packets, [40 * at for at in range(len(packets))]))
+    with alone.opened(path) as page:
+        if page.frames() != samples_of(EXAMPLE) or page.session()["rate"] != [25, 1]:
+            yield f"{browser.name}: a WebM file: {page.session()['rate']}"
+    yield from refused(alone, folder)
+    errors = [line for line in browser.errors() if "beforeunload" not in line]
+    if errors:
+        yield f"{browser.name}: {errors[:3]}"
+
+
+def refused(alone, folder):
+    """Files that are none of a stream are refused by name, and the page goes on."""
+    page = alone.page
+    for name, data, word in (("empty.ivf", b"", "Header"), ("<b>text.ivf", b"no stream " * 9, "Magic")):
+        path = folder / name
+        path.write_bytes(data)
+        page.browser.open("about:blank")
+        page.browser.open(alone.address)
+        page.wait("document.getElementById('welcome') && !document.getElementById('welcome').hidden")
+        page.drop(path)
+        said = page.wait("document.querySelector('#notices span')?.textContent || (document.getElementById('status').textContent !== 'ready' && document.getElementById('status').textContent)")
+        if word not in said or page.js("return document.querySelector('#notices b, #status b') !== null"):
+            yield f"{page.browser.name}: {name}: {said!r}"
+    page.drop(EXAMPLE)
+    page.ready()
+
+
+@contextlib.contextmanager
+def static(folder):
+    """A server of files, as any."""
+    handler = lambda *given: http.server.SimpleHTTPRequestHandler(*given, directory=str(folder))  # noqa: E731
+    http.server.SimpleHTTPRequestHandler.log_message = lambda *given: None
+    with http.server.ThreadingHTTPServer(("127.0.0.1", 0), handler) as server:
+        threading.Thread(target=server.serve_forever, daemon=True).start()
+        yield f"http://127.0.0.1:{server.server_address[1]}/{PAGE.name}"
+        server.shutdown()
+
+
+def browsers():
+    """The browsers that are here, each with what begins it."""
+    found = {}
+    if shutil.which("chromium") and shutil.which("chromedriver"):
+        found["chromium"] = pages.Chromium
+    else:
+        print("skipped: chromium and chromium-driver are not there")
+    if pages.firefox.find():
+        found["firefox"] = pages.Firefox
+    else:
+        print("skipped: firefox-esr is not there")
+    return found
+
+
+def shots(folder, alone):
+    """What the page looks like."""
+    browser = alone.page.browser.browser
+    for width, height in SIZES:
+        browser.set_size(width, height)
+        alone.page.browser.open(alone.address)
+        alone.page.wait("document.getElementById('welcome')")
+        (folder / f"{width}x{height}-welcome.png").write_bytes(browser.screenshot())
+        with alone.opened(EXAMPLE) as page:
+            page.select(10, 20)
+            page.press("cut-out")
+            page.wait("wokureti.findings.check?.over")
+            page.js("await new Promise((done) => setTimeout(done, 1500))")
+            (folder / f"{width}x{height}-edited.png").write_bytes(browser.screenshot())
+
+
+def run(folder):
+    """All acts, in the folder that has nothing but the page."""
+    own = folder / "page"
+    own.mkdir()
+    shutil.copyfile(PAGE, own / PAGE.name)
+    address = (own / PAGE.name).as_uri()
+    for name, begin in browsers().items():
+        browser = begin()
+        try:
+            yield from in_browser(browser, folder, address)
+            with static(own) as other, Alone(browser, other).opened(EXAMPLE) as page:
+                if page.frames() != samples_of(EXAMPLE):
+                    yield f"{name}: from a server of files, frames are not vp8serve's"
+            if name == "chromium":
+                yield from tabs(Alone(browser, address), EXAMPLE)
+                yield from same(Alone(browser, address), Served(browser), folder)
+                if "--shots" in sys.argv:
+                    shots(pathlib.Path(sys.argv[-1]), Alone(browser, address))
+        finally:
+            browser.end()
+
+
+def without_network():
+    """Starts this test again where there is no network but that of the machine with itself. Returns only if that cannot be."""
+    if os.environ.get("WOKURETI_ALONE") or shutil.which("unshare") is None or shutil.which("ip") is None:
+        return
+    if subprocess.run(["unshare", "-n", "ip", "link", "set", "lo", "up"], capture_output=True, check=False).returncode:
+        print("skipped: without a network: unshare -n is refused here")
+        return
+    os.execve(shutil.which("unshare"), ["unshare", "-n", "sh", "-c", 'ip link set lo up && exec "$0" "$@"', sys.executable, *sys.argv], {**os.environ, "WOKURETI_ALONE": "1"})
+
+
+def main():
+    if not PAGE.is_file():
+        print("skipped: the page in one file is not built: ./build.py --web makes it")
+        return 0
+    without_network()
+    with tempfile.TemporaryDirectory() as name:
+        wrong = list(run(pathlib.Path(name)))
+    print("".join(line + "\n" for line in wrong), end="")
+    return 1 if wrong else 0
+
+
+if __name__ == "__main__":
+    sys.exit(main())
