@@ -69,10 +69,12 @@ fn write_gaps<W: Write>(
     ensures few { IfOk result (λ tally. tally.damage + tally.notes ≤ 16777217) }
 {
     let mut tally = Tally::none();
-    for gap in gaps {
-        let trouble = Trouble::InWebm(gap_trouble(size, is_cut, *gap));
-        let more = write_found(w, form, found(Some(trouble)))?;
+    let mut rest = gaps;
+    while let Some((gap, following)) = rest.split_first() {
+        let trouble = gap_trouble(size, is_cut, *gap);
+        let more = write_found(w, form, found(Some(Trouble::InWebm(trouble))))?;
         tally = tally.plus(more);
+        rest = following;
     }
     Ok(tally)
 }
@@ -91,10 +93,11 @@ fn write_blocks<W: Write>(
     ensures few { IfOk result (λ tally. tally.damage + tally.notes ≤ 16777216) }
 {
     let mut tally = Tally::none();
-    for block in blocks {
-        let trouble = block_trouble(video, numbers, block);
-        let more = write_found(w, form, found(trouble))?;
+    let mut rest = blocks;
+    while let Some((block, following)) = rest.split_first() {
+        let more = write_found(w, form, found(block_trouble(video, numbers, block)))?;
         tally = tally.plus(more);
+        rest = following;
     }
     Ok(tally)
 }
