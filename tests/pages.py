@@ -127,9 +127,9 @@ class Page:
         )
         return [text if text.startswith("refused") else base64.b64decode(text) for text in found]
 
-    def offered(self, name, act="click"):
-        """The name and the bytes of the file that a button offers."""
-        self.js("window.offered = null; document.getElementById(args[0])[args[1]]()", name, act)
+    def offered(self, name):
+        """The name and the bytes of the file that a button or a link offers."""
+        self.js("window.offered = null; document.getElementById(args[0]).dispatchEvent(new MouseEvent('click', { bubbles: true, cancelable: true }))", name)
         given, text = self.wait("window.offered")
         return given, base64.b64decode(text)
 

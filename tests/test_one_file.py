@@ -356,9 +356,9 @@ def run(folder):
             with static(own) as other, Alone(browser, other).opened(EXAMPLE) as page:
                 if page.frames() != samples_of(EXAMPLE):
                     yield f"{name}: from a server of files, frames are not vp8serve's"
+            yield from (f"{name}: {line}" for line in same(Alone(browser, address), Served(browser), folder))
             if name == "chromium":
                 yield from tabs(Alone(browser, address), EXAMPLE)
-                yield from same(Alone(browser, address), Served(browser), folder)
                 if "--shots" in sys.argv:
                     shots(pathlib.Path(sys.argv[-1]), Alone(browser, address))
         finally:

@@ -255,6 +255,21 @@ def wide(folder):
         yield f"numbers of 128 bits: status {status} {built.stderr.decode()[-300:]}"
 
 
+def planted(node):
+    """A fault of the module, and a memory that is full: a sentence each, and no edit is lost."""
+    asks = [["ask", [["delete 3"], {}]], ["fault", []], ["frames", [[2]]], ["state", []], ["frames", [[2]]], ["full", [1]], ["ask", [["delete 5"], {}]], ["state", []], ["ask", [["delete 5"], {}]], ["full", [2]], ["save", [0]], ["frames", [[2]]]]
+    (result,) = node.tasks([{"files": [EXAMPLE], "asks": asks, "saves": []}])
+    if result.get("error"):
+        yield f"planted faults: {result['error']}"
+        return
+    _, _, first, _, fault, after, frame, _, full, state, again, _, save, last = result["results"]
+    wanted = served(EXAMPLE)[2]
+    if "started again" not in fault["refused"]["error"] or after["restarts"] != 1 or after["edits"] != ["delete 3"] or frame != [wanted]:
+        yield f"a fault of the module: {fault}, {after['edits']}, {after['restarts']}"
+    if "memory" not in full["refused"]["error"] or state["edits"] != ["delete 3"] or again["reply"] != "ok 46" or "memory" not in save["refused"]["error"] or last != [wanted]:
+        yield f"a memory that is full: {full}, {state['edits']}, {again['reply']}, {save}"
+
+
 def joined_wrongly(folder):
     """Modules that cannot be joined, and what a page must have."""
     for name, text in {"an import that is not known": 'import x from "./b.js";\n', "one at a time": 'const y = import("./b.js");\n', "an export that is not known": "export default 3;\n", "a circle": 'import "./a.js";\n'}.items():
@@ -303,7 +318,7 @@ def main():
         else:
             wrong += stale()
             node = Node()
-            wrong += [*frames(node), *lists(node, chance, folder), *questions(node, folder), *bounded(node, folder), *saved(node, chance, folder), *refused(node, folder), *previews(node)]
+            wrong += [*frames(node), *lists(node, chance, folder), *questions(node, folder), *bounded(node, folder), *saved(node, chance, folder), *refused(node, folder), *previews(node), *planted(node)]
     print("".join(line + "\n" for line in wrong), end="")
     return 1 if wrong else 0
 

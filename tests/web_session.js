@@ -5,8 +5,8 @@
  * { file, states, lines, out, save }   answers request lines as vp8serve does: replies, and the bytes of the module's memory; the samples of the frames go to `out`, the
  *                                      packets to `save`. Without `states` the limit is that of the page
  * { file, out }                        the page's frames in order and backwards: the MD5 of each, or the refusal
- * { files, asks, saves }               calls of the worker, pairs of a name and what is given: the result of each, or its refusal; files that calls make go to `saves`, in order
- * { cases }                            the repairs of findings: what is told of packets, and the findings */
+ * { files, asks, saves }               calls of the worker, pairs of a name and what is given: the result of each, or its refusal; files that calls make go to `saves`, in order.
+ *                                      `fault` and `full` are planted */
 const crypto = require("node:crypto");
 const fs = require("node:fs");
 const path = require("node:path");
@@ -29,7 +29,7 @@ function worker(compiled) {
     return self.said.result;
   };
   call("start", compiled);
-  return { call, parts: vm.runInContext("({ Calls: $engines_calls.Calls, Session: $engines_session.Session, Refused: $engines_calls.Refused, Repairs: $engines_repairs.Repairs })", context) };
+  return { call, parts: vm.runInContext("({ Calls: $engines_calls.Calls, Session: $engines_session.Session, full: $engines_calls.full })", context) };
 }
 
 function source(file) {
@@ -72,12 +72,35 @@ function frames(compiled, { file }) {
 }
 
 function asks(compiled, { files, asks, saves = [] }) {
-  const { call } = worker(compiled);
+  const { call, parts } = worker(compiled);
   const left = [...saves];
+  // The next frame is a fault of the module; so many requests for memory are refused.
+  const plants = {
+    fault() {
+      const { frame } = parts.Calls.prototype;
+      parts.Calls.prototype.frame = function () {
+        parts.Calls.prototype.frame = frame;
+        throw new WebAssembly.RuntimeError("unreachable");
+      };
+    },
+    full(count) {
+      const { room } = parts.Calls.prototype;
+      let turns = 0;
+      parts.Calls.prototype.room = function (size) {
+        if (turns++ < count) throw parts.full();
+        parts.Calls.prototype.room = room;
+        return room.call(this, size);
+      };
+    },
+  };
   const sources = files.map(source);
   const results = [];
   for (const [name, list] of [["open", [sources, 0]], ["beside", [sources]], ...asks]) {
     try {
+      if (plants[name]) {
+        results.push(plants[name](...list) ?? null);
+        continue;
+      }
       const result = call(name, ...list.map((one) => (one?.file ? source(one.file) : one)));
       const pieces = result?.pieces ?? (name === "beside.export" ? result : null);
       if (pieces) fs.writeFileSync(left.shift(), Buffer.concat(pieces));

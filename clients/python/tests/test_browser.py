@@ -1,5 +1,6 @@
 """The page of wokureti open in chromium: what a person does there, and what is shown then."""
 
+import json
 import shutil
 import subprocess
 import sys
@@ -11,7 +12,7 @@ from unittest import mock
 from support import CLIP, SLOW, SMALL, TOP, packets_of, start, write_packets
 from test_page import SCENES, PageCase
 from test_serve import TOKEN
-from wokureti.tools import exports
+from wokureti.tools import exports, ivf, programs
 
 sys.path.append(str(TOP / "compare"))
 BROWSER = None
@@ -113,6 +114,21 @@ class Repairs(BrowserCase):
 class Lists(BrowserCase):
     """Files that the page offers and takes."""
 
+    def test_reports(self):
+        path = self.folder() / "<b>&.ivf"
+        packets = packets_of(SCENES)
+        packets[5] = packets[5][:2]
+        self.open(write_packets(path, packets))
+        self.wait("wokureti.findings.check && wokureti.findings.check.over")
+        name, text = self.offered(lambda: BROWSER.click("#report-json"))
+        done = subprocess.run([programs.find("vp8list"), path, "--check", "--json"], capture_output=True, text=True, check=False, timeout=60)
+        findings = list(map(json.loads, done.stdout.splitlines()))
+        damage = sum(one["severity"] == "damage" for one in findings)
+        found = json.loads(text)
+        self.assertEqual((name, found["findings"], found["damage"], found["notes"]), ("<b>&-findings.json", findings, damage, len(findings) - damage))
+        name, text = self.offered(lambda: BROWSER.click("#report"))
+        self.assertEqual((text.count("<tr>"), "<b>" in text, "&lt;b&gt;&amp;.ivf" in text, "refused ShortPacket" in text), (len(findings), False, True, True))
+
     def offered(self, act):
         """The name and the text of the file that an act offers."""
         self.js("""window.offered = null; const real = URL.createObjectURL;
@@ -160,6 +176,29 @@ class Differences(BrowserCase):
         BROWSER.click("#next-difference")
         self.wait("document.getElementById('status').textContent.includes('differs from')")
         self.assertRegex(self.text("#status"), "frame 1[67] differs from source 1")
+
+
+    def next_from(self, frame, key="n"):
+        """The frame that the search goes to, or None."""
+        self.js("await wokureti.model.go(args[0]); document.getElementById('status').textContent = ''", frame)
+        self.js("document.getElementById('timeline').focus()")
+        BROWSER.key(*key)
+        said = self.wait("/differs? from/.test(document.getElementById('status').textContent) && document.getElementById('status').textContent")
+        return None if said.startswith("no frame") else self.js("return wokureti.model.frame")
+
+    def test_from_before_the_edits_in_both_directions(self):
+        self.open(SCENES)
+        self.assertIsNone(self.next_from(0))
+        packets = packets_of(SCENES)
+        keys = [place for place, data in enumerate(packets) if ivf.is_key(data)]
+        self.step(f"hold {keys[1] + 1}", f"delete {keys[1]}")
+        self.wait("wokureti.model.revision === 2")
+        self.assertEqual([self.next_from(0), self.next_from(keys[1]), self.next_from(keys[2] - 1)], [keys[1], keys[1] + 1, None])
+        self.assertEqual(self.next_from(len(packets) - 1, ("Shift", "n")), keys[2] - 1)
+        # A frame that is refused, and was not.
+        self.step("replace 20 1000")
+        self.wait("wokureti.model.revision === 3")
+        self.assertEqual(self.next_from(keys[2]), 20)
 
 
 class Marks(BrowserCase):

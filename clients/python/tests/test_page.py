@@ -299,39 +299,6 @@ class Views(PageCase):
         self.assertEqual(self.ask("/before/frames/0.png")[0], 404)
         self.assertEqual(self.ask("/before/frames/0.y4m?source=1")[0], 404)
 
-    def test_the_next_frame_that_differs(self):
-        self.serve(SCENES)
-        self.assertEqual(self.next_other(0), None)
-        packets = packets_of(SCENES)
-        keys = [place for place, data in enumerate(packets) if ivf.is_key(data)]
-        self.assertGreater(len(keys), 1)
-        self.step(f"hold {keys[1] + 1}", f"delete {keys[1]}")
-        self.assertEqual(self.next_other(0), keys[1])
-        self.assertEqual(self.next_other(keys[1]), keys[1])
-        end = keys[2] if len(keys) > 2 else len(packets)
-        self.assertEqual(self.next_other(end), None)
-        self.assertEqual(self.next_other(len(packets) - 1, -1), end - 1)
-
-    def test_the_next_frame_that_differs_from_a_source(self):
-        packets = packets_of(SCENES)
-        other = write_packets(self.folder() / "other.ivf", [*packets[:16], *packets[20:]])
-        self.serve(SCENES, sources=[str(other)])
-        self.assertEqual(self.next_other(0), None)
-        mine, theirs = (frames_of(path, range(36)) for path in (SCENES, other))
-        wanted = [frame for frame in range(36) if mine[frame] != theirs[frame]]
-        self.assertEqual(self.next_other(0, more="&against=1"), wanted[0])
-        self.assertEqual(self.next_other(wanted[0] + 1, more="&against=1"), wanted[1])
-        self.assertEqual(self.next_other(wanted[0] - 1, -1, "&against=1"), None)
-        self.assertEqual(self.next_other(0, more="&against=0"), None)
-        self.assertEqual(self.ask("/differs?from=0&against=2")[0], 404)
-
-    def next_other(self, frame, step=1, more=""):
-        while True:
-            found = self.members(f"/differs?from={frame}&step={step}{more}")
-            if found["next"] is None:
-                return found["frame"]
-            frame = found["next"]
-
     def test_the_edited_stream(self):
         room = self.folder()
         self.serve(SCENES, save=room / "out.ivf")
@@ -458,22 +425,6 @@ class Going(PageCase):
         count = self.members("/session")["frames"]
         for path, status in (("3-5", 409), ("0-4", 200), (f"{count - 1}-{count}", 404), ("5-3", 400), ("0-8", 400), ("0-x", 404), ("-1-2", 404)):
             self.assertEqual(self.ask(f"/frames/{path}.y4m")[0], status, path)
-
-    def test_reports(self):
-        path = self.broken()
-        self.serve(path)
-        status, headers, body = self.ask("/report.json")
-        found = json.loads(body)
-        lines = subprocess.run([programs.find("vp8list"), path, "--check"], capture_output=True, text=True, check=False).stdout.splitlines()
-        self.assertEqual((status, found["findings"], found["summary"]), (200, lines[:-1], lines[-1]))
-        self.assertIn("broken-findings.json", headers["Content-Disposition"])
-        self.live.files = None
-        self.server.routes.titles = ["<b>&.ivf"]
-        status, headers, body = self.ask("/report.html")
-        text = body.decode()
-        self.assertEqual((status, headers["Content-Type"], "<b>" in text, "&lt;b&gt;&amp;.ivf" in text), (200, "text/html; charset=utf-8", False, True))
-        for line in lines[:-1]:
-            self.assertIn("<tr><td>{}</td><td>{}</td></tr>".format(*line.split(": ", 1)), text)
 
     def test_findings_have_the_key_packet_before_them(self):
         self.serve(self.broken(18))
@@ -870,7 +821,6 @@ class Checks(PageCase):
         self.step("blank 0 16 16", "hold 1")
         self.assertEqual(self.members("/timeline")["kinds"], "ff")
         self.assertEqual(self.members("/origins")["before"], [None, None])
-        self.assertEqual(self.members("/differs")["frame"], 0)
 
     def test_a_check_that_is_stopped_by_edits(self):
         self.serve(SCENES)

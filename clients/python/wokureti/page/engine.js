@@ -14,7 +14,7 @@
 // file(kind, { name, signal, got })        a file that the page offers: `export` the frames that are shown, `cuts` the parts that are shown
 // link(kind, number)                       the address of a file, or null if `offer` makes it
 // offer(kind, number)                      offers a file of a kind without an address
-// task(kind, query, { signal })            a piece of long work: `differs`, the next frame that differs; `check`, the findings after edits that are not made
+// task(kind, query, { signal })            long work: `check`, the findings of a group of pictures after edits that are not made
 // progress(name)                           how far an edit, the opening of a stream, and the export of this name are
 // sound(session)                           the address of the sound of the frames that are shown, or null
 // add(file), page(file)                    opens a stream as the last source, or on a page of its own; `take(files)` those that were dropped, true if that is all

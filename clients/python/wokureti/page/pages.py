@@ -1,8 +1,6 @@
 """The routes that `wokureti open` has more than `wokureti serve`: the files of its page, and what the page asks for."""
 
-import html
 import itertools
-import json
 import os
 import pathlib
 import re
@@ -44,8 +42,8 @@ QUESTIONS = ("list", "header", "macroblocks", "packet")
 STEPS = frozenset(("double", "sort", "hold"))
 # The edits of one request, at most. A body of 8 MiB has some 400,000.
 MOST_LINES = 1 << 20
-# Frames whose origins are told at a time, at most; seconds that one search for a frame that differs takes.
-MOST_ORIGINS, SEARCH_TIME = 4096, 0.25
+# Frames whose origins are told at a time, at most.
+MOST_ORIGINS = 4096
 # Frames that are served together, at most; tiles of the timeline in an answer to a change.
 MOST_TOGETHER, MOST_TILES = 8, 8
 # The columns of these tiles.
@@ -92,11 +90,8 @@ class PageRoutes(Routes):
                 ("range",): self.range,
                 ("cut",): self.cut,
                 ("cuts.csv",): self.cuts,
-                ("report.json",): self.report,
-                ("report.html",): self.report,
                 ("repairs",): self.repairs,
                 ("repair_all",): self.repair_all,
-                ("differs",): self.differs,
                 ("answer",): self.answered,
                 ("stream.ivf",): self.stream,
                 ("download",): self.download,
@@ -362,19 +357,6 @@ class PageRoutes(Routes):
             raise Refuse(409, str(error)) from None
         return as_json({"revision": view.revision, "script": script})
 
-    def report(self, request):
-        """The findings of the current packets as a file: as objects, or as a page of their own."""
-        self.only(request)
-        revision, lines = self.live.findings()
-        name = self.safe_name()
-        if request.parts[-1] == "report.json":
-            text = json.dumps({"stream": self.titles[0], "revision": revision, "findings": lines[:-1], "summary": lines[-1] if lines else ""}, indent=1).encode() + b"\n"
-            return Response(200, "application/json", text, headers=[("Content-Disposition", f'attachment; filename="{name}-findings.json"')])
-        rows = "".join("<tr><td>{}</td><td>{}</td></tr>\n".format(*map(html.escape, line.partition(": ")[::2])) for line in lines[:-1])
-        title = html.escape(f"Findings of {self.titles[0]}")
-        text = f'<!doctype html>\n<meta charset="utf-8">\n<title>{title}</title>\n<h1>{title}</h1>\n<p>{html.escape(lines[-1] if lines else "")}</p>\n<table>\n{rows}</table>\n'
-        return Response(200, "text/html; charset=utf-8", text.encode(), headers=[("Content-Disposition", f'attachment; filename="{name}-findings.html"')])
-
     def safe_name(self):
         """The name of the stream in the name of a file."""
         name = os.path.splitext(os.path.basename(self.titles[0]))[0]
@@ -497,41 +479,6 @@ class PageRoutes(Routes):
         view = self.live.current_view()
         source = self.source_of(request, view)
         return self.y4m(self.live.original(source).picture(self.y4m_number(name)))
-
-    def differs(self, request):
-        """The next frame that is another one than that of the opened file, or with `against` than the same frame of a source as it was opened, as far as a
-        quarter of a second goes. `next` is where to go on."""
-        self.only(request, "from", "step", "against")
-        view = self.live.current_view()
-        against = self.number(request, "against", None)
-        if against is not None and against >= len(view.streams):
-            raise Refuse(404, "there is no such source")
-        step = -1 if request.query.get("step") == "-1" else 1
-        frame, limit, found = self.number(request, "from", 0), time.monotonic() + SEARCH_TIME, None
-        frames = view.frames
-        while 0 <= frame < frames and found is None and time.monotonic() < limit:
-            if self.live.revision != view.revision:
-                raise Refuse(412, "the stream was changed", revision=self.live.revision)
-            if self.is_other(view, frame, against):
-                found = frame
-            frame += step
-        is_over = found is not None or not 0 <= frame < frames
-        return as_json({"revision": view.revision, "frame": found, "next": None if is_over else frame, "frames": frames})
-
-    def is_other(self, view, frame, against=None):
-        """Whether a frame differs from the one of the opened file, or from the frame of this number of a source as it was opened."""
-        if against is None:
-            source, packet = view.origin(frame)
-            other = self.original_frame(view, source, packet)
-        else:
-            source, other = against, frame
-        pictures = []
-        for one, number in ((self.live, frame), (self.live.original(source), other)):
-            try:
-                pictures.append(None if number is None else one.picture(number))
-            except Refused as refused:
-                pictures.append(refused.word)
-        return pictures[0] != pictures[1]
 
     def preview(self, request):
         """A frame, or the findings of a group of pictures, after edits that are not made."""

@@ -6,6 +6,8 @@ import { Loupe } from "./loupe.js";
 import { Picture } from "./picture.js";
 
 const find = (id) => document.getElementById(id);
+// Frames after which a search says how far it is.
+const SHOWN_EVERY = 16;
 
 function capital(text) {
   return text[0].toUpperCase() + text.slice(1);
@@ -257,6 +259,21 @@ export class Viewer {
     return this.show();
   }
 
+  /** Whether a frame differs from the one before the edits, or from that of the source that is compared. */
+  async isOther(frame, signal) {
+    const picture = async (list, of) => {
+      try {
+        return (await engine.frames(list, { of, low: true, signal }))[0];
+      } catch (error) {
+        if (!(error instanceof Refusal) || error.status >= 500) throw error;
+        return error.reply || error.message;
+      }
+    };
+    const origin = this.against === "before" ? await this.model.origin(frame) : { source: Number(this.against), before: frame };
+    const then = origin.before === null ? null : picture([origin.before], { before: origin.source });
+    return differ(...(await Promise.all([picture([frame]), then])));
+  }
+
   /** Goes to the next frame that is another one than before the edits. */
   async nextDifference(step) {
     if (this.search) {
@@ -266,21 +283,18 @@ export class Viewer {
     this.search = new AbortController();
     const button = find("next-difference");
     button.textContent = "Stop the search";
-    const start = this.model.frame;
+    const { frame: start, frames, revision } = this.model;
     const { other } = this;
-    const against = this.against === "before" ? {} : { against: this.against };
     try {
-      let from = start + step;
-      while (from >= 0 && from < this.model.frames) {
-        const found = await engine.task("differs", { from, step, ...against }, { signal: this.search.signal });
-        if (found.frame !== null) {
-          await this.model.go(found.frame);
-          this.status.say(`frame ${found.frame} differs from ${other}`);
+      for (let frame = start + step; frame >= 0 && frame < frames; frame += step) {
+        if (await this.isOther(frame, this.search.signal)) {
+          await this.model.go(frame);
+          this.status.say(`frame ${frame} differs from ${other}`);
           return;
         }
-        if (found.next === null) break;
-        from = found.next;
-        this.status.progress(`compared up to frame ${from}`, Math.abs(from - start), step > 0 ? found.frames - start : start);
+        if (this.search.signal.aborted) throw new DOMException("it was stopped", "AbortError");
+        if (this.model.revision !== revision) throw new Error("the stream was changed, so the search ended");
+        if (frame % SHOWN_EVERY === 0) this.status.progress(`compared up to frame ${frame}`, Math.abs(frame - start), step > 0 ? frames - start : start);
       }
       this.status.say(`no frame ${step > 0 ? "after" : "before"} frame ${start} differs from ${other}`);
     } catch (error) {
@@ -290,6 +304,12 @@ export class Viewer {
       button.textContent = "Next difference";
     }
   }
+}
+
+/** Whether two pictures, or the refusals in their place, are others. */
+function differ(one, other) {
+  if (!one?.samples || !other?.samples) return one !== other;
+  return one.width !== other.width || one.height !== other.height || one.samples.some((value, place) => value !== other.samples[place]);
 }
 
 function refusalOf(error) {

@@ -10,8 +10,6 @@ const MOST_STATES = 1 << 26;
 // Packets that are listed at a time, and those of a group that is checked, at most.
 const PAGE = 256;
 const MOST_GROUP = 1000;
-// Milliseconds of one search for a frame that differs.
-const SEARCH = 250;
 
 export class Beside {
   constructor(module, sources) {
@@ -74,30 +72,7 @@ export class Beside {
     return answer(ask, first, Math.min(end, first + MOST_GROUP) - first).findings;
   }
 
-  /** The first of these frames that differs from its other one, a source and a frame of it as it was opened, or null; and how many were compared. */
-  differs(lines, pairs) {
-    const session = this.after(lines);
-    const picture = (one, number) => {
-      try {
-        return number === null ? null : one.frame(number);
-      } catch (error) {
-        return error.members?.reply ?? error.message;
-      }
-    };
-    const limit = performance.now() + SEARCH;
-    for (const [place, { frame, source, other }] of pairs.entries()) {
-      if (place && performance.now() > limit) return { frame: null, compared: place };
-      if (!same(picture(session, frame), picture(this.original(source), other))) return { frame, compared: place + 1 };
-    }
-    return { frame: null, compared: pairs.length };
-  }
-
   export(lines) {
     return this.after(lines).calls.export();
   }
-}
-
-function same(one, other) {
-  if (!one?.samples || !other?.samples) return one === other;
-  return one.width === other.width && one.height === other.height && one.samples.every((value, place) => value === other.samples[place]);
 }

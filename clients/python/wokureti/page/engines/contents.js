@@ -8,6 +8,7 @@ import { KEY, EMPTY, SHOWN, tagOf } from "./tags.js";
 
 // Packets that are asked for at a time.
 const PAGE = 2048;
+const { imul } = Math;
 
 /** The packets of a file, and its header. */
 export class Index {
@@ -50,10 +51,11 @@ export class Index {
 
 /** A number that packets with other bytes do not have, but by chance: FNV-1a twice, of which 53 bits are used. */
 function hashOf(data) {
-  let [one, other] = [0x811c9dc5, 0xcbf29ce4];
+  let one = 0x811c9dc5 | 0;
+  let other = 0xcbf29ce4 | 0;
   for (let at = 0; at < data.length; at++) {
-    one = Math.imul(one ^ data[at], 0x01000193);
-    other = Math.imul(other ^ (data[at] + at), 0x01000193);
+    one = imul(one ^ data[at], 0x01000193);
+    other = imul(other ^ (data[at] + at), 0x01000193);
   }
   return (one >>> 0) * 2 ** 21 + ((other >>> 0) & 0x1fffff);
 }

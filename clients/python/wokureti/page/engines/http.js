@@ -105,10 +105,9 @@ async function file(kind, given = {}) {
   return { file: await answer.blob(), name: nameIn(answer.headers.get("Content-Disposition")) };
 }
 
-const LINKS = { png: (frame) => `../frames/${frame}.png`, packets: () => "../download", report: () => "../report.html", "report.json": () => "../report.json" };
+const LINKS = { png: (frame) => `../frames/${frame}.png`, packets: () => "../download" };
 
 async function task(kind, query, { signal } = {}) {
-  if (kind === "differs") return look("differs", query, { signal });
   const { lines, packet, revision } = query;
   return (await post("preview", { lines, findings: packet, revision }, "", signal)).json();
 }

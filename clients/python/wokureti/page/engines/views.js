@@ -66,8 +66,8 @@ export class Timeline {
     for (let start = first; start < end; start += per) {
       let [kind, size, isEdited] = [0, 0, 0];
       for (let place = start; place < Math.min(end, start + per); place++) {
-        kind = Math.max(kind, this.kinds[place]);
-        size = Math.max(size, this.sizes[place]);
+        if (this.kinds[place] > kind) kind = this.kinds[place];
+        if (this.sizes[place] > size) size = this.sizes[place];
         isEdited |= this.edited[place];
       }
       if (isEdited) found.edits.push(found.bytes.length);

@@ -3,14 +3,12 @@
 
 import { toColour } from "../colours.js";
 import { OPENING, Refusal, offer, use, waited } from "../engine.js";
-import { placeOf, sentence } from "../findings.js";
 import { notice } from "../status.js";
 import { Channel } from "./channel.js";
 import * as kept from "./kept.js";
 
-// Milliseconds after which the second worker ends if it is not asked, and frames of one search for a difference.
+// Milliseconds after which the second worker ends if it is not asked.
 const IDLE = 60000;
-const MOST_COMPARED = 64;
 // Bytes of a file above which the page says that it is large: its packets are in the memory, and while it is opened twice.
 const LARGE = 1 << 29;
 
@@ -171,22 +169,7 @@ async function frames(list, given = {}) {
 
 // Long work
 
-async function differs({ from, step, against }, signal) {
-  const { frames: count, revision } = own.session;
-  const list = Array.from({ length: MOST_COMPARED }, (_, turn) => from + turn * step).filter((frame) => frame >= 0 && frame < count);
-  const origins = await own.main.call("look", ["origins", { from: Math.min(...list), count: list.length }]);
-  const pairs = list.map((frame) => {
-    if (against !== undefined) return { frame, source: Number(against), other: frame };
-    const place = frame - origins.from;
-    return { frame, source: origins.sources[place], other: origins.before[place] };
-  });
-  const found = await (await beside()).call("beside.differs", [await linesAfter([]), pairs], { signal });
-  const next = from + found.compared * step;
-  return { revision, frame: found.frame, next: found.frame !== null || next < 0 || next >= count ? null : next, frames: count };
-}
-
 async function task(kind, query, { signal } = {}) {
-  if (kind === "differs") return differs(query, signal);
   const { lines, packet, revision } = query;
   return { revision, findings: await (await beside()).call("beside.findings", [await linesAfter(lines, revision), packet], { signal }) };
 }
@@ -271,28 +254,11 @@ async function pngOf(number) {
   return new Promise((resolve) => canvas.toBlob(resolve, "image/png"));
 }
 
-/** The findings as a page of their own. */
-function reportOf(findings, title) {
-  const page = document.implementation.createHTMLDocument(title);
-  page.body.append(Object.assign(page.createElement("h1"), { textContent: title }));
-  const table = page.createElement("table");
-  for (const finding of findings) {
-    const row = table.insertRow();
-    for (const text of [finding.severity, placeOf(finding), sentence(finding)]) row.insertCell().textContent = text;
-  }
-  page.body.append(table);
-  return `<!doctype html>\n<meta charset="utf-8">\n${page.documentElement.innerHTML}\n`;
-}
-
 async function offered(kind, number) {
   checkOpen();
   const stem = own.about.name.replace(/\.[^.]*$/, "");
   if (kind === "png") return offer(await pngOf(number), `frame-${number}.png`);
-  if (kind === "edits") return offer(new Blob([await own.main.call("text")], { type: "text/plain" }), `${stem}.edits`);
-  const { findings, damage, notes } = await own.main.call("findings");
-  const title = `Findings of ${own.about.name}`;
-  if (kind === "report") return offer(new Blob([reportOf(findings, title)], { type: "text/html" }), `${stem}-findings.html`);
-  return offer(new Blob([JSON.stringify({ stream: own.about.name, findings, damage, notes }, null, 1)], { type: "application/json" }), `${stem}-findings.json`);
+  return offer(new Blob([await own.main.call("text")], { type: "text/plain" }), `${stem}.edits`);
 }
 
 async function answer(line, source, { waits = "", signal } = {}) {

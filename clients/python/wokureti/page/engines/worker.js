@@ -45,12 +45,11 @@ const calls = {
   scriptOfCuts: (text) => stream.scriptOfCuts(text),
   lines: () => stream.session.lines,
   text: () => stream.text(),
-  findings: () => ({ findings: stream.check.findings, damage: stream.check.damage, notes: stream.check.notes }),
   unwritten(count) {
     stream.unwritten = count;
   },
 };
-for (const name of ["before", "frames", "packet", "findings", "differs", "export"]) calls[`beside.${name}`] = (...given) => beside[name](...given);
+for (const name of ["before", "frames", "packet", "findings", "export"]) calls[`beside.${name}`] = (...given) => beside[name](...given);
 
 /** Goes on with what nobody waits for. */
 function goOn() {
