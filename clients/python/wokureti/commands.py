@@ -31,7 +31,7 @@ PACKETS = (".webm", ".mkv", ".ivf", ".mp4", ".m4v", ".mov", ".avi", ".ogv", ".og
 
 
 # What each command reads.
-STREAM = "IVF file, or WebM, MKV, AVI or MP4 if python3-av, ffmpeg or mkvtoolnix is there; `-` is standard input"
+STREAM = "IVF, WebM or Matroska file, or AVI, MP4 or Ogg if python3-av or ffmpeg is there; `-` is standard input"
 
 
 def stop(text):
