@@ -385,6 +385,57 @@ class Reading(Case):
 
 
 @needs_ffmpeg
+@needs_ffmpeg
+class ByTheCore(Case):
+    """vp8serve reads WebM files itself, and an earlier version does not."""
+
+    LIMIT = 60
+
+    def program(self, text):
+        """A script in place of vp8serve, whose fifth argument is where packets are saved to."""
+        path = self.folder() / "vp8serve"
+        path.write_text(f"#!/bin/sh\n{text}\n")
+        path.chmod(0o755)
+        return mock.patch.dict(os.environ, {"VP8SERVE": str(path)})
+
+    def as_ivf(self, path):
+        """The packets, what else is known, and what is said."""
+        with mock.patch("wokureti.tools.convert.say") as say:
+            out = convert.as_ivf(path, str(self.folder()))
+        return pathlib.Path(out).read_bytes(), containers.media_of(out), [call.args[0] for call in say.call_args_list]
+
+    def test_its_packets_are_taken(self):
+        path, room = clip("talk.webm"), self.folder()
+        by_ffmpeg, _ = media(path, room)
+        (room / "mine.ivf").write_bytes(SMALL.read_bytes())
+        with self.program(f'case "$1" in --help) echo "the IVF or WebM file";; *) [ "$#" = 5 ] && [ "$4" = --save ] && cp {room}/mine.ivf "$5";; esac'):
+            data, found, said = self.as_ivf(path)
+        self.assertEqual(data, SMALL.read_bytes())
+        self.assertEqual(said, [f"{path} is a WebM or Matroska file; vp8serve took its packets out without coding them again, and 1 track of sound"])
+        self.assertEqual((found.tags, found.video_tags, found.language), by_ffmpeg[2:5])
+        self.assertEqual([(*track[:7], track.times, track.durations, sound_packets(track)) for track in found.sounds], [(*track[:7], track.times, track.durations, sound_packets(track)) for track in by_ffmpeg.sounds])
+
+    def test_one_that_does_not_read_it(self):
+        """An earlier one, and one that refuses the file: then ffmpeg reads it, or says why it cannot."""
+        path = clip("talk.webm")
+        _, wanted = media(path, self.folder())
+        for text in ('[ "$1" = --help ] && echo "the IVF file"', 'case "$1" in --help) echo "the IVF or WebM file";; *) echo "vp8serve: input NoVideo" >&2; exit 1;; esac'):
+            with self.program(text):
+                data, _, said = self.as_ivf(path)
+            self.assertEqual(data, pathlib.Path(wanted).read_bytes())
+            self.assertIn("; ffmpeg took its packets out", said[0])
+
+    @unittest.skipUnless(programs.says(programs.find("vp8serve"), "WebM"), "this vp8serve reads no WebM files")
+    def test_the_packets_are_those_of_ffmpeg(self):
+        room = self.folder()
+        for name in KINDS:
+            wanted, out = media(clip(name), room)
+            data, found, said = self.as_ivf(clip(name))
+            self.assertEqual(data, pathlib.Path(out).read_bytes(), name)
+            self.assertIn("; vp8serve took its packets out", said[0])
+            self.assertEqual((found.rate, *found[2:5], len(found.sounds)), (wanted.rate, *wanted[2:5], len(wanted.sounds)), name)
+
+
 class HowFar(Case):
     """A line says how much of a container was read."""
 
@@ -408,7 +459,7 @@ class HowFar(Case):
             watch = mock.Mock(**{"stage.side_effect": lambda text: heard.append((text, [])), "part.side_effect": lambda *given: heard[-1][1].append(given)})
             looks = (mock.patch.object(containers, "MANY", 1), mock.patch.object(containers, "PIECE", 100), mock.patch.object(blocks, "MANY", 1))
             with self.subTest(name), mock.patch.dict(os.environ, self.slow("ffmpeg", "mkvextract") if name != "av" else {}), looks[0], looks[1], looks[2]:
-                with mock.patch.object(containers, "has_av", return_value=name == "av"), mock.patch.object(containers, "can_read", return_value=name != "mkvextract"):
+                with mock.patch.object(containers, "read_by_core", return_value=False), mock.patch.object(containers, "has_av", return_value=name == "av"), mock.patch.object(containers, "can_read", return_value=name != "mkvextract"):
                     out = convert.as_ivf(path, str(self.folder()), is_quiet=True, watch=watch)
                 self.assertEqual(len(packets_of(out)), len(packets_of(media(path, self.folder())[1])))
                 stages = ["taking the packets out of", *(["listing the packets of", "copying the packets of"] if name == "ffmpeg" else []), "looking for damage of"]
@@ -424,7 +475,7 @@ class HowFar(Case):
 
     def test_a_terminal_shows_it(self):
         """Of each command: one that has a line of its own, and one that has none."""
-        path, room = clip("silent.webm"), self.folder()
+        path, room = clip("talk.webm"), self.folder()
         for words in (("cut", path, room / "out.ivf", "--from", "f2"), ("cat", path, "/dev/null"), ("repair", path, room / "repaired.ivf")):
             ours, theirs = pty.openpty()
             process = start(*words, stdout=subprocess.DEVNULL, stderr=theirs, env=self.slow("ffmpeg"))
@@ -437,7 +488,7 @@ class HowFar(Case):
                 pass
             os.close(ours)
             process.wait(20 * SLOW)
-            self.assertRegex(said.decode(), r"taking the packets out of .*silent\.webm: \d+ %, \d+ s", words[0])
+            self.assertRegex(said.decode(), r"taking the (packets|sound) out of .*talk\.webm: \d+ %, \d+ s", words[0])
 
     def test_a_terminal_shows_how_far_a_large_file_is_read(self):
         """Each step of it has per cent, once it takes a second."""
@@ -450,7 +501,7 @@ class HowFar(Case):
                 real(done, total)
                 time.sleep(0.03)
 
-            with mock.patch.object(watch, "part", slow), mock.patch.object(containers, "PIECE", 1000), mock.patch.object(containers, "MANY", 20), mock.patch.object(blocks, "MANY", 50):
+            with mock.patch.object(containers, "read_by_core", return_value=False), mock.patch.object(watch, "part", slow), mock.patch.object(containers, "PIECE", 1000), mock.patch.object(containers, "MANY", 20), mock.patch.object(blocks, "MANY", 50):
                 convert.as_ivf(clip("talk.webm"), str(room), is_quiet=True, watch=watch)
             with mock.patch.object(watch, "part", slow), mock.patch.object(blocks, "MANY", 50):
                 watch.stage("searching")

@@ -33,7 +33,7 @@ PACKETS = (".webm", ".mkv", ".ivf", ".mp4", ".m4v", ".mov", ".avi", ".ogv", ".og
 
 
 # What each command reads.
-STREAM = "IVF file, or WebM, MKV, AVI or MP4 if python3-av, ffmpeg or mkvtoolnix is there, or a capture of RTP (pcap, pcapng, rtpdump, Janus's .mjr); `-` is standard input"
+STREAM = "IVF, WebM or Matroska file, or AVI, MP4 or Ogg if python3-av or ffmpeg is there, or a capture of RTP (pcap, pcapng, rtpdump, Janus's .mjr); `-` is standard input"
 
 
 def stop(text):

@@ -353,6 +353,17 @@ def is_abandoned(descriptor):
     return True
 
 
+def read_by_process(pid, path):
+    """How many bytes of a file a process has read, or None where the system does not say so."""
+    real = os.path.realpath(path)
+    with contextlib.suppress(OSError, ValueError):
+        for name in os.listdir(f"/proc/{pid}/fd"):
+            if os.readlink(f"/proc/{pid}/fd/{name}") == real:
+                with open(f"/proc/{pid}/fdinfo/{name}", encoding="ascii") as file:
+                    return int(file.readline().removeprefix("pos:"))
+    return None
+
+
 def paths_of_process(pid):
     """The paths of the files that a process has open, where the system lists them."""
     with contextlib.suppress(OSError):

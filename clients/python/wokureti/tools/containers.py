@@ -13,8 +13,9 @@ import time
 from array import array
 from typing import NamedTuple
 
-from . import ivf, times
+from . import ivf, programs, times
 from .progress import Watch
+from .. import system
 from ..session import checks
 
 MOST_TIME = 3600
@@ -102,8 +103,12 @@ def has_av():
         return False
 
 
+def has_ffmpeg():
+    return bool(shutil.which("ffmpeg") and shutil.which("ffprobe"))
+
+
 def can_read():
-    return has_av() or bool(shutil.which("ffmpeg") and shutil.which("ffprobe"))
+    return has_av() or has_ffmpeg()
 
 
 def read(path, out, watch=NOBODY):
@@ -137,6 +142,28 @@ def rate_of_stamps(head, stamps, tags, named):
     return times.rate_of(stamps, tags, times.base_of(head))
 
 
+# By vp8serve
+
+
+def read_by_core(path, out, watch=NOBODY):
+    """The same of a WebM or Matroska file, whose packets vp8serve reads as they are, and whose sound ffmpeg reads, if it is there. False if vp8serve does not read it:
+    an earlier version reads none."""
+    program = programs.find("vp8serve")
+    if not programs.says(program, "WebM"):
+        return False
+    try:
+        run([program, checks.path(path), "-", "-", "--save", os.fspath(out)])
+    except (Failed, OSError):
+        return False
+    if has_ffmpeg():
+        facts = probe(path)
+        video = next((one for one in facts["streams"] if one.get("codec_name") == "vp8"), {})
+        watch.stage(f"taking the sound out of {os.fsdecode(path)}")
+        sounds, said = copy_tracks(path, facts["streams"], [], out, watch)
+        known[os.fspath(out)] = media_by(path, facts, video, rate_of(out, fraction(video.get("avg_frame_rate", "0/0"))), sounds, said)
+    return True
+
+
 # By ffmpeg
 
 
@@ -148,6 +175,11 @@ def read_by_ffmpeg(path, out, watch=NOBODY):
     [pictures, *sounds], said = copy_tracks(path, facts["streams"], [video["index"]], out, watch)
     watch.stage(f"copying the packets of {os.fsdecode(path)}")
     rate = rate_of_stamps(*write_ivf(out, video, pictures, watch), fraction(video.get("avg_frame_rate", "0/0")))
+    return media_by(path, facts, video, rate, sounds, said)
+
+
+def media_by(path, facts, video, rate, sounds, said):
+    """What ffprobe says of a file and of its video, with the rate and the sound."""
     tags = video.get("tags", {})
     return Media(path, rate, kept_tags(facts.get("format", {}).get("tags", {})), kept_tags(tags), tags.get("language", "und"), sounds, said)
 
@@ -266,18 +298,20 @@ def count_packets(path):
 
 
 def part_of(path, outs, watch):
-    """A function that tells how much of a file is in these files by now."""
+    """A function that tells how much of a file a process has read, or where the system does not say that, how much of it is in these files by now."""
     total = os.path.getsize(path)
 
-    def look():
-        written = sum(os.path.getsize(out) for out in outs if os.path.exists(out))
-        watch.part(min(written, total), total)
+    def look(pid):
+        done = system.read_by_process(pid, path)
+        if done is None:
+            done = sum(os.path.getsize(out) for out in outs if os.path.exists(out))
+        watch.part(min(done, total), total)
 
     return look
 
 
-def run(words, look=lambda: None):
-    """The text that a program writes, and what it complains of. `Failed` if it fails. `look` is called now and then until it ends."""
+def run(words, look=lambda pid: None):
+    """The text that a program writes, and what it complains of. `Failed` if it fails. `look` is called with its process now and then until it ends."""
     limit = time.monotonic() + MOST_TIME
     with subprocess.Popen(words, stdin=subprocess.DEVNULL, stdout=subprocess.PIPE, stderr=subprocess.PIPE) as process:
         try:
@@ -286,7 +320,7 @@ def run(words, look=lambda: None):
                     out, errors = process.communicate(timeout=OFTEN)
                     break
                 except subprocess.TimeoutExpired:
-                    look()
+                    look(process.pid)
                     if time.monotonic() > limit:
                         raise Failed(f"{words[0]} took longer than {MOST_TIME} seconds") from None
         except BaseException:

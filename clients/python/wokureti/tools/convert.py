@@ -157,6 +157,8 @@ def say_damage(out, helps):
 
 def read(path, out, name, kind, watch):
     """Takes the packets of a container out, and returns the name of the program that did it."""
+    if kind == "WebM or Matroska" and (containers.has_ffmpeg() or not containers.has_av()) and containers.read_by_core(path, out, watch):
+        return "vp8serve"
     if containers.can_read():
         try:
             return containers.read(path, out, watch)

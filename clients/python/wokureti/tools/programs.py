@@ -1,9 +1,11 @@
 """Where the programs vp8serve and vp8list are."""
 
 import errno
+import functools
 import os
 import pathlib
 import shutil
+import subprocess
 
 from .. import system
 
@@ -38,3 +40,13 @@ def find(name):
         return found
     built = (TREE / "bin" / system.program_file(name), TREE / "crates" / name / "out" / name)
     return next((str(path) for path in built if path.is_file()), name)
+
+
+@functools.lru_cache
+def says(program, text):
+    """Whether the help of a program has a text: an earlier version may not know what that is."""
+    try:
+        done = subprocess.run([program, "--help"], stdin=subprocess.DEVNULL, capture_output=True, text=True, errors="replace", timeout=60, check=False)
+    except (OSError, subprocess.TimeoutExpired):
+        return False
+    return text in done.stdout
