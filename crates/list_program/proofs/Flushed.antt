@@ -10,7 +10,7 @@ use Rattle.list_program.specs.Answers.{IsAnswered}
 pub answer_kept : (output : Output) (tables : TableEntries) (bytes : List ℕ) (status : ℕ) (w w' w'' : Option (List ℕ))
     → IsAnswered output tables bytes status w w' → Keeps w' w'' → IsAnswered output tables bytes status w w''
 answer_kept (Listing form) tables bytes status w w' w'' (answer, zero) kept =
-    (record { source = answer.source; read = answer.read; listed = Appends-kept _ _ _ _ answer.listed kept }, zero)
+    (record { source = answer.source; read = answer.read; places = answer.places; are = answer.are; listed = Appends-kept _ _ _ _ answer.listed kept }, zero)
 answer_kept Hashes tables bytes status w w' w'' answer kept = record {
   file = answer.file;
   read = answer.read;

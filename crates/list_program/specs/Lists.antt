@@ -17,9 +17,11 @@ use Rattle.list_program.specs.declared.fault.Fault.{Fault}
 use Rattle.list_program.specs.declared.fault.Fault.TheVariants.{Input, CannotWrite, NoMemory}
 
 -- where the packets of a file are: in the records of an IVF file, or in the blocks of a WebM file of which this is kept
-abbrev pub places_of : List ℕ → Option Kept → Places
-places_of bytes None = Records (header_length bytes)
-places_of bytes (Some media) = Listed (record { items = places_in media.video media.blocks })
+abbrev pub ArePlaces : List ℕ → Option Kept → Places → Type 0
+ArePlaces bytes None (Records begins) = begins ≡ header_length bytes
+ArePlaces bytes None (Listed begins) = ⊥
+ArePlaces bytes (Some media) (Records begins) = ⊥
+ArePlaces bytes (Some media) (Listed begins) = begins.items ≡ places_in media.video media.blocks
 
 -- the list of packets, as lines or as objects
 abbrev pub listed_text : Form → Places → List Packet → List ℕ
@@ -30,7 +32,9 @@ listed_text Objects places packets = objects_of places packets
 pub record IsListed (form : Form) (bytes : List ℕ) (output output' : Option (List ℕ)) : Type 0 where
   pub source : Source
   pub read : IsSource bytes source
-  pub listed : Appends output output' (listed_text form (places_of bytes source.media) source.stream.packets)
+  pub places : Places
+  pub are : ArePlaces bytes source.media places
+  pub listed : Appends output output' (listed_text form places source.stream.packets)
 
 -- why it did not: the bytes are not a file, or memory ran out for the places, and then nothing was written; or the writer returned an error
 abbrev pub IsListFault : List ℕ → Option (List ℕ) → Option (List ℕ) → Fault → Type 0

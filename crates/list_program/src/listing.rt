@@ -3,7 +3,7 @@ ghost use Rattle.std.specs.Prelude.{◌≡◌, IfErr, IfOk, OnOk};
 ghost use Rattle.std.specs.Io.KnownBytes.{Appends};
 ghost use Rattle.std.specs.Rc.{rc_slice_items};
 ghost use Rattle.stream_sources.specs.Sources.{IsSource};
-ghost use Rattle.list_program.specs.Lists.{IsListed, IsListFault, listed_text, places_of};
+ghost use Rattle.list_program.specs.Lists.{ArePlaces, IsListed, IsListFault, listed_text};
 
 use crate::fault::Fault;
 use macroblock_lists::Form;
@@ -17,7 +17,7 @@ use stream_sources::{Source, source_share};
 /// Where the packets of a file are.
 fn places_of(alloc: Global, bytes: &[u8], source: &Source) -> Result<Places, AllocError>
     requires { IsSource bytes.now source.now }
-    ensures { IfOk result (λ places. places ≡ places_of bytes.now source.now.media) }
+    ensures { IfOk result (ArePlaces bytes.now source.now.media) }
 {
     match &source.media {
         None => Ok(Places::of_ivf(bytes)),

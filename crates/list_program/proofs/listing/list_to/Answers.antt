@@ -5,5 +5,7 @@ pub returns-clause-listed : goal.returns-clause-listed
 returns-clause-listed g c = record {
   source = c.in-Ok.source;
   read = c.in-Ok.ensures;
-  listed = Appends-kept _ _ _ _ (rw (c.in-Ok-places_of.ensures, c.as_slice.ensures.value, c.as_slice-2.ensures) at c.in-Ok-write_form.ensures) c.in-Ok-flush.ensures.bytes;
+  places = c.in-Ok-places_of.places;
+  are = rw (c.as_slice.ensures.value) at c.in-Ok-places_of.ensures;
+  listed = Appends-kept _ _ _ _ (rw (c.as_slice-2.ensures) at c.in-Ok-write_form.ensures) c.in-Ok-flush.ensures.bytes;
 }
