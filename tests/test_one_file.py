@@ -1,8 +1,9 @@
 #!/usr/bin/env python3
 """Opens the page in one file from a folder that has nothing else, in a network namespace that has no network, and does what a person does there, in chromium and in
-Firefox; the same acts on the page of `wokureti open`. Files that come out, and answers, are those of the other engine and of vp8serve with the same lines.
+Firefox; the same acts on the page of `wokureti open`. Files that come out, and answers, are those of the other engine and of vp8serve with the same lines. Chromium is killed after
+edits, KILLS times.
 
-    tests/test_one_file.py [--shots FOLDER]
+    tests/test_one_file.py [PART ..] [--shots FOLDER]
 
 The page is that of the variable WOKURETI_PAGE, or bin/wokureti.html: ./build.py --web makes it. It prints what differs and ends with 1, or prints nothing and ends
 with 0; a line `skipped: ..` names what could not be run. With --shots it writes what the page looks like.
@@ -12,13 +13,16 @@ import contextlib
 import http.server
 import os
 import pathlib
+import random
 import re
 import shutil
+import signal
 import struct
 import subprocess
 import sys
 import tempfile
 import threading
+import time
 
 sys.dont_write_bytecode = True
 import pages  # noqa: E402
@@ -29,6 +33,8 @@ from wokureti.tools import ivf  # noqa: E402
 CLIPS = TOP / "crates/gate_clips/data"
 MOST_TIME = 800
 SIZES = ((1280, 800), (390, 844))
+PARTS = ("chromium", "firefox", "engines-chromium", "engines-firefox", "kills")
+KILLS = int(os.environ.get("KILLS", "3"))
 
 
 def samples_of(path, lines=()):
@@ -260,6 +266,32 @@ def tabs(alone, clip):
         page.press("undo")
 
 
+def killed(folder, address, clip, kills):
+    """The browser is killed at a random moment after the page showed an edit: the next one with the same profile has it."""
+    profile, chance, wanted = folder / "profile", random.Random(96), []
+    for turn in range(kills + 1):
+        browser = pages.Chromium(profile=profile)
+        try:
+            page = pages.Page(browser)
+            browser.open(address)
+            page.wait("document.getElementById('welcome') && !document.getElementById('welcome').hidden")
+            page.drop(clip)
+            page.ready()
+            found = page.session()["edits"]
+            if found != wanted:
+                yield f"after {turn} kills the edits are {found}, not {wanted}"
+                return
+            if turn == kills:
+                return
+            page.select(4, 5)
+            page.press("hold" if turn % 2 else "drop")
+            wanted = page.session()["edits"]
+            time.sleep(chance.random() * 0.2)
+            os.kill(browser.browser.process, signal.SIGKILL)
+        finally:
+            browser.end()
+
+
 def in_browser(browser, folder, address):
     """What one browser shows."""
     alone = Alone(browser, address)
@@ -313,16 +345,16 @@ def static(folder):
         server.shutdown()
 
 
-def browsers():
-    """The browsers that are here, each with what begins it."""
+def browsers(parts):
+    """The browsers that are here, each with what begins it. Those that parts need and that are missing are named."""
     found = {}
     if shutil.which("chromium") and shutil.which("chromedriver"):
         found["chromium"] = pages.Chromium
-    else:
+    elif any("firefox" not in part for part in parts):
         print("skipped: chromium and chromium-driver are not there")
     if pages.firefox.find():
         found["firefox"] = pages.Firefox
-    else:
+    elif any("firefox" in part for part in parts):
         print("skipped: firefox-esr is not there")
     return found
 
@@ -343,26 +375,49 @@ def shots(folder, alone):
             (folder / f"{width}x{height}-edited.png").write_bytes(browser.screenshot())
 
 
-def run(folder):
-    """All acts, in the folder that has nothing but the page."""
+def by_hand(begin, folder, address):
+    """What a person does on the page, from the disk and from a server of files."""
+    with started(begin) as browser:
+        yield from in_browser(browser, folder, address)
+        with static(pathlib.Path(folder / "page")) as other, Alone(browser, other).opened(EXAMPLE) as page:
+            if page.frames() != samples_of(EXAMPLE):
+                yield f"{browser.name}: from a server of files, frames are not vp8serve's"
+        if browser.name == "chromium":
+            yield from tabs(Alone(browser, address), EXAMPLE)
+
+
+def engines(begin, folder, address):
+    """The same acts over both engines."""
+    with started(begin) as browser:
+        yield from (f"{browser.name}: {line}" for line in same(Alone(browser, address), Served(browser), folder))
+
+
+@contextlib.contextmanager
+def started(begin):
+    browser = begin()
+    try:
+        yield browser
+    finally:
+        browser.end()
+
+
+def run(folder, parts):
+    """The acts of these parts, in a folder that has nothing but the page."""
     own = folder / "page"
     own.mkdir()
     shutil.copyfile(PAGE, own / PAGE.name)
     address = (own / PAGE.name).as_uri()
-    for name, begin in browsers().items():
-        browser = begin()
-        try:
-            yield from in_browser(browser, folder, address)
-            with static(own) as other, Alone(browser, other).opened(EXAMPLE) as page:
-                if page.frames() != samples_of(EXAMPLE):
-                    yield f"{name}: from a server of files, frames are not vp8serve's"
-            yield from (f"{name}: {line}" for line in same(Alone(browser, address), Served(browser), folder))
-            if name == "chromium":
-                yield from tabs(Alone(browser, address), EXAMPLE)
-                if "--shots" in sys.argv:
-                    shots(pathlib.Path(sys.argv[-1]), Alone(browser, address))
-        finally:
-            browser.end()
+    here = browsers(parts)
+    for name, begin in here.items():
+        if name in parts:
+            yield from by_hand(begin, folder, address)
+        if f"engines-{name}" in parts:
+            yield from engines(begin, folder, address)
+    if "kills" in parts and "chromium" in here:
+        yield from killed(folder, address, EXAMPLE, KILLS)
+    if "--shots" in sys.argv and "chromium" in here:
+        with started(here["chromium"]) as browser:
+            shots(pathlib.Path(sys.argv[-1]), Alone(browser, address))
 
 
 def without_network():
@@ -381,7 +436,7 @@ def main():
         return 0
     without_network()
     with tempfile.TemporaryDirectory() as name:
-        wrong = list(run(pathlib.Path(name)))
+        wrong = list(run(pathlib.Path(name), [part for part in PARTS if part in sys.argv] or PARTS))
     print("".join(line + "\n" for line in wrong), end="")
     return 1 if wrong else 0
 
