@@ -292,6 +292,31 @@ def killed(folder, address, clip, kills):
             browser.end()
 
 
+def policed(page):
+    """The policy of the page lets nothing out: no request, no picture from elsewhere, no other script."""
+    script = """const found = []; const heard = (event) => found.push(event.effectiveDirective); document.addEventListener("securitypolicyviolation", heard);
+        const asked = await fetch(args[0]).then(() => "answered", (error) => error.name);
+        document.body.append(Object.assign(document.createElement("script"), { textContent: "window.injected = true" }));
+        await new Promise((done) => { const image = new Image(); image.onload = image.onerror = done; image.src = args[0]; });
+        await new Promise((done) => setTimeout(done, 300)); document.removeEventListener("securitypolicyviolation", heard); return [asked, window.injected ?? null, found.sort()]"""
+    heard = []
+
+    class Handler(http.server.BaseHTTPRequestHandler):
+        def do_GET(self):
+            heard.append(self.path)
+            self.send_error(404)
+
+        def log_message(self, *given):
+            pass
+
+    with http.server.ThreadingHTTPServer(("127.0.0.1", 0), Handler) as server:
+        threading.Thread(target=server.serve_forever, daemon=True).start()
+        found = page.js(script, f"http://127.0.0.1:{server.server_address[1]}/x.png")
+        server.shutdown()
+    if found[:2] != ["TypeError", None] or not {"connect-src", "img-src", "script-src-elem"} <= set(found[2]) or heard:
+        yield f"{page.browser.name}: the policy lets something out: {found}, {heard}"
+
+
 def in_browser(browser, folder, address):
     """What one browser shows."""
     alone = Alone(browser, address)
@@ -302,6 +327,9 @@ def in_browser(browser, folder, address):
         size = struct.unpack(">II", data[16:24])
         if name != "frame-0.png" or data[:4] != b"\x89PNG" or size != ivf.read_packets(EXAMPLE)[0][:2]:
             yield f"{browser.name}: {name} is no picture: {data[:24]!r}"
+        yield from policed(page)
+        # What was refused is in the console.
+        browser.errors()
     if played(alone, EXAMPLE):
         yield f"{browser.name}: playback does not stop"
     yield from kept(alone, EXAMPLE)
