@@ -9,7 +9,9 @@ The page is that of the variable WOKURETI_PAGE, or bin/wokureti.html: ./build.py
 with 0; a line `skipped: ..` names what could not be run. With --shots it writes what the page looks like.
 """
 
+import base64
 import contextlib
+import hashlib
 import http.server
 import os
 import pathlib
@@ -33,7 +35,7 @@ from wokureti.tools import ivf  # noqa: E402
 CLIPS = TOP / "crates/gate_clips/data"
 MOST_TIME = 800
 SIZES = ((1280, 800), (390, 844))
-PARTS = ("chromium", "firefox", "engines-chromium", "engines-firefox", "kills")
+PARTS = ("chromium", "firefox", "engines-chromium", "engines-firefox", "streams", "kills")
 KILLS = int(os.environ.get("KILLS", "3"))
 
 
@@ -414,6 +416,42 @@ def by_hand(begin, folder, address):
             yield from tabs(Alone(browser, address), EXAMPLE)
 
 
+SUMS = """await wokureti.engine.instead(toFile(args[0], args[1]));
+    while (wokureti.model.session.names[0] !== args[1]) await new Promise((done) => setTimeout(done, 20));
+    const found = []; const hex = (sum) => Array.from(new Uint8Array(sum), (byte) => byte.toString(16).padStart(2, "0")).join("");
+    for (let n = 0; n < wokureti.model.frames; n++) {
+      try { found.push(hex(await crypto.subtle.digest("SHA-256", (await wokureti.frames.get(n)).samples))); } catch (error) { found.push(error.reply || error.message); }
+    }
+    return [found, wokureti.model.session.edits, wokureti.model.frames]"""
+
+
+def streams(begin, address):
+    """Each clip and conformance stream is opened in the place of the one before: its frames are those of vp8serve, and it has no edit."""
+    with started(begin) as browser, Alone(browser, address).opened(EXAMPLE) as page:
+        page.select(3, 4)
+        page.press("hold")
+        for path in [*test_web.CLIPS, *test_web.STREAMS]:
+            found, edits, count = page.js(SUMS, base64.b64encode(path.read_bytes()).decode(), f"{path.parent.name}-{path.name}")
+            wanted = [hashlib.sha256(frame).hexdigest() if isinstance(frame, bytes) else frame for frame in samples_of_sizes(path)]
+            if found != wanted or edits or count != len(wanted):
+                first = next((place for place, pair in enumerate(zip(found, wanted)) if pair[0] != pair[1]), None)
+                yield f"{path.name}: {count} frames, the first other one is {first}, {edits}"
+
+
+def samples_of_sizes(path):
+    """The samples of each frame, whatever its size, or why vp8serve refuses it: a run of vp8serve serves frames of one size."""
+    found = samples_of(path)
+    while "refused SizeDiffers" in found:
+        left = [n for n, frame in enumerate(found) if frame == "refused SizeDiffers"]
+        with tempfile.TemporaryDirectory() as folder:
+            out = pathlib.Path(folder, "out.y4m")
+            replies = ran(SERVE, path, "-", out, input="".join(f"frame {n}\n" for n in left).encode()).stdout.decode().splitlines()
+            pictures = test_web.pieces(out.read_bytes())
+            for n, reply in zip(left, replies):
+                found[n] = bytes(next(pictures)) if reply.startswith("served ") else reply
+    return found
+
+
 def engines(begin, folder, address):
     """The same acts over both engines."""
     with started(begin) as browser:
@@ -441,6 +479,8 @@ def run(folder, parts):
             yield from by_hand(begin, folder, address)
         if f"engines-{name}" in parts:
             yield from engines(begin, folder, address)
+    if "streams" in parts and "chromium" in here:
+        yield from streams(here["chromium"], address)
     if "kills" in parts and "chromium" in here:
         yield from killed(folder, address, EXAMPLE, KILLS)
     if "--shots" in sys.argv and "chromium" in here:
