@@ -23,9 +23,9 @@ class Wrong(Exception):
 
 
 class Browser:
-    """A browser without a window, of a size, with the colours of a theme."""
+    """A browser without a window, of a size, with the colours of a theme. `more` are arguments of the program."""
 
-    def __init__(self, width=1440, height=900, is_dark=True):
+    def __init__(self, width=1440, height=900, is_dark=True, more=()):
         program = shutil.which("chromedriver")
         if program is None or shutil.which("chromium") is None:
             raise SystemExit("chromium and chromium-driver are not here: apt-get install chromium chromium-driver")
@@ -33,7 +33,7 @@ class Browser:
             port = sock.getsockname()[1]
         self.driver = subprocess.Popen([program, f"--port={port}"], stdout=subprocess.DEVNULL, stderr=subprocess.DEVNULL)
         self.root = f"http://127.0.0.1:{port}"
-        arguments = ["--headless=new", "--no-sandbox", "--disable-gpu", f"--window-size={width},{height}", "--hide-scrollbars", "--no-first-run"]
+        arguments = ["--headless=new", "--no-sandbox", "--disable-gpu", f"--window-size={width},{height}", "--hide-scrollbars", "--no-first-run", *more]
         options = {"binary": shutil.which("chromium"), "args": arguments}
         wanted = {"browserName": "chrome", "goog:chromeOptions": options, "goog:loggingPrefs": {"browser": "ALL"}, "unhandledPromptBehavior": "ignore", "timeouts": {"script": 1000 * MOST_TIME}}
         try:
@@ -49,6 +49,7 @@ class Browser:
                     time.sleep(0.1)
             self.session = f"/session/{found['sessionId']}"
             self.version = found["capabilities"]["browserVersion"]
+            self.process = found["capabilities"].get("goog:processID")
             self.set_theme(is_dark)
             self.set_size(width, height)
         except BaseException:

@@ -4,12 +4,13 @@ The kit proves the library for wasm64, which Safari does not run, and does not c
 for both processors, except attributes and the alignment of vectors), and it is linked with the heap of release/wasm/heap.c. No proof covers the result.
 """
 
+import hashlib
 import os
 import pathlib
 import tempfile
 
 from . import library, page, retarget
-from .sources import TOP, version
+from .sources import TOP, sum_of, version
 
 WASM = TOP / "release/wasm"
 TARGET = "wasm32"
@@ -34,10 +35,16 @@ def linked(own, folder):
     return made.read_bytes()
 
 
+def mark():
+    """A text that changes with each file that makes the module in WebAssembly of the library's."""
+    files = [*sorted(WASM.iterdir()), TOP / "release/retarget.py", TOP / "release/web.py"]
+    return hashlib.sha256("".join(map(sum_of, files)).encode()).hexdigest()[:16]
+
+
 def module(room, cpu, is_proved, say):
     """The bytes of the module, made of that for this processor: those in `room`, if they were made there of it."""
     bitcode = library.compiled(pathlib.Path(room), cpu, is_proved, say)[1]
-    kept = bitcode.with_suffix(".wasm")
+    kept = bitcode.with_name(f"{bitcode.stem}-{mark()}.wasm")
     if kept.is_file():
         return kept.read_bytes()
     say("compiling the library's LLVM module for WebAssembly, outside the verdict")

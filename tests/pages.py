@@ -16,6 +16,8 @@ from library import firefox  # noqa: E402
 
 # Seconds that something on the page may take on a busy machine.
 LIMIT = 60
+# Seconds that a script in the page may take.
+MOST_TIME = 300
 # Bytes as a text, and back.
 TOOLS = """window.toText = (bytes) => { let text = ""; for (let at = 0; at < bytes.length; at += 32768) text += String.fromCharCode(...bytes.subarray(at, at + 32768)); return btoa(text); };
     window.toBytes = (text) => Uint8Array.from(atob(text), (letter) => letter.charCodeAt(0));
@@ -32,8 +34,8 @@ class Chromium:
 
     name = "chromium"
 
-    def __init__(self, width=1280, height=800):
-        self.browser = Browser(width, height)
+    def __init__(self, width=1280, height=800, profile=None):
+        self.browser = Browser(width, height, more=[f"--user-data-dir={profile}"] if profile else [])
 
     def open(self, address):
         self.browser.open(address)
@@ -55,6 +57,7 @@ class Firefox:
 
     def __init__(self):
         self.browser = firefox.Firefox()
+        self.browser.send("WebDriver:SetTimeouts", script=1000 * MOST_TIME)
 
     def open(self, address):
         self.browser.open(address)

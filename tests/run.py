@@ -30,7 +30,10 @@ CLIENT = TOP / "clients/python/tests"
 SERVE, LIST = (os.environ.get(name, "") for name in ("VP8SERVE", "VP8LIST"))
 LIMIT = 900
 # Tests whose parts are run side by side.
-PARTS = {"tests/test_arm.py": ("programs", "options", "saving", "library")}
+PARTS = {
+    "tests/test_arm.py": ("programs", "options", "saving", "library"),
+    "tests/test_one_file.py": ("chromium", "firefox", "engines-chromium", "engines-firefox", "streams", "kills"),
+}
 # Tests of what the version in dist/ may not have yet, by a text of the help that has it.
 LATER = {"tests/test_questions.py": "check FIRST COUNT", "tests/test_long_lines.py": "--fail-refused"}
 

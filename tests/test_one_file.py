@@ -1,24 +1,30 @@
 #!/usr/bin/env python3
 """Opens the page in one file from a folder that has nothing else, in a network namespace that has no network, and does what a person does there, in chromium and in
-Firefox; the same acts on the page of `wokureti open`. Files that come out, and answers, are those of the other engine and of vp8serve with the same lines.
+Firefox; the same acts on the page of `wokureti open`. Files that come out, and answers, are those of the other engine and of vp8serve with the same lines. Chromium is killed after
+edits, KILLS times.
 
-    tests/test_one_file.py [--shots FOLDER]
+    tests/test_one_file.py [PART ..] [--shots FOLDER]
 
 The page is that of the variable WOKURETI_PAGE, or bin/wokureti.html: ./build.py --web makes it. It prints what differs and ends with 1, or prints nothing and ends
 with 0; a line `skipped: ..` names what could not be run. With --shots it writes what the page looks like.
 """
 
+import base64
 import contextlib
+import hashlib
 import http.server
 import os
 import pathlib
+import random
 import re
 import shutil
+import signal
 import struct
 import subprocess
 import sys
 import tempfile
 import threading
+import time
 
 sys.dont_write_bytecode = True
 import pages  # noqa: E402
@@ -29,6 +35,8 @@ from wokureti.tools import ivf  # noqa: E402
 CLIPS = TOP / "crates/gate_clips/data"
 MOST_TIME = 800
 SIZES = ((1280, 800), (390, 844))
+PARTS = ("chromium", "firefox", "engines-chromium", "engines-firefox", "streams", "kills")
+KILLS = int(os.environ.get("KILLS", "3"))
 
 
 def samples_of(path, lines=()):
@@ -260,6 +268,57 @@ def tabs(alone, clip):
         page.press("undo")
 
 
+def killed(folder, address, clip, kills):
+    """The browser is killed at a random moment after the page showed an edit: the next one with the same profile has it."""
+    profile, chance, wanted = folder / "profile", random.Random(96), []
+    for turn in range(kills + 1):
+        browser = pages.Chromium(profile=profile)
+        try:
+            page = pages.Page(browser)
+            browser.open(address)
+            page.wait("document.getElementById('welcome') && !document.getElementById('welcome').hidden")
+            page.drop(clip)
+            page.ready()
+            found = page.session()["edits"]
+            if found != wanted:
+                yield f"after {turn} kills the edits are {found}, not {wanted}"
+                return
+            if turn == kills:
+                return
+            page.select(4, 5)
+            page.press("hold" if turn % 2 else "drop")
+            wanted = page.session()["edits"]
+            time.sleep(chance.random() * 0.2)
+            os.kill(browser.browser.process, signal.SIGKILL)
+        finally:
+            browser.end()
+
+
+def policed(page):
+    """The policy of the page lets nothing out: no request, no picture from elsewhere, no other script."""
+    script = """const found = []; const heard = (event) => found.push(event.effectiveDirective); document.addEventListener("securitypolicyviolation", heard);
+        const asked = await fetch(args[0]).then(() => "answered", (error) => error.name);
+        document.body.append(Object.assign(document.createElement("script"), { textContent: "window.injected = true" }));
+        await new Promise((done) => { const image = new Image(); image.onload = image.onerror = done; image.src = args[0]; });
+        await new Promise((done) => setTimeout(done, 300)); document.removeEventListener("securitypolicyviolation", heard); return [asked, window.injected ?? null, found.sort()]"""
+    heard = []
+
+    class Handler(http.server.BaseHTTPRequestHandler):
+        def do_GET(self):
+            heard.append(self.path)
+            self.send_error(404)
+
+        def log_message(self, *given):
+            pass
+
+    with http.server.ThreadingHTTPServer(("127.0.0.1", 0), Handler) as server:
+        threading.Thread(target=server.serve_forever, daemon=True).start()
+        found = page.js(script, f"http://127.0.0.1:{server.server_address[1]}/x.png")
+        server.shutdown()
+    if found[:2] != ["TypeError", None] or not {"connect-src", "img-src", "script-src-elem"} <= set(found[2]) or heard:
+        yield f"{page.browser.name}: the policy lets something out: {found}, {heard}"
+
+
 def in_browser(browser, folder, address):
     """What one browser shows."""
     alone = Alone(browser, address)
@@ -270,6 +329,9 @@ def in_browser(browser, folder, address):
         size = struct.unpack(">II", data[16:24])
         if name != "frame-0.png" or data[:4] != b"\x89PNG" or size != ivf.read_packets(EXAMPLE)[0][:2]:
             yield f"{browser.name}: {name} is no picture: {data[:24]!r}"
+        yield from policed(page)
+        # What was refused is in the console.
+        browser.errors()
     if played(alone, EXAMPLE):
         yield f"{browser.name}: playback does not stop"
     yield from kept(alone, EXAMPLE)
@@ -313,16 +375,16 @@ def static(folder):
         server.shutdown()
 
 
-def browsers():
-    """The browsers that are here, each with what begins it."""
+def browsers(parts):
+    """The browsers that are here, each with what begins it. Those that parts need and that are missing are named."""
     found = {}
     if shutil.which("chromium") and shutil.which("chromedriver"):
         found["chromium"] = pages.Chromium
-    else:
+    elif any("firefox" not in part for part in parts):
         print("skipped: chromium and chromium-driver are not there")
     if pages.firefox.find():
         found["firefox"] = pages.Firefox
-    else:
+    elif any("firefox" in part for part in parts):
         print("skipped: firefox-esr is not there")
     return found
 
@@ -343,26 +405,87 @@ def shots(folder, alone):
             (folder / f"{width}x{height}-edited.png").write_bytes(browser.screenshot())
 
 
-def run(folder):
-    """All acts, in the folder that has nothing but the page."""
+def by_hand(begin, folder, address):
+    """What a person does on the page, from the disk and from a server of files."""
+    with started(begin) as browser:
+        yield from in_browser(browser, folder, address)
+        with static(pathlib.Path(folder / "page")) as other, Alone(browser, other).opened(EXAMPLE) as page:
+            if page.frames() != samples_of(EXAMPLE):
+                yield f"{browser.name}: from a server of files, frames are not vp8serve's"
+        if browser.name == "chromium":
+            yield from tabs(Alone(browser, address), EXAMPLE)
+
+
+SUMS = """await wokureti.engine.instead(toFile(args[0], args[1]));
+    while (wokureti.model.session.names[0] !== args[1]) await new Promise((done) => setTimeout(done, 20));
+    const found = []; const hex = (sum) => Array.from(new Uint8Array(sum), (byte) => byte.toString(16).padStart(2, "0")).join("");
+    for (let n = 0; n < wokureti.model.frames; n++) {
+      try { found.push(hex(await crypto.subtle.digest("SHA-256", (await wokureti.frames.get(n)).samples))); } catch (error) { found.push(error.reply || error.message); }
+    }
+    return [found, wokureti.model.session.edits, wokureti.model.frames]"""
+
+
+def streams(begin, address):
+    """Each clip and conformance stream is opened in the place of the one before: its frames are those of vp8serve, and it has no edit."""
+    with started(begin) as browser, Alone(browser, address).opened(EXAMPLE) as page:
+        page.select(3, 4)
+        page.press("hold")
+        for path in [*test_web.CLIPS, *test_web.STREAMS]:
+            found, edits, count = page.js(SUMS, base64.b64encode(path.read_bytes()).decode(), f"{path.parent.name}-{path.name}")
+            wanted = [hashlib.sha256(frame).hexdigest() if isinstance(frame, bytes) else frame for frame in samples_of_sizes(path)]
+            if found != wanted or edits or count != len(wanted):
+                first = next((place for place, pair in enumerate(zip(found, wanted)) if pair[0] != pair[1]), None)
+                yield f"{path.name}: {count} frames, the first other one is {first}, {edits}"
+
+
+def samples_of_sizes(path):
+    """The samples of each frame, whatever its size, or why vp8serve refuses it: a run of vp8serve serves frames of one size."""
+    found = samples_of(path)
+    while "refused SizeDiffers" in found:
+        left = [n for n, frame in enumerate(found) if frame == "refused SizeDiffers"]
+        with tempfile.TemporaryDirectory() as folder:
+            out = pathlib.Path(folder, "out.y4m")
+            replies = ran(SERVE, path, "-", out, input="".join(f"frame {n}\n" for n in left).encode()).stdout.decode().splitlines()
+            pictures = test_web.pieces(out.read_bytes())
+            for n, reply in zip(left, replies):
+                found[n] = bytes(next(pictures)) if reply.startswith("served ") else reply
+    return found
+
+
+def engines(begin, folder, address):
+    """The same acts over both engines."""
+    with started(begin) as browser:
+        yield from (f"{browser.name}: {line}" for line in same(Alone(browser, address), Served(browser), folder))
+
+
+@contextlib.contextmanager
+def started(begin):
+    browser = begin()
+    try:
+        yield browser
+    finally:
+        browser.end()
+
+
+def run(folder, parts):
+    """The acts of these parts, in a folder that has nothing but the page."""
     own = folder / "page"
     own.mkdir()
     shutil.copyfile(PAGE, own / PAGE.name)
     address = (own / PAGE.name).as_uri()
-    for name, begin in browsers().items():
-        browser = begin()
-        try:
-            yield from in_browser(browser, folder, address)
-            with static(own) as other, Alone(browser, other).opened(EXAMPLE) as page:
-                if page.frames() != samples_of(EXAMPLE):
-                    yield f"{name}: from a server of files, frames are not vp8serve's"
-            yield from (f"{name}: {line}" for line in same(Alone(browser, address), Served(browser), folder))
-            if name == "chromium":
-                yield from tabs(Alone(browser, address), EXAMPLE)
-                if "--shots" in sys.argv:
-                    shots(pathlib.Path(sys.argv[-1]), Alone(browser, address))
-        finally:
-            browser.end()
+    here = browsers(parts)
+    for name, begin in here.items():
+        if name in parts:
+            yield from by_hand(begin, folder, address)
+        if f"engines-{name}" in parts:
+            yield from engines(begin, folder, address)
+    if "streams" in parts and "chromium" in here:
+        yield from streams(here["chromium"], address)
+    if "kills" in parts and "chromium" in here:
+        yield from killed(folder, address, EXAMPLE, KILLS)
+    if "--shots" in sys.argv and "chromium" in here:
+        with started(here["chromium"]) as browser:
+            shots(pathlib.Path(sys.argv[-1]), Alone(browser, address))
 
 
 def without_network():
@@ -381,7 +504,7 @@ def main():
         return 0
     without_network()
     with tempfile.TemporaryDirectory() as name:
-        wrong = list(run(pathlib.Path(name)))
+        wrong = list(run(pathlib.Path(name), [part for part in PARTS if part in sys.argv] or PARTS))
     print("".join(line + "\n" for line in wrong), end="")
     return 1 if wrong else 0
 

@@ -134,6 +134,20 @@ def check_dist(folder):
         expect("a changed wheel", refused(lambda _: build.check_wheels(names), ""), f"dist/{file} is not the wheel for Linux on ARM of dist/SOURCES")
 
 
+def check_page(folder):
+    """The page of dist/ is compared, byte for byte, if dist/ is of the same files; a page or a module that is another one is refused."""
+    from release import page, web
+
+    with mock.patch.object(web, "module", lambda *given: b"a module"), contextlib.redirect_stderr(io.StringIO()):
+        data, names = build.made_page(folder)
+        dist = {"version": build.version(), **names}
+        expect("the page again", (build.made_page(folder)[0] == data, build.verify_page(dist, folder)), (True, ""))
+        for name in ("module in WebAssembly", build.PAGE):
+            expect(f"another {name}", refused(lambda wrong: build.verify_page(wrong, folder), {**dist, name: "-"}), f"the {name} is not the one of dist/")
+        expect("no page", build.verify_page({"version": "1.2.3"}, folder), f"dist/ has no {page.NAME}")
+        expect("other files", build.verify_page({**dist, "sources of the page": "-"}, folder), f"the page of dist/ is of an earlier state of version {build.version()}, so it is not compared")
+
+
 def check_comparison(folder):
     """A program that differs in one byte, in its status, or in a file that it writes is reported, and one that is the same is not."""
     case = compared.Case("vp8serve", ["a.ivf", "-", "out.y4m"], "frame 0\n", {"a.ivf": (TOP / "examples/mandelbrot.ivf").read_bytes()}, ("out.y4m",))
@@ -164,6 +178,7 @@ def main():
             check_refusals(folder)
         check_missing(folder)
         check_dist(folder)
+        check_page(folder)
         check_comparison(folder)
     print(*wrong, sep="\n", end="\n" if wrong else "")
     return 1 if wrong else 0

@@ -24,6 +24,7 @@ sys.path[1:1] = [str(TOP), str(TOP / "clients/python"), str(TOP / "compare")]
 import test_library  # noqa: E402
 from wokureti import Session  # noqa: E402
 from wokureti.session.lines import is_edit  # noqa: E402
+from wokureti.tools import ivf  # noqa: E402
 from release import page  # noqa: E402
 from release.sources import Failed, version  # noqa: E402
 from library.webm import webm  # noqa: E402
@@ -270,6 +271,17 @@ def planted(node):
         yield f"a memory that is full: {full}, {state['edits']}, {again['reply']}, {save}"
 
 
+def progress(node, folder):
+    """While a file is opened the worker says how much of it is read."""
+    head, packets = ivf.read_packets(EXAMPLE)
+    path = folder / "padded.ivf"
+    path.write_bytes(b"".join(ivf.pieces(head, len(packets), [(stamp, data + bytes(400000)) for stamp, data in packets])))
+    (result,) = node.tasks([{"files": [path], "asks": [["events", []]]}])
+    parts = [one["part"] for one in result.get("results", [None, None, []])[2]]
+    if len(parts) < 3 or parts != sorted(parts) or not 0 < parts[0] < parts[-1] <= 1:
+        yield f"progress: {result.get('error') or parts}"
+
+
 def joined_wrongly(folder):
     """Modules that cannot be joined, and what a page must have."""
     for name, text in {"an import that is not known": 'import x from "./b.js";\n', "one at a time": 'const y = import("./b.js");\n', "an export that is not known": "export default 3;\n", "a circle": 'import "./a.js";\n'}.items():
@@ -318,7 +330,7 @@ def main():
         else:
             wrong += stale()
             node = Node()
-            wrong += [*frames(node), *lists(node, chance, folder), *questions(node, folder), *bounded(node, folder), *saved(node, chance, folder), *refused(node, folder), *previews(node), *planted(node)]
+            wrong += [*frames(node), *lists(node, chance, folder), *questions(node, folder), *bounded(node, folder), *saved(node, chance, folder), *refused(node, folder), *previews(node), *planted(node), *progress(node, folder)]
     print("".join(line + "\n" for line in wrong), end="")
     return 1 if wrong else 0
 

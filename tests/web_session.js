@@ -6,7 +6,7 @@
  *                                      packets to `save`. Without `states` the limit is that of the page
  * { file, out }                        the page's frames in order and backwards: the MD5 of each, or the refusal
  * { files, asks, saves }               calls of the worker, pairs of a name and what is given: the result of each, or its refusal; files that calls make go to `saves`, in order.
- *                                      `fault` and `full` are planted */
+ *                                      `fault` and `full` are planted, and `events` are what the worker said by itself */
 const crypto = require("node:crypto");
 const fs = require("node:fs");
 const path = require("node:path");
@@ -20,7 +20,7 @@ const given = zlib.gunzipSync(Buffer.from(textOf("module-text"), "base64"));
 
 /** A worker: its answers come at once. */
 function worker(compiled) {
-  const self = { postMessage: (message) => (self.said = message.id === undefined ? self.said : message) };
+  const self = { events: [], postMessage: (message) => (message.id === undefined ? self.events.push(message) : (self.said = message)) };
   const context = vm.createContext({ self, performance, setTimeout: () => 0, TextEncoder, TextDecoder, WebAssembly, console });
   vm.runInContext(textOf("worker-text"), context, { filename: "worker.js" });
   const call = (name, ...list) => {
@@ -29,7 +29,7 @@ function worker(compiled) {
     return self.said.result;
   };
   call("start", compiled);
-  return { call, parts: vm.runInContext("({ Calls: $engines_calls.Calls, Session: $engines_session.Session, full: $engines_calls.full })", context) };
+  return { call, events: self.events, parts: vm.runInContext("({ Calls: $engines_calls.Calls, Session: $engines_session.Session, full: $engines_calls.full })", context) };
 }
 
 function source(file) {
@@ -72,10 +72,11 @@ function frames(compiled, { file }) {
 }
 
 function asks(compiled, { files, asks, saves = [] }) {
-  const { call, parts } = worker(compiled);
+  const { call, parts, events } = worker(compiled);
   const left = [...saves];
   // The next frame is a fault of the module; so many requests for memory are refused.
   const plants = {
+    events: () => events.splice(0),
     fault() {
       const { frame } = parts.Calls.prototype;
       parts.Calls.prototype.frame = function () {

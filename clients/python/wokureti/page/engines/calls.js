@@ -97,8 +97,8 @@ export class Calls {
   }
 
   /** Opens a session over IVF and WebM files. The one before it ends. The pictures of the cached states take at most `most` bytes, four for each. `look` is
-   * called with the bytes of each file, as long as they are in the memory. */
-  open(sources, most, look = () => {}) {
+   * called with the bytes of each file, as long as they are in the memory, and `told` with how many bytes were read. */
+  open(sources, most, look = () => {}, told = () => {}) {
     const ends = [];
     for (const source of sources) ends.push((ends.at(-1) ?? 0) + sizeOfSource(source));
     this.calls.wk_close(this.handle);
@@ -107,7 +107,7 @@ export class Calls {
     const status = this.withRoom(total, (at, size) => {
       sources.forEach((source, place) => {
         const first = at + (place ? ends[place - 1] : 0);
-        this.read(source, first);
+        this.read(source, first, told);
         look(place, () => this.bytes(first, sizeOfSource(source)));
       });
       const list = new Uint8Array(BigUint64Array.from(ends, BigInt).buffer);
@@ -121,10 +121,11 @@ export class Calls {
   }
 
   /** Copies a file into the module's memory, some of it at a time. */
-  read(source, at) {
+  read(source, at, told) {
     for (let first = 0; first < sizeOfSource(source); first += SLICE) {
       const part = bytesOf(source, first, Math.min(sizeOfSource(source), first + SLICE));
       this.bytes(at + first, part.length).set(part);
+      told(part.length);
     }
   }
 

@@ -14,14 +14,14 @@ function lastOf(lines, word, none) {
 
 export class Session {
   /** `most` bytes of pictures are cached, four for each state. */
-  constructor(module, sources, most, look) {
+  constructor(module, sources, most, look, told) {
     Object.assign(this, { module, sources, most });
     this.calls = new Calls(module);
-    this.open(look);
+    this.open(look, told);
   }
 
-  open(look) {
-    this.calls.open(this.sources, this.most, look);
+  open(look, told) {
+    this.calls.open(this.sources, this.most, look, told);
     this.lines = [];
     this.current = 0;
   }

@@ -3,7 +3,7 @@
 import { objectsOf } from "../details.js";
 import { nodesOf } from "../script.js";
 import { shotsOf } from "../shots.js";
-import { Refused } from "./calls.js";
+import { Refused, sizeOfSource } from "./calls.js";
 import { Check, atEnd, atHeader } from "./checking.js";
 import { Clipboard, runsOf } from "./clipboard.js";
 import { Causes, Contents, readIvf } from "./contents.js";
@@ -21,6 +21,8 @@ const MOST_STATES = 1 << 29;
 const MOST_EDITS = 500;
 const MOST_LINE = 200;
 const MOST_CHECKS = 8;
+// Bytes between two reports of how much is read.
+const STEP = 1 << 23;
 // Packets, frames or columns that are told at a time.
 const MOST_ENTRIES = 4096;
 // The columns of the tiles that an answer to a change has; places of selected packets that are named; packets that a step inserts, at most.
@@ -30,17 +32,30 @@ const MOST_LINES = 1 << 20;
 // Nodes that may change samples.
 const CHANGING = /(?:^|; ?)(?:crop|fade) /;
 
-/** Reads what is known of the files while they are opened. A WebM file is read as the session has it. */
-function indexes(module, sources) {
+/** Reads what is known of the files while they are opened. A WebM file is read as the session has it. `report` is called with the part that is done: each byte is
+ * read twice. */
+function indexes(module, sources, report) {
   const found = [];
+  const total = 2 * sources.reduce((sum, source) => sum + sizeOfSource(source), 0);
+  let [done, said] = [0, 0];
+  const told = (count) => {
+    done += count;
+    if (done - said < STEP) return;
+    said = done;
+    report(Math.min(1, done / total));
+  };
   const read = (bytes) => {
     const digest = new Sha256();
-    return Object.assign(readIvf(bytes, (part) => digest.add(part)), { digest: digest.hex() });
+    const got = (part) => {
+      digest.add(part);
+      told(part.length);
+    };
+    return Object.assign(readIvf(bytes, got), { digest: digest.hex() });
   };
   const session = new Session(module, sources, MOST_STATES, (place, bytes) => {
     const given = bytes();
     if (given.length >= 32 && given[0] === 0x44) found[place] = read(given);
-  });
+  }, told);
   sources.forEach((source, place) => {
     if (!found[place]) {
       const pieces = session.calls.save(place, false, false);
@@ -62,9 +77,9 @@ export class Stream {
   }
 
   /** Opens files; the first one is edited. Revisions go on from one. */
-  open(sources, revision) {
+  open(sources, revision, report) {
     this.revision = revision;
-    const { session, found } = indexes(this.module, sources);
+    const { session, found } = indexes(this.module, sources, report);
     Object.assign(this, { session, files: found, sources });
     this.instance = Math.random().toString(16).slice(2, 10);
     this.checks = [];
@@ -116,12 +131,12 @@ export class Stream {
   }
 
   /** Opens another file as the last source. If it is refused, all is as before. */
-  add(source) {
+  add(source, report) {
     const { sources, files, session, steps, undone, contents, causes } = this;
     if (sources.length === 8) throw new Refused(409, { error: "a session has at most 8 streams" });
     const { lines } = session;
     try {
-      const opened = indexes(this.module, [...sources, source]);
+      const opened = indexes(this.module, [...sources, source], report);
       Object.assign(this, { session: opened.session, files: opened.found, sources: [...sources, source], steps: [], undone: [] });
       this.readAgain();
       for (const step of steps) this.makeStep(step.lines, step.title);

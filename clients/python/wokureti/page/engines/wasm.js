@@ -15,7 +15,7 @@ const LARGE = 1 << 29;
 const find = (id) => document.getElementById(id);
 
 /** What the engine has: the workers, the files, and the state that was told last. */
-const own = { module: null, main: null, beside: null, timer: 0, sources: [], about: null, session: null, only: "", heard: () => {}, found: () => {}, release: async () => {} };
+const own = { module: null, main: null, beside: null, timer: 0, sources: [], about: null, session: null, opening: null, only: "", heard: () => {}, found: () => {}, release: async () => {} };
 let isOpen;
 const opened = new Promise((resolve) => (isOpen = resolve));
 
@@ -71,9 +71,18 @@ async function lock(digest) {
   if (own.only) notice(own.only, { isBad: true, id: "only" });
 }
 
+/** Says how much of the files is read, and null at the end. */
+function reading(part) {
+  own.opening = part;
+  find("welcome-text").textContent = part === null ? "" : `reading: ${Math.floor(100 * part)} %`;
+}
+
 /** Opens files in the place of those that are open. If one is refused, all is as before. */
 async function open(sources) {
-  const fresh = await channel(({ members }) => fresh === own.main && own.found(members));
+  const fresh = await channel((said) => {
+    if (said.event === "opening") reading(said.part);
+    else if (fresh === own.main) own.found(said.members);
+  });
   try {
     const about = await fresh.call("open", [sources, own.session?.revision ?? 0]);
     await lock(about.digest);
@@ -86,6 +95,8 @@ async function open(sources) {
   } catch (error) {
     if (own.main !== fresh) fresh.end();
     throw error;
+  } finally {
+    reading(null);
   }
   own.session = await fresh.call("state");
   find("welcome").hidden = true;
@@ -113,7 +124,7 @@ async function take(files) {
 
 async function add(file) {
   warnOf([file]);
-  const { about, ...found } = await waited(OPENING, own.main.call("add", [file]));
+  const { about, ...found } = await waited(OPENING, own.main.call("add", [file])).finally(() => reading(null));
   leave();
   own.sources = [...own.sources, file];
   own.about = about;
@@ -295,7 +306,7 @@ use({
   link: () => null,
   offer: offered,
   sound: () => null,
-  progress: async () => ({ doing: null, opening: null, exporting: undefined }),
+  progress: async () => ({ doing: null, opening: own.opening === null ? null : { what: "reading", done: own.opening, total: 1 }, exporting: undefined }),
   changed(heard, found) {
     Object.assign(own, { heard, found });
   },
@@ -307,6 +318,7 @@ function welcome() {
   for (const id of ["welcome", "about", "list-save"]) find(id).hidden = false;
   document.body.classList.add("is-empty");
   find("download").hidden = true;
+  find("add-source").title = "Open another stream, as the next source or in the place of this one";
   find("welcome-open").addEventListener("click", () => input.click());
   input.addEventListener("change", () => take([...input.files]));
 }

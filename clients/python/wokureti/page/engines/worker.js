@@ -17,13 +17,17 @@ let beside = null;
 let told = { check: null, count: 0, state: "", at: 0 };
 let isSoon = false;
 
+function report(part) {
+  self.postMessage({ event: "opening", part });
+}
+
 const calls = {
   start(given) {
     module = given;
   },
   open(sources, revision) {
     const fresh = new Stream(module);
-    const found = fresh.open(sources, revision);
+    const found = fresh.open(sources, revision, report);
     stream = fresh;
     return found;
   },
@@ -31,7 +35,7 @@ const calls = {
   beside(sources) {
     beside = new Beside(module, sources);
   },
-  add: (source) => ({ ...stream.add(source), about: stream.about() }),
+  add: (source) => ({ ...stream.add(source, report), about: stream.about() }),
   ask: (lines, given) => ({ ...stream.ask(lines, given), text: stream.text() }),
   paste: (members) => ({ ...stream.paste(members), text: stream.text() }),
   answer: (line, source) => stream.session.ask(line, source),
