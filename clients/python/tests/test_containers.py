@@ -488,7 +488,7 @@ class HowFar(Case):
                 pass
             os.close(ours)
             process.wait(20 * SLOW)
-            self.assertRegex(said.decode(), r"taking the (packets|sound) out of .*talk\.webm: \d+ %, \d+ s", words[0])
+            self.assertRegex(said.decode(), r"taking the packets out of .*talk\.webm: \d+ %, \d+ s", words[0])
 
     def test_a_terminal_shows_how_far_a_large_file_is_read(self):
         """Each step of it has per cent, once it takes a second."""

@@ -437,7 +437,7 @@ class OnThePage(test_page.PageCase, EndlessCase):
             heard.append(self.members("/progress")["opening"])
             return real(path, out, watch)
 
-        with mock.patch.object(containers, "read", read):
+        with mock.patch.object(containers, "read_by_core", return_value=False), mock.patch.object(containers, "read", read):
             self.assertEqual(self.post_to("/sources", file=str(other))[0], 200)
         self.assertEqual([(found["what"], found["done"], found["total"]) for found in heard], [(f"taking the packets out of {other}", 300, 1000)])
         self.assertIsNone(self.members("/progress")["opening"])

@@ -2,6 +2,7 @@
 
 Python's `av` reads a container if it is installed, else ffmpeg. Times are in nanoseconds, and those of the file."""
 
+import concurrent.futures
 import itertools
 import json
 import os
@@ -146,20 +147,23 @@ def rate_of_stamps(head, stamps, tags, named):
 
 
 def read_by_core(path, out, watch=NOBODY):
-    """The same of a WebM or Matroska file, whose packets vp8serve reads as they are, and whose sound ffmpeg reads, if it is there. False if vp8serve does not read it:
-    an earlier version reads none."""
+    """The same of a WebM or Matroska file, whose packets vp8serve reads as they are, and whose sound ffmpeg reads meanwhile, if it is there. False if vp8serve does not
+    read it: an earlier version reads none."""
     program = programs.find("vp8serve")
     if not programs.says(program, "WebM"):
         return False
-    try:
-        run([program, checks.path(path), "-", "-", "--save", os.fspath(out)])
-    except (Failed, OSError):
+    facts = probe(path) if has_ffmpeg() else None
+    video = next((one for one in (facts or {}).get("streams", ()) if one.get("codec_name") == "vp8"), None)
+    if facts is not None and video is None:
         return False
-    if has_ffmpeg():
-        facts = probe(path)
-        video = next((one for one in facts["streams"] if one.get("codec_name") == "vp8"), {})
-        watch.stage(f"taking the sound out of {os.fsdecode(path)}")
-        sounds, said = copy_tracks(path, facts["streams"], [], out, watch)
+    with concurrent.futures.ThreadPoolExecutor(1) as pool:
+        saving = pool.submit(run, [program, checks.path(path), "-", "-", "--save", os.fspath(out)])
+        sounds, said = copy_tracks(path, facts["streams"], [], out, watch) if facts is not None else ([], "")
+        try:
+            saving.result()
+        except (Failed, OSError):
+            return False
+    if facts is not None:
         known[os.fspath(out)] = media_by(path, facts, video, rate_of(out, fraction(video.get("avg_frame_rate", "0/0"))), sounds, said)
     return True
 

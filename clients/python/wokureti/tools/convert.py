@@ -157,13 +157,13 @@ def say_damage(out, helps):
 
 def read(path, out, name, kind, watch):
     """Takes the packets of a container out, and returns the name of the program that did it."""
-    if kind == "WebM or Matroska" and (containers.has_ffmpeg() or not containers.has_av()) and containers.read_by_core(path, out, watch):
-        return "vp8serve"
-    if containers.can_read():
-        try:
+    try:
+        if kind == "WebM or Matroska" and (containers.has_ffmpeg() or not containers.has_av()) and containers.read_by_core(path, out, watch):
+            return "vp8serve"
+        if containers.can_read():
             return containers.read(path, out, watch)
-        except containers.Failed as error:
-            raise Container(str(error)) from None
+    except containers.Failed as error:
+        raise Container(str(error)) from None
     if not shutil.which("mkvextract") or kind != "WebM or Matroska":
         raise Container(f"{name} is a {kind} file: to take its packets out, install python3-av, ffmpeg or mkvtoolnix")
     containers.run(["mkvextract", checks.path(path), "tracks", f"0:{out}"], containers.part_of(path, [out], watch))
