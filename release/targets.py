@@ -60,6 +60,10 @@ class Target:
             return f"{PLACE}/{name}"
         return (self.place_of_library if name == self.library else self.place).format(name=name, build=build)
 
+    def places_of(self, name, build):
+        """Where it may be in a wheel: up to version 0.14.0 each library had a folder of its processor."""
+        return [self.place_of(name, build)] + ([f"{PLACE}/{build}/{name}"] if name == self.library else [])
+
     def wheel(self, version):
         """The name of the wheel of a version."""
         if not self.tags:

@@ -82,6 +82,7 @@ def program(version, name, cpu):
     path = DIST / target.wheel(version)
     try:
         with zipfile.ZipFile(path) as file:
-            return file.read(in_wheel(version, target.place_of(name, cpu)))
+            names = [in_wheel(version, place) for place in target.places_of(name, cpu)]
+            return file.read(next((place for place in names if place in file.namelist()), names[0]))
     except (OSError, KeyError, zipfile.BadZipFile) as error:
         raise Failed(f"{path} cannot be read: {error}") from None

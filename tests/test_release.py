@@ -183,8 +183,9 @@ def check_other(prefix, folder, target):
 def check_files(file, target):
     """A wheel has each program and library of its target, for this system; those for Linux need no dynamic linker. Returns what it says of its proof."""
     names, sentence = file.namelist(), ""
-    for path in [target.place_of(name, build) for name, build in target.made]:
-        expect(f"{path} in the wheel for {target.name}", f"wokureti-{VERSION}.data/{path}" in names, True)
+    made = [one for one in target.made if VERSION != "0.14.0" or one[0] in target.files]
+    for paths in [target.places_of(name, build) for name, build in made]:
+        expect(f"{paths[0]} in the wheel for {target.name}", any(f"wokureti-{VERSION}.data/{path}" in names for path in paths), True)
     for name in names:
         data = file.read(name)
         if data[:4] == b"\x7fELF":

@@ -491,7 +491,8 @@ def run_script(given, streams, script_of, inputs=()):
         stages.stage("opening the streams" if len(streams) > 1 else f"opening {os.fsdecode(streams[0])}")
         with cat.open_session(paths[0], paths[1:], edits, script, given.tables, program, given.anyway) as session:
             if script_of is not None:
-                session.request(f"script {script_of(exports.Frames(session.edits.contents()))}")
+                script = script_of(exports.Frames(session.edits.contents()))
+                session.request(f"script {exports.known(script, program)}")
             add_fades(given, session)
             stages.stage(f"exporting {session.count().frames:,} frames")
             out = exports.Output(given.out, not given.no_pad, given.sound, say, stages)

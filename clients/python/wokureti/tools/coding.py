@@ -11,10 +11,9 @@ import subprocess
 from array import array
 from typing import NamedTuple
 
-from . import exports, ivf, runs, times
+from . import exports, ivf, times
 from ..session.errors import Ended
 from ..session.frames import size_of
-from ..session.lines import is_refusal
 from ..session.origins import runs_of
 
 try:
@@ -26,8 +25,8 @@ except ImportError:
 USUAL = 45.0
 # Quantizers of the encoder, the finest one first; seconds that it may take for a run.
 FINEST, COARSEST, MOST_TIME = 0, 50, 3600
-# Frames that are asked for together, and nodes of a script.
-TOGETHER, MOST_NODES = 8, 16
+# Frames that are asked for together.
+TOGETHER = 8
 # Decibels of a frame that is the same.
 BEST = 99.0
 NO_ENCODER = "no encoder of VP8 was found: install ffmpeg (with libvpx), or vpx-tools, which has vpxenc. Nothing was written"
@@ -133,22 +132,7 @@ def script_of(pieces, coded, program):
         source, start = (coded, place) if piece.is_coded else (piece.source, piece.start)
         place += piece.count if piece.is_coded else 0
         triples.append((number[source], start, piece.count))
-    if knows_parts(program):
-        return "; ".join([*nodes, "parts " + " ".join(f"{node} {start} {count}" for node, start, count in triples)])
-    last = None
-    for node, start, count in triples:
-        nodes.append(f"trim {node} {start} {count}")
-        if last is not None:
-            nodes.append(f"splice {last} {len(nodes)}")
-        last = len(nodes)
-    if len(nodes) > MOST_NODES:
-        raise Failed(f"{program} has no script for {len(triples)} parts: install a newer vp8serve")
-    return "; ".join(nodes)
-
-
-def knows_parts(program):
-    """Whether a script of the program may have a node `parts`."""
-    return not is_refusal(runs.run([program, "-", "-", "-"], ["script parts 0 0 1"])[0])
+    return exports.known("; ".join([*nodes, "parts " + " ".join(f"{node} {start} {count}" for node, start, count in triples)]), program)
 
 
 # Coding

@@ -9,13 +9,16 @@ import time
 from typing import NamedTuple
 
 from .. import system
-from . import excerpts, files, ivf, muxing, opus, programs, progress, rooms, times
+from . import excerpts, files, ivf, muxing, opus, programs, progress, rooms, runs, times
 from ..session import checks
 from ..session.errors import Ended, Unexported
+from ..session.lines import is_refusal
 from ..session.origins import joined, runs_of
 
 # Streams that the programs read at a time, and frames that a stream has at most.
 MOST_STREAMS, MOST_FRAMES = 8, 1 << 20
+# Nodes of a script.
+MOST_NODES = 16
 MOST_TIME = 3600
 # Seconds between two looks at whether the program is done, or is to be ended; bytes that are written at a time.
 OFTEN, PIECE = 0.1, 1 << 20
@@ -145,6 +148,30 @@ def cut_script(frames, parts):
             raise Failed(f"there is no frame from {start or 'the beginning'} to {stop or 'the end'}: the stream has {frames.length_text()}")
         pieces.append(f"0 {first} {end - first}")
     return f"parts {' '.join(pieces)}"
+
+
+@functools.lru_cache
+def knows_parts(program):
+    """Whether a script of the program may have a node `parts`: version 0.14.0 has none."""
+    return not is_refusal(runs.run([program, "-", "-", "-"], ["script parts 0 0 1"])[0])
+
+
+def known(script, program):
+    """The script as the program knows it: in place of parts, which are its last node, trims that are spliced. `Failed` if these are too many nodes."""
+    *nodes, last = script.split("; ")
+    word, *numbers = last.split()
+    if word != "parts" or knows_parts(program):
+        return script
+    first = len(nodes) + 1
+    trims = [f"trim {' '.join(numbers[place : place + 3])}" for place in range(0, len(numbers), 3)]
+    nodes += trims
+    before = first
+    for piece in range(first + 1, first + len(trims)):
+        nodes.append(f"splice {before} {piece}")
+        before = len(nodes)
+    if len(nodes) > MOST_NODES:
+        raise Failed(f"{program} has no script for {len(trims)} parts: install a newer vp8serve")
+    return "; ".join(nodes)
 
 
 def frames_within(contents, served, text):
