@@ -136,9 +136,9 @@ export function nodesFor(shots, frames) {
   return [...nodes, partsText(parts.map(({ here, first, count }) => [here, first, count]))];
 }
 
-/** The node of frames of nodes, one part after the other: of each the node, its first frame and how many. One part is a trim. */
+/** The node of frames of nodes, one part after the other: of each the node, its first frame and how many. */
 export function partsText(parts) {
-  return `${parts.length === 1 ? "trim" : "parts"} ${parts.flat().join(" ")}`;
+  return `parts ${parts.flat().join(" ")}`;
 }
 
 /** The shots with frames `first` to `end` - 1 only; with all others; with these before frame `at`. Null if a boundary is inside a fade. */
