@@ -1,12 +1,8 @@
-pub mod PartSums
 pub mod Ramps
 pub mod Built
 pub mod TextParts
 pub mod Uses
-pub mod Splices
-pub mod PartTexts
-pub mod PartWords
-pub mod NodesRead
+pub mod PartsRead
 pub mod Counts
 pub mod Sizes
 pub mod Follows

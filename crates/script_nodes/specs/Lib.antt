@@ -1,4 +1,3 @@
-pub mod PartLists
 pub mod Nodes
 pub mod Faults
 pub mod Reading
