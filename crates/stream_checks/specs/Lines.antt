@@ -98,17 +98,11 @@ abbrev pub skipped_text : ℕ → ℕ → List ℕ
 skipped_text begins bytes = codes "byte " ++ decimal begins ++ codes ": " ++ decimal bytes ++ codes " bytes are no element, and are skipped"
 
 -- of a block of a WebM file
-abbrev pub block_start : ℕ → List ℕ
-block_start begins = codes "block at byte " ++ decimal begins ++ codes ": "
-
 abbrev pub laced_text : ℕ → List ℕ
-laced_text begins = block_start begins ++ codes "laced packets of the video, which are left out"
-
-abbrev pub track_text : ℕ → List ℕ
-track_text track = codes "track " ++ decimal track ++ codes ", which the file does not list"
+laced_text begins = codes "block at byte " ++ decimal begins ++ codes ": laced packets of the video, which are left out"
 
 abbrev pub unlisted_text : ℕ → ℕ → List ℕ
-unlisted_text begins track = block_start begins ++ track_text track
+unlisted_text begins track = codes "block at byte " ++ decimal begins ++ codes ": track " ++ decimal track ++ codes ", which the file does not list"
 
 abbrev pub webm_text : WebmTrouble → List ℕ
 webm_text (CutElement begins left) = cut_element_text begins left

@@ -78,16 +78,13 @@ cut_element_members begins left = byte_members (codes "cut_element") begins ++ n
 abbrev pub skipped_members : ℕ → ℕ → List ℕ
 skipped_members begins bytes = byte_members (codes "skipped") begins ++ number_member (codes "bytes") bytes
 
-abbrev pub laced_members : ℕ → List ℕ
-laced_members begins = byte_members (codes "laced_block") begins
-
 abbrev pub unlisted_members : ℕ → ℕ → List ℕ
 unlisted_members begins track = byte_members (codes "unlisted_block") begins ++ number_member (codes "track") track
 
 abbrev pub webm_members : WebmTrouble → List ℕ
 webm_members (CutElement begins left) = cut_element_members begins left
 webm_members (Skipped begins bytes) = skipped_members begins bytes
-webm_members (LacedBlock begins) = laced_members begins
+webm_members (LacedBlock begins) = byte_members (codes "laced_block") begins
 webm_members (UnlistedBlock begins track) = unlisted_members begins track
 
 -- the kind of a finding, and the numbers of its line

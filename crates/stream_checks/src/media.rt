@@ -69,12 +69,10 @@ fn write_gaps<W: Write>(
     ensures few { IfOk result (λ tally. tally.damage + tally.notes ≤ 16777217) }
 {
     let mut tally = Tally::none();
-    let mut rest = gaps;
-    while let Some((gap, following)) = rest.split_first() {
-        let trouble = gap_trouble(size, is_cut, *gap);
-        let more = write_found(w, form, found(Some(Trouble::InWebm(trouble))))?;
+    for gap in gaps {
+        let trouble = Trouble::InWebm(gap_trouble(size, is_cut, *gap));
+        let more = write_found(w, form, found(Some(trouble)))?;
         tally = tally.plus(more);
-        rest = following;
     }
     Ok(tally)
 }
@@ -93,11 +91,10 @@ fn write_blocks<W: Write>(
     ensures few { IfOk result (λ tally. tally.damage + tally.notes ≤ 16777216) }
 {
     let mut tally = Tally::none();
-    let mut rest = blocks;
-    while let Some((block, following)) = rest.split_first() {
-        let more = write_found(w, form, found(block_trouble(video, numbers, block)))?;
+    for block in blocks {
+        let trouble = block_trouble(video, numbers, block);
+        let more = write_found(w, form, found(trouble))?;
         tally = tally.plus(more);
-        rest = following;
     }
     Ok(tally)
 }

@@ -4,7 +4,7 @@ ghost use Rattle.std.specs.Prelude.{◌≡◌, ◌++◌, OnOk, codes};
 ghost use Rattle.std.specs.Io.KnownBytes.{Appends};
 ghost use Rattle.stream_facts.specs.Lines.{cause_text};
 ghost use Rattle.stream_facts.specs.Json.{number_member};
-ghost use Rattle.stream_checks.specs.Objects.{breaks_members, byte_members, cause_member, copy_members, cut_element_members, cut_members, field_member, kind_member, laced_members, object_of, partition_members, past_members, refused_members, severity_member, size_member, size_members, skipped_members, spot_members, stamp_members, tally_object, trouble_members, unlisted_members, unread_members, webm_members};
+ghost use Rattle.stream_checks.specs.Objects.{breaks_members, byte_members, cause_member, copy_members, cut_members, field_member, kind_member, object_of, partition_members, past_members, refused_members, severity_member, size_member, size_members, spot_members, stamp_members, tally_object, trouble_members, unread_members, webm_members};
 
 use crate::finding::{Finding, Spot, Tally, Trouble};
 use crate::webm_trouble::WebmTrouble;
@@ -205,41 +205,23 @@ fn write_byte<W: Write>(w: &mut W, kind: &str, begins: usize) -> Result<(), Writ
     write_number(w, "byte", begins as u64)
 }
 
-fn write_cut_element<W: Write>(w: &mut W, begins: usize, left: usize) -> Result<(), WriteFault>
-    ensures { OnOk result (Appends (W.contents w.old) (W.contents w.new) (cut_element_members begins left)) }
-{
-    write_byte(w, "cut_element", begins)?;
-    write_number(w, "left", left as u64)
-}
-
-fn write_skipped<W: Write>(w: &mut W, begins: usize, bytes: usize) -> Result<(), WriteFault>
-    ensures { OnOk result (Appends (W.contents w.old) (W.contents w.new) (skipped_members begins bytes)) }
-{
-    write_byte(w, "skipped", begins)?;
-    write_number(w, "bytes", bytes as u64)
-}
-
-fn write_laced<W: Write>(w: &mut W, begins: usize) -> Result<(), WriteFault>
-    ensures { OnOk result (Appends (W.contents w.old) (W.contents w.new) (laced_members begins)) }
-{
-    write_byte(w, "laced_block", begins)
-}
-
-fn write_unlisted<W: Write>(w: &mut W, begins: usize, track: u64) -> Result<(), WriteFault>
-    ensures { OnOk result (Appends (W.contents w.old) (W.contents w.new) (unlisted_members begins track)) }
-{
-    write_byte(w, "unlisted_block", begins)?;
-    write_number(w, "track", track)
-}
-
 fn write_webm<W: Write>(w: &mut W, trouble: WebmTrouble) -> Result<(), WriteFault>
     ensures { OnOk result (Appends (W.contents w.old) (W.contents w.new) (webm_members trouble)) }
 {
     match trouble {
-        WebmTrouble::CutElement { begins, left } => write_cut_element(w, begins, left),
-        WebmTrouble::Skipped { begins, bytes } => write_skipped(w, begins, bytes),
-        WebmTrouble::LacedBlock { begins } => write_laced(w, begins),
-        WebmTrouble::UnlistedBlock { begins, track } => write_unlisted(w, begins, track),
+        WebmTrouble::CutElement { begins, left } => {
+            write_byte(w, "cut_element", begins)?;
+            write_number(w, "left", left as u64)
+        }
+        WebmTrouble::Skipped { begins, bytes } => {
+            write_byte(w, "skipped", begins)?;
+            write_number(w, "bytes", bytes as u64)
+        }
+        WebmTrouble::LacedBlock { begins } => write_byte(w, "laced_block", begins),
+        WebmTrouble::UnlistedBlock { begins, track } => {
+            write_byte(w, "unlisted_block", begins)?;
+            write_number(w, "track", track)
+        }
     }
 }
 

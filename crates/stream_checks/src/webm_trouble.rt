@@ -2,11 +2,10 @@
 
 ghost use Rattle.std.specs.Prelude.{◌≡◌, OnOk};
 ghost use Rattle.std.specs.Io.KnownBytes.{Appends};
-ghost use Rattle.stream_checks.specs.Lines.{block_start, cut_element_text, laced_text, skipped_text, track_text, unlisted_text, webm_text};
+ghost use Rattle.stream_checks.specs.Lines.{cut_element_text, laced_text, skipped_text, unlisted_text, webm_text};
 ghost use Rattle.stream_checks.specs.Severity.{is_webm_damage};
 
 use std::io::Write;
-use stream_facts::write_text;
 use stream_files::WriteFault;
 
 /// What is found in a WebM file besides its packets. Each begins at a byte of the file.
@@ -51,30 +50,24 @@ fn write_skipped<W: Write>(w: &mut W, begins: usize, bytes: usize) -> Result<(),
     .map_err(|_| WriteFault::Write)
 }
 
-fn write_block_start<W: Write>(w: &mut W, begins: usize) -> Result<(), WriteFault>
-    ensures { OnOk result (Appends (W.contents w.old) (W.contents w.new) (block_start begins)) }
-{
-    write!(w, "block at byte {begins}: ").map_err(|_| WriteFault::Write)
-}
-
 fn write_laced<W: Write>(w: &mut W, begins: usize) -> Result<(), WriteFault>
     ensures { OnOk result (Appends (W.contents w.old) (W.contents w.new) (laced_text begins)) }
 {
-    write_block_start(w, begins)?;
-    write_text(w, "laced packets of the video, which are left out")
-}
-
-fn write_track<W: Write>(w: &mut W, track: u64) -> Result<(), WriteFault>
-    ensures { OnOk result (Appends (W.contents w.old) (W.contents w.new) (track_text track)) }
-{
-    write!(w, "track {track}, which the file does not list").map_err(|_| WriteFault::Write)
+    write!(
+        w,
+        "block at byte {begins}: laced packets of the video, which are left out"
+    )
+    .map_err(|_| WriteFault::Write)
 }
 
 fn write_unlisted<W: Write>(w: &mut W, begins: usize, track: u64) -> Result<(), WriteFault>
     ensures { OnOk result (Appends (W.contents w.old) (W.contents w.new) (unlisted_text begins track)) }
 {
-    write_block_start(w, begins)?;
-    write_track(w, track)
+    write!(
+        w,
+        "block at byte {begins}: track {track}, which the file does not list"
+    )
+    .map_err(|_| WriteFault::Write)
 }
 
 /// Writes what is found, as the line of its finding has it.

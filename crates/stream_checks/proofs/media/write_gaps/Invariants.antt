@@ -1,4 +1,4 @@
-use Rattle.std.proofs.Common.{◌≡◌, ◌+◌, ◌≤◌, ◌++◌, List, length}
+use Rattle.std.proofs.Common.{◌≡◌, ◌+◌, ◌≤◌, ◌++◌, List, drop}
 use Rattle.std.specs.Io.KnownBytes.{Appends}
 use Rattle.stream_checks.specs.declared.finding.Finding.{Finding}
 use Rattle.stream_checks.specs.Media.{gap_findings}
@@ -9,11 +9,8 @@ use Rattle.stream_checks.proofs.media.write_gaps.Given as goal
 abbrev pub invariant-loop-gap : goal.invariant-loop-gap
 invariant-loop-gap g l = record {
   done : List Finding;
-  whole : done ++ gap_findings l.size l.is_cut l.rest ≡ gap_findings l.size l.is_cut l.gaps;
+  whole : done ++ gap_findings l.size l.is_cut (drop l.gap-index l.gaps) ≡ gap_findings l.size l.is_cut l.gaps;
   said : Appends (g.W.Write.contents l.fn.w) (g.W.Write.contents l.w) (texts_of l.form done);
   counted : l.tally ≡ tally_of done;
-  few : l.tally.damage + l.tally.notes + length l.rest ≤ length l.gaps;
+  few : l.tally.damage + l.tally.notes ≤ l.gap-index;
 }
-
-abbrev pub decreases-loop-gap : goal.decreases-loop-gap
-decreases-loop-gap g l = length l.rest
