@@ -1,3 +1,7 @@
+use Rattle.std.proofs.Common.{List, ◌++◌}
+use Rattle.std.specs.Io.KnownBytes.{Appends}
+use Rattle.stream_checks.specs.declared.finding.Finding.{Finding}
+use Rattle.stream_checks.specs.Texts.{texts_of}
 use Rattle.stream_checks.proofs.Parts.{two_texts}
 use Rattle.stream_checks.proofs.media.write_media.Goals as goal
 
