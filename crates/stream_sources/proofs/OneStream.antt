@@ -1,5 +1,5 @@
 -- Bytes have one stream, with few packets, and at most one error.
-use Rattle.std.proofs.Common.{◌≡◌, ℕ, ◌≤◌, Bool, true, false, List, Option, None, length, unwrap_or, sym, ap, subst, refl, ◌∙◌, ◌↔◌}
+use Rattle.std.proofs.Common.{◌≡◌, ℕ, ◌≤◌, Bool, true, false, List, Option, None, length, sym, ap, subst, refl, ◌∙◌, ◌↔◌}
 use Rattle.std.proofs.lemmas.List.{length-map}
 use Rattle.std.specs.List.{filter}
 use Rattle.std.specs.Option.{ForSome}
@@ -76,10 +76,8 @@ source_few bytes source is = few bytes source.stream (source_is_stream bytes sou
 
 -- little is kept of a WebM file
 kept_by : (marked : Bool) (bytes : List ℕ) (source : Source) → IsSourceBy marked bytes source → ForSome source.media IsFewKept
-kept_by true bytes source is = λ media some.
-    let same : is.0.media ≡ media = ap (λ (kept : Option Kept). unwrap_or kept is.0.media) (sym is.3 ∙ some) in
-    subst IsFewKept same (few_kept bytes is.0 is.1)
-kept_by false bytes source is = λ media some. cc
+kept_by true bytes source is = subst (λ (media : Option Kept). ForSome media IsFewKept) (sym is.3) (few_kept bytes is.0 is.1)
+kept_by false bytes source is = subst (λ (media : Option Kept). ForSome media IsFewKept) (sym is.1) tt
 
 pub source_kept : (bytes : List ℕ) (source : Source) → IsSource bytes source → ForSome source.media IsFewKept
 source_kept bytes source is = kept_by (is_marked bytes) bytes source is

@@ -100,8 +100,7 @@ pub fn source_share(alloc: Global, file: &RcSlice<u8>) -> Result<Source, StreamF
 pub fn stream_read_from<B: FileBytes>(alloc: Global, file: &B) -> Result<Stream, StreamFault>
     ensures { StreamAnswers (B.bytes file.now) result }
 {
-    let source = source_read_from(alloc, file)?;
-    let Source { stream, media: _ } = source;
+    let Source { stream, media: _ } = source_read_from(alloc, file)?;
     Ok(stream)
 }
 
