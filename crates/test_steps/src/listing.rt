@@ -84,25 +84,3 @@ fn lists_packets(rt: HostRuntime) -> Result<(), Fail> {
         12\t11\t17\t3\tinter\tshown\t0\t-\t1\t-\t-\t-\t-\t-\t-\tFirstPartition\t252\t-\t-\t-\n";
     expect_lines(&rt, rt.alloc(), &texts, lines)
 }
-
-// Packets that are at other bytes of a file than those of an IVF file's records.
-#[test]
-fn lists_packets_at_other_bytes(rt: HostRuntime) -> Result<(), Fail> {
-    let bytes = file_of(rt.alloc(), &[[0x11, 0, 0].as_slice(), &[]])?;
-    let file = ivf_read(rt.alloc(), bytes.as_slice())?;
-    let mut begins = Vec::new(rt.alloc());
-    begins.push(700)?;
-    begins.push(100)?;
-    let mut output = Vec::new(rt.alloc());
-    write_listing(
-        &mut output,
-        &Places::Listed(begins),
-        file.packets.as_slice(),
-    )?;
-    let text = str::from_utf8(output.as_slice())?;
-    let lines = "\
-        0\t0\t5\t3\tinter\tshown\t0\t-\t0\t-\t-\t-\t-\t-\t-\tNoKeyFrame\t700\t-\t-\t-\n\
-        1\t1\t6\t0\t-\tshown\t-\t-\t-\t-\t-\t-\t-\t-\t-\tlost\t100\t-\t-\t-\n";
-    assert_eq!(rt; text.strip_prefix(HEAD), Some(lines));
-    Ok(())
-}
