@@ -1,2 +1,1 @@
 pub mod Flushed
-pub mod IvfLists

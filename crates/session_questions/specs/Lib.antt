@@ -3,5 +3,4 @@ pub mod Findings
 pub mod FindingLaws
 pub mod Kept
 pub mod Lines
-pub mod LineLaws
 pub mod Places

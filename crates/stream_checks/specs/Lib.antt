@@ -4,7 +4,6 @@ pub mod Severity
 pub mod Stamps
 pub mod Partitions
 pub mod Packets
-pub mod Media
 pub mod Files
 pub mod Lines
 pub mod Objects

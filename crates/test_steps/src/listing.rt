@@ -1,7 +1,7 @@
 use std::alloc::Global;
 use std::process::Abort;
 use std::test::Fail;
-use stream_facts::{Places, write_listing};
+use stream_facts::write_listing;
 use stream_files::{Head, ivf_packet, ivf_read, ivf_start};
 
 const HEAD: &str =
@@ -27,8 +27,7 @@ fn file_of(alloc: Global, texts: &[&[u8]]) -> Result<Vec<u8>, Fail> {
 fn list_of(alloc: Global, bytes: &[u8]) -> Result<Vec<u8>, Fail> {
     let file = ivf_read(alloc, bytes)?;
     let mut output = Vec::new(alloc);
-    let places = Places::of_ivf(bytes);
-    write_listing(&mut output, &places, file.packets.as_slice())?;
+    write_listing(&mut output, bytes, &file)?;
     Ok(output)
 }
 

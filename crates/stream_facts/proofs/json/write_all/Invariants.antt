@@ -1,0 +1,15 @@
+use Rattle.std.proofs.Common.{◌≡◌, ◌≤◌, List, ℕ, ◌++◌, drop}
+use Rattle.std.specs.List.{flat_map}
+use Rattle.std.specs.Io.KnownBytes.{Appends}
+use Rattle.stream_facts.specs.Facts.{facts_from}
+use Rattle.stream_facts.specs.Json.{object_of, objects_of}
+use Rattle.stream_facts.proofs.json.write_all.Given as goal
+
+abbrev pub invariant-loop-packet : goal.invariant-loop-packet
+invariant-loop-packet g l = record {
+  done : List ℕ;
+  whole : done ++ flat_map object_of (facts_from l.position (drop l.packet-index l.packets)) ≡ objects_of l.begins l.packets;
+  said : Appends (g.W.Write.contents l.fn.w) (g.W.Write.contents l.w) done;
+  packets : l.position.packets ≡ l.packet-index;
+  frames : l.position.frames ≤ l.position.packets;
+}
