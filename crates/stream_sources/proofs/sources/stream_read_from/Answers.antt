@@ -1,5 +1,0 @@
-use Rattle.stream_sources.proofs.OneStream.{source_is_stream}
-use Rattle.stream_sources.proofs.sources.stream_read_from.Goals as goal
-
-pub returns : goal.returns
-returns g c = source_is_stream _ c.in_ok.source c.in_ok.ensures
