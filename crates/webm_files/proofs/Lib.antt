@@ -7,8 +7,6 @@ pub mod SurveyLemmas
 pub mod GapLemmas
 pub mod BlockLemmas
 pub mod FileLemmas
-pub mod KeptPackets
-pub mod FewKept
 pub mod RateLemmas
 pub mod OneFile
 pub mod NotIvf

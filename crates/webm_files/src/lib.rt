@@ -24,5 +24,4 @@ pub use files::{
 };
 pub use gaps::Gap;
 pub use media::Media;
-pub use packets::{is_listed, is_packet};
 pub use rates::frame_rate;
