@@ -17,6 +17,8 @@ from ..session.origins import joined, runs_of
 
 # A script has 16 nodes: a part is a trim, and all but the first one are spliced.
 MOST_PARTS, MOST_STREAMS = 8, 8
+# Nodes of a script.
+MOST_NODES = 16
 MOST_TIME = 3600
 # Seconds between two looks at whether the program is done, or is to be ended; bytes that are written at a time.
 OFTEN, PIECE = 0.1, 1 << 20
