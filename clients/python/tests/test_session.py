@@ -340,7 +340,7 @@ class Broken(Case):
             Session(__file__)
         self.assertEqual((ended.exception.status, ended.exception.text), (1, f"{__file__} is no stream of VP8: it looks like a text; name a stream; a list of edits is named with --edits"))
         self.assertIsInstance(ended.exception, (Ended, ValueError))
-        with self.assertRaisesRegex(NotVideo, "given-1 is no stream of VP8: it looks like an empty file"):
+        with self.assertRaisesRegex(NotVideo, "source 1 is no stream of VP8: it looks like an empty file"):
             Session("-", sources=[b""])
 
     def test_the_number_of_cached_states(self):

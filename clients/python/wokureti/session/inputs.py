@@ -11,7 +11,8 @@ import weakref
 
 from . import checks
 from .. import system
-from ..tools import containers, convert, ivf, rooms, times
+from ..tools import containers, convert, ivf, looks, rooms, times
+from .errors import NotVideo
 
 # Bytes that are read at a time.
 WINDOW = 1 << 20
@@ -225,6 +226,15 @@ class Inputs:
                 shutil.copyfileobj(content, file, 1 << 20)
             else:
                 file.write(content)
+        with open(path, "rb") as file:
+            head = file.read(ivf.HEAD.size)
+        try:
+            if convert.kind_of(head) is None:
+                ivf.parse_head(head)
+        except ivf.NotIvf as error:
+            # The file has no name that says anything, and is gone when the program has reported it.
+            name = f"source {len(self.paths)}" if self.paths else "the stream"
+            raise NotVideo(1, looks.sentence(path, name, error)) from None
         return path
 
     def taken_out(self, path):
