@@ -38,7 +38,12 @@ export function stepOf(file) {
   return steps.length ? middle(steps) : 1;
 }
 
+/** The frames a second of a file as a pair, by the time stamps of its shown packets. */
 export function rateOf(file) {
+  return (file.rate ??= foundRate(file));
+}
+
+function foundRate(file) {
   const [rate, scale] = baseOf(file.head);
   const shown = shownStamps(file);
   const steps = forward(shown);

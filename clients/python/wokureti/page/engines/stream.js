@@ -285,7 +285,8 @@ export class Stream {
   served() {
     if (!this.runs) {
       const frames = this.files.map((_, source) => this.timeline(source).shown);
-      this.runs = new Runs(this.scriptText === "-" ? [{ source: 0, first: 0, count: frames[0] }].filter(({ count }) => count) : shotsOf(this.scriptText, frames).shots, (source) => this.timeline(source));
+      const { shots } = shotsOf(this.scriptText, frames);
+      this.runs = new Runs(shots, (source) => this.timeline(source));
     }
     return this.runs;
   }
@@ -313,19 +314,47 @@ export class Stream {
     return this.files[source].name.replace(/\.[^.]*$/, "");
   }
 
-  state() {
+  /** The edits, the last ones, line by line. */
+  edits() {
     const lines = this.steps.flatMap((step, place) => step.lines.map((line, turn) => ({ line: line.slice(0, MOST_LINE), step: place, title: turn ? "" : step.title })));
     const told = lines.slice(-MOST_EDITS);
-    const saves = this.savesOf();
     return {
-      revision: this.revision, changes: this.changes, instance: this.instance, names: this.files.map(({ name }) => name), packets: this.contents.streams[0].length,
-      frames: this.frameCount, rate: (this.rate ??= rateOf(this.files[0])), varies: false, sounds: false, sources: this.contents.streams.map(({ length }) => length), source: this.session.current,
-      script: this.scriptText, edits_before: lines.length - told.length, edits: told.map(({ line }) => line), steps: told.map(({ step }) => step),
+      edits_before: lines.length - told.length,
+      edits: told.map(({ line }) => line),
+      steps: told.map(({ step }) => step),
       titles: Object.fromEntries(told.map(({ title }, place) => [place, title]).filter(([, title]) => title)),
       undone: [...this.undone].reverse().flatMap((step) => step.lines.map((line) => line.slice(0, MOST_LINE))).slice(0, MOST_EDITS),
-      saved: saves.every(({ saved }) => saved), saves, exports: true, changing: this.changing(), list: "this browser", again: null, unwritten: this.unwritten, notices: this.notices,
-      listed: this.causes.isWhole, restarts: this.restarts, shown: this.timeline(0).shown, source_frames: this.files.map((_, source) => this.timeline(source).shown),
-    }; // prettier-ignore
+    };
+  }
+
+  state() {
+    const saves = this.savesOf();
+    return {
+      revision: this.revision,
+      changes: this.changes,
+      instance: this.instance,
+      names: this.files.map(({ name }) => name),
+      packets: this.contents.streams[0].length,
+      frames: this.frameCount,
+      rate: rateOf(this.files[0]),
+      varies: false,
+      sources: this.contents.streams.map(({ length }) => length),
+      source: this.session.current,
+      script: this.scriptText,
+      ...this.edits(),
+      saved: saves.every(({ saved }) => saved),
+      saves,
+      exports: true,
+      changing: this.changing(),
+      list: "this browser",
+      again: null,
+      unwritten: this.unwritten,
+      notices: this.notices,
+      listed: this.causes.isWhole,
+      restarts: this.restarts,
+      shown: this.timeline(0).shown,
+      source_frames: this.files.map((_, source) => this.timeline(source).shown),
+    };
   }
 
   tile({ source, first, per, count }) {

@@ -15,7 +15,21 @@ const LARGE = 1 << 29;
 const find = (id) => document.getElementById(id);
 
 /** What the engine has: the workers, the files, and the state that was told last. */
-const own = { module: null, main: null, beside: null, timer: 0, sources: [], about: null, session: null, opening: null, only: "", heard: () => {}, found: () => {}, release: async () => {} };
+const own = {
+  module: null,
+  main: null,
+  beside: null,
+  timer: 0,
+  sources: [],
+  about: null,
+  session: null,
+  // The part of a file that is read, or null, and why this page only looks.
+  opening: null,
+  only: "",
+  heard: () => {},
+  found: () => {},
+  release: async () => {},
+};
 let isOpen;
 const opened = new Promise((resolve) => (isOpen = resolve));
 
@@ -99,6 +113,7 @@ async function open(sources) {
     reading(null);
   }
   own.session = await fresh.call("state");
+  await fresh.call("begin");
   find("welcome").hidden = true;
   document.body.classList.remove("is-empty");
   isOpen();

@@ -16,6 +16,7 @@ let beside = null;
 // What was told of the check.
 let told = { check: null, count: 0, state: "", at: 0 };
 let isSoon = false;
+let isHeard = false;
 
 function report(part) {
   self.postMessage({ event: "opening", part });
@@ -32,6 +33,10 @@ const calls = {
     return found;
   },
   take: (text) => stream.take(text),
+  // From now on the page hears what the check finds.
+  begin() {
+    isHeard = true;
+  },
   beside(sources) {
     beside = new Beside(module, sources);
   },
@@ -58,7 +63,7 @@ for (const name of ["before", "frames", "packet", "findings", "export"]) calls[`
 /** Goes on with what nobody waits for. */
 function goOn() {
   isSoon = false;
-  if (!stream) return;
+  if (!stream || !isHeard) return;
   let isMore = false;
   try {
     if (!stream.causes.isWhole) {
