@@ -21,7 +21,7 @@ FILE = pathlib.Path(__file__).resolve().parent / "results.txt"
 HEAD = "# script and arguments | total | version that was compared | day; written by results.py\n"
 SILENT = {"--quiet", "--help", "-h"}
 # Options that say how many, and make no other kind of run.
-SIZES = {"--cuts", "--files", "--lists", "--reads", "--scripts", "--seed"}
+SIZES = {"--captures", "--cuts", "--files", "--lists", "--reads", "--scripts", "--seed"}
 # Scripts change the current folder.
 PROGRAMS = [path.resolve() for path in (VP8SERVE, VP8LIST)]
 # Seconds to wait for another run, which may have been stopped while it writes.

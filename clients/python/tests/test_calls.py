@@ -96,6 +96,7 @@ class Formats(CallCase):
         sound = [rtp(place, place * 160, random_bytes.randbytes(160), kind=0) for place in range(200)]
         for data, text in (
             (pcap(on_network(secret)), "encrypted (SRTP)"),
+            (b"no capture, but long enough for a head", "does not begin as a capture"),
             (pcap(on_network([b"\x16\xfe\xfd" + bytes(40), *opus])), "encrypted (SRTP)"),
             (pcap(on_network(opus)), "none of its streams of RTP is VP8 with a key packet: they are payload type 111"),
             (pcap(on_network(sound)), "they are G.711 sound"),
@@ -108,7 +109,7 @@ class Formats(CallCase):
         ):
             said = self.refusal(data)
             self.assertIn(text, said)
-            self.assertTrue(said.startswith("call.pcap is a "), said)
+            self.assertTrue(said.startswith(("call.pcap is a ", "call.pcap: it does not")), said)
         status, out, errors = command("cat", self.write(pcap(on_network(secret)), "secret.pcap"), "-")
         self.assertEqual((status, out, "secret.pcap is a pcap file" in errors, "encrypted" in errors), (2, b"", True, True), errors)
 

@@ -76,6 +76,8 @@ def kind_of(head):
 def read(data):
     """The capture of these bytes. `NotRead` if it is of a link that is not read here, or of no video."""
     kind = kind_of(bytes(data[:16]))
+    if kind is None:
+        raise NotRead("it does not begin as a capture")
     capture = Capture(kind)
     {"pcap": read_pcap, "pcapng": read_pcapng, "rtpdump": read_rtpdump, "Janus recording": read_janus}[kind](data, capture)
     if capture.other_links and not capture.datagrams:

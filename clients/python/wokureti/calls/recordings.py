@@ -89,7 +89,8 @@ def choose(path, name, number=None, is_quiet=True):
         capture = captures.read(load(path))
         streams = rtp.Streams(capture)
     except NotRead as error:
-        raise NotRead(f"{name} is a {captures.kind_of(load(path)[:16].tobytes())} file: {error}") from None
+        kind = captures.kind_of(load(path)[:16].tobytes())
+        raise NotRead(f"{name} is a {kind} file: {error}" if kind else f"{name}: {error}") from None
     found = streams.of_vp8()
     if not found:
         why = "its packets were not captured to their end (tcpdump -s 0 captures whole ones)" if capture.short > len(capture.datagrams) / 2 else streams.why_none()
