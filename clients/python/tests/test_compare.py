@@ -217,7 +217,7 @@ class Compare(Case):
             (b"YUV4MPEG2 " + b"x" * 10000, "no end"),
             (b"", "no IVF file"),
             (b"text", "no IVF file"),
-            (b"DKIF" + bytes(100), "FourCc"),
+            (b"DKIF" + bytes(100), "standard input: it is an IVF file of another codec than VP8"),
         ):
             status, out, errors = command("compare", self.one, "-", given=data)
             self.assertEqual((status, out, words in errors), (2, b"", True), errors)

@@ -84,6 +84,7 @@ def opened(name, folder, tables=None):
                 with open(path, "wb") as copy:
                     copy.write(head)
                     shutil.copyfileobj(file, copy, 1 << 20)
+                check_head(path, "standard input" if name == "-" else name)
             frames, ivf_path = of_stream(path, tables), path
         elif convert.kind_of(head) is not None:
             copied = convert.new_name(folder, "spooled")
@@ -97,6 +98,15 @@ def opened(name, folder, tables=None):
             raise ValueError(f"{name} is no IVF file of VP8, and no YUV4MPEG2 text{look}")
         with contextlib.closing(frames):
             yield frames, ivf_path
+
+
+def check_head(path, name):
+    """`ValueError` if a copy of what is called `name` does not begin as a stream."""
+    try:
+        with open(path, "rb") as file:
+            ivf.parse_head(file.read(ivf.HEAD.size))
+    except ivf.NotIvf as error:
+        raise ValueError(looks.sentence(path, name, error)) from None
 
 
 def peek(file):
