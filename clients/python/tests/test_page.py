@@ -567,7 +567,7 @@ class Steps(PageCase):
 
     def test_numbers(self):
         self.serve()
-        for path in ("/timeline?per=0", "/timeline?count=0", "/timeline?count=5000", f"/timeline?per={1 << 21}", "/timeline?first=x", "/timeline?x=1", "/origins?from=-1", "/place?packet=x", "/check?from=x", "/differs?from=x", "/session?x=1", "/progress?x=1", "/repairs?packet=x", "/stream.ivf?x=1", "/repair_all?x=1"):
+        for path in ("/timeline?per=0", "/timeline?count=0", "/timeline?count=5000", f"/timeline?per={1 << 21}", "/timeline?first=x", "/timeline?x=1", "/origins?from=-1", "/place?packet=x", "/check?from=x", "/session?x=1", "/progress?x=1", "/repairs?packet=x", "/stream.ivf?x=1", "/repair_all?x=1"):
             self.assertEqual(self.ask(path)[0], 400, path)
         self.assertEqual(self.members(f"/timeline?first={10**17}")["kinds"], "")
         for path in ("/timeline?source=1", "/place?source=1", "/before/frames/x.y4m", "/before/frames/-1.y4m", f"/before/frames/{'9' * 40}.y4m", "/before/frames", "/before/frames/0.y4m/x"):
