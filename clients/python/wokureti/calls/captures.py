@@ -88,6 +88,16 @@ def read(data):
 # The files
 
 
+def resume(capture, place, others):
+    """The first of the other places, from which reading goes on after damage at a place; None if there is none, and then the capture ends there."""
+    found = next(others, None)
+    if found is None:
+        capture.end = place
+    else:
+        capture.gaps.append((place, found))
+    return found
+
+
 def read_pcap(data, capture):
     """pcap: a header of 24 bytes, and for each packet a record of 16 and its bytes."""
     order, size, place, last = PCAP[bytes(data[:4])], len(data), 24, None
@@ -99,12 +109,9 @@ def read_pcap(data, capture):
     while place < size:
         found = pcap_record(data, record, place, last)
         if found is None:
-            resumed = next((at for at in range(place + 1, size - record.size) if follows(data, record, at, last)), None)
-            if resumed is None:
-                capture.end = place
+            place = resume(capture, place, (at for at in range(place + 1, size - record.size) if follows(data, record, at, last)))
+            if place is None:
                 return
-            capture.gaps.append((place, resumed))
-            place = resumed
             continue
         last, captured, length = found
         start = place + record.size
@@ -142,12 +149,9 @@ def read_pcapng(data, capture):
     while place < size:
         found = block_at(data, order, place)
         if found is None:
-            resumed = next((at for at in range(place + 4 - place % 4, size - 12, 4) if is_chain(data, order, at)), None)
-            if resumed is None:
-                capture.end = place
+            place = resume(capture, place, (at for at in range(place + 4 - place % 4, size - 12, 4) if is_chain(data, order, at)))
+            if place is None:
                 return
-            capture.gaps.append((place, resumed))
-            place = resumed
             continue
         order, kind, start, end = found
         if kind == 0x0A0D0D0A:
