@@ -3,7 +3,7 @@
 
     compare/exports.py [--scripts N] [--joins N] [--seed S] [--no-ffmpeg] [--model] [FILE ..]
 
-Each script trims and splices one or two clips of one size, with repeated frames and frames in reverse order. Each clip is taken once as it is
+Each script trims and splices one or two clips of one size, or has parts of them, with repeated frames and frames in reverse order. Each clip is taken once as it is
 and once with packets of no bytes among its packets, as an encoder that drops frames writes them. The packets of a script are those of the
 definition: a lead of hidden packets from the packet after the last one, or from the last key packet, and then the frame's own packet, or a
 hold packet. The program must write exactly these, with the time stamps and the head of their durations, by exact fractions. vpxdec and ffmpeg decode what it wrote: their frames must be
@@ -149,6 +149,10 @@ def random_script(dice, clips):
         parts.append(len(frames) - 1)
     if dice.random() < 0.5:
         parts.append(dice.choice(parts))
+    if dice.random() < 0.5:
+        pieces = [(part, 0 if place == 0 else dice.randrange(3), dice.choice([1, 2, 3, 9])) for place, part in enumerate(parts)]
+        nodes.append(f"parts {' '.join(f'{part} {first} {count}' for part, first, count in pieces)}")
+        return "; ".join(nodes), [frame for part, first, count in pieces for frame in frames[part][first : first + count]]
     whole = parts[0]
     for part in parts[1:]:
         if len(nodes) == 16:

@@ -124,10 +124,10 @@ def check_span(path, span):
 
 def check_formats():
     texts = {
-        "a.webm": (b"\x1a\x45\xdf\xa3" + bytes(40), "a WebM or Matroska file: ffmpeg -i {0} -an -c copy -copyts out.ivf\n"),
-        "b.mp4": (b"\0\0\0\x20ftypisom" + bytes(40), "an MP4 file; if its video is VP8: ffmpeg -i {0} -an -c copy out.ivf\n"),
-        "c.avi": (b"RIFF\x24\xa3\0\0AVI LIST" + bytes(40), "an AVI file; if its video is VP8: ffmpeg -i {0} -an -c copy out.ivf\n"),
-        "d.y4m": (b"YUV4MPEG2 W2 H2\nFRAME\n" + bytes(6), "a YUV4MPEG2 file, whose frames are not coded: ffmpeg -i {0} -c:v libvpx out.ivf\n"),
+        "a.webm": (b"\x1a\x45\xdf\xa3" + bytes(40), "{0} begins as a WebM file, but its EBML header is cut off or damaged\n"),
+        "b.mp4": (b"\0\0\0\x20ftypisom" + bytes(40), "{0} is an MP4 file; if its video is VP8: ffmpeg -i {0} -an -c copy out.ivf\n"),
+        "c.avi": (b"RIFF\x24\xa3\0\0AVI LIST" + bytes(40), "{0} is an AVI file; if its video is VP8: ffmpeg -i {0} -an -c copy out.ivf\n"),
+        "d.y4m": (b"YUV4MPEG2 W2 H2\nFRAME\n" + bytes(6), "{0} is a YUV4MPEG2 file, whose frames are not coded: ffmpeg -i {0} -c:v libvpx out.ivf\n"),
     }
     with tempfile.TemporaryDirectory() as folder:
         for name, (text, said) in texts.items():
@@ -137,8 +137,8 @@ def check_formats():
                 status, output, errors = ran(*words, "--check", stdin=text)
                 first, second, *_ = errors.splitlines(keepends=True)
                 where = words[0]
-                cause = "Header" if len(text) < 32 else "Magic"
-                expect(f"{name} {where}", (status, output, first, second), (2, "", f"vp8list: input {cause}\n", f"{where} is {said.format(where)}"))
+                cause = "Header" if name == "a.webm" or len(text) < 32 else "Magic"
+                expect(f"{name} {where}", (status, output, first, second), (2, "", f"vp8list: input {cause}\n", said.format(where)))
 
 
 def served(path, *words):
@@ -218,7 +218,7 @@ def check_lines_of_messages():
         for name, text in texts.items():
             (pathlib.Path(folder) / name).write_bytes(text)
         done = subprocess.run([LIST, "a\nb.webm"], cwd=folder, capture_output=True, timeout=60, check=False)
-        said = "vp8list: input Magic\na?b.webm is a WebM or Matroska file: ffmpeg -i a?b.webm -an -c copy -copyts out.ivf\n"
+        said = "vp8list: input Header\na?b.webm begins as a WebM file, but its EBML header is cut off or damaged\n"
         expect("a WebM file of two lines", (done.returncode, done.stdout, done.stderr.decode()), (2, b"", said))
         done = subprocess.run([SERVE, "c\nd.ivf", "--explain"], cwd=folder, input=b"", capture_output=True, timeout=60, check=False)
         said = "c?d.ivf has the codec V?X8, not VP80, and has to be coded again, which changes each frame: ffmpeg -i c?d.ivf -an -c:v libvpx out.ivf"

@@ -256,7 +256,7 @@ FUNCTIONS = """
       findings.ordered([{ severity: "note" }, { severity: "damage" }]).map(({ place }) => place), keys.nameOf({ key: "Z", ctrlKey: true, shiftKey: true }), keys.nameOf({ key: "?", shiftKey: true }),
       engine.sizeOf(175, 143), loupe.textAt(frame, other, 1, 1),
       anew("-"), anew("trim 0 10 20; trim 1 5 100"), anew("source 1; splice 0 1; trim 2 90 20; trim 2 110 20; splice 3 4"), anew("trim 0 0 50; fade 1 40 10 256 0; trim 0 50 50; fade 3 0 5 0 256; splice 2 4"),
-      anew("crop 0 0 0 2 2; trim 1 0 5"), anew("fade 0 10 10 256 0"), anew("fade 0 0 10 0 256; trim 1 5 20"), anew("trim 0 0 0"), anew("trim 0 0 5; splice 1 1"), anew("source 1; splice 0 1; trim 2 0 0; splice 2 0"),
+      anew("crop 0 0 0 2 2; trim 1 0 5"), anew("fade 0 10 10 256 0"), anew("fade 0 0 10 0 256; trim 1 5 20"), anew("trim 0 0 0"), anew("trim 0 0 5; splice 1 1"), anew("source 1; splice 0 1; trim 2 0 0; splice 2 0"), anew("parts 0 5 10 0 0 0 0 40 90; parts 1 2 10 1 20 5"),
       after((found) => shots.kept(found, { first: 5, end: 9 })), after((found) => shots.without(found, { first: 5, end: 9 })), after((found) => shots.moved(found, { first: 5, end: 9 }, 20)), after((found) => shots.moved(found, { first: 20, end: 22 }, 3)),
       after((found) => shots.moved(found, { first: 5, end: 9 }, 100)), after((found) => shots.without(found, { first: 5, end: 9 }), "fade 0 0 10 0 256"), after((found) => shots.without(found, { first: 10, end: 12 }), "fade 0 0 10 0 256"),
       after((found) => shots.fading(found, { first: 90, end: 100 }, false)), after((found) => shots.fading(found, { first: 0, end: 100 }, true)),
@@ -285,19 +285,19 @@ RESULTS = [
     [1, 0], "Ctrl+Shift+Z", "?",
     175 * 143 + 2 * 88 * 72, "x 1, y 1\nY 81  U 90  V 240\nbefore 80  90  238\nRGB 254, 0, 0\nmacroblock 0, 0",
     # Scripts that are written anew from their shots.
-    ["", True], ["trim 0 15 15", True], ["trim 0 90 10; source 1; trim 2 0 30; splice 1 3", True],
-    ["trim 0 0 50; fade 1 40 10 256 0; trim 0 50 50; fade 3 0 5 0 256; splice 2 4", True],
-    ["trim 0 0 5", False], ["", False], ["trim 0 5 20", False], ["trim 0 0 0", True], ["trim 0 0 5; splice 1 1", True], ["source 1; splice 0 1; splice 2 0", True],
-    "trim 0 5 4", "trim 0 0 5; trim 0 9 91; splice 1 2", "trim 0 0 5; trim 0 9 11; splice 1 2; trim 0 5 4; splice 3 4; trim 0 20 80; splice 5 6", "trim 0 0 3; trim 0 20 2; splice 1 2; trim 0 3 17; splice 3 4; trim 0 22 78; splice 5 6",
-    "trim 0 0 5; trim 0 9 91; splice 1 2; trim 0 5 4; splice 3 4", None, "trim 0 0 10; fade 1 0 10 0 256; trim 0 12 88; splice 2 3",
+    ["", True], ["trim 0 15 15", True], ["source 1; parts 0 90 10 1 0 30", True],
+    ["trim 0 0 50; fade 1 40 10 256 0; trim 0 50 50; fade 3 0 5 0 256; parts 2 0 50 4 0 50", True],
+    ["trim 0 0 5", False], ["", False], ["trim 0 5 20", False], ["trim 0 0 0", True], ["parts 0 0 5 0 0 5", True], ["source 1; parts 0 0 100 1 0 40 0 0 100", True], ["parts 0 7 8 0 40 2 0 50 5", True],
+    "trim 0 5 4", "parts 0 0 5 0 9 91", "parts 0 0 5 0 9 11 0 5 4 0 20 80", "parts 0 0 3 0 20 2 0 3 17 0 22 78",
+    "parts 0 0 5 0 9 91 0 5 4", None, "trim 0 0 10; fade 1 0 10 0 256; parts 2 0 10 0 12 88",
     "fade 0 90 10 256 0", "fade 0 0 100 0 256",
-    "trim 0 0 5; trim 0 9 11; trim 0 5 4; trim 0 20 80; splice 1 2; splice 5 3; splice 6 4", "crop 0 0 0 2 2; trim 1 2 8; trim 1 0 2; splice 2 3",
+    "parts 0 0 5 0 9 11 0 5 4 0 20 80", "crop 0 0 0 2 2; parts 1 2 8 1 0 2",
     [[0, 60], [60, 80]], {"block": 0, "name": "fadeIn"}, {"block": 0, "name": "fadeOut"}, None, None,
     [15, 0, 25, 40],
     [0, 3, 6, 9], [5, 6, 7], 60, None,
     [5, 2, 9, 6, 1562, 317, 82, None, None, None, None, 0, None], 2, "25:01:02.500",
     [2, 0.12], [True, True, False, False],
-    "source 1; splice 0 1", "crop 0 0 0 2 2; splice 1 0", "source 1; splice 0 1", "trim 0 0 5; source 1; splice 1 2; splice 3 2",
+    "source 1; splice 0 1", "crop 0 0 0 2 2; splice 1 0", "source 1; parts 0 0 100 1 0 40", "source 1; parts 0 0 5 1 0 40 1 0 40",
 ]  # fmt: skip
 
 
@@ -892,7 +892,7 @@ def join_by_keys(page, first, shot):
     shot("join")
     tab_to(browser, "#ask button[value=yes]")
     browser.key("Enter")
-    browser.wait("wokureti.model.session.script === 'source 1; splice 0 1' && wokureti.model.frames === 500 && wokureti.model.frame === 250")
+    browser.wait("wokureti.model.session.script === 'source 1; parts 0 0 250 1 0 250' && wokureti.model.frames === 500 && wokureti.model.frame === 250")
     page.at(250)
     page.shows(first, "the joined source does not begin with its first frame")
     tab_to(browser, "#timeline")
@@ -1185,7 +1185,7 @@ def shots_and_fades(browser, room, clip, other):
     browser.run("document.getElementById('timeline').focus(); wokureti.model.select(60, 80); await wokureti.model.go(20)")
     browser.key("v")
     browser.wait("wokureti.model.session.script !== '-'")
-    wanted = "trim 0 0 20; trim 0 60 20; splice 1 2; trim 0 20 40; splice 3 4; trim 0 80 170; splice 5 6"
+    wanted = "parts 0 0 20 0 60 20 0 20 40 0 80 170"
     expect(page.members("session")["script"] == wanted, f"the script after V is {page.members('session')['script']}")
     browser.wait("wokureti.model.frame === 20 && wokureti.model.packet === 60")
     # The script joins at frames 20, 40 and 80.
@@ -1195,7 +1195,7 @@ def shots_and_fades(browser, room, clip, other):
     browser.run("wokureti.model.select(100, 250)")
     browser.key("x")
     browser.wait("wokureti.model.frames === 100")
-    wanted = "trim 0 0 20; trim 0 60 20; splice 1 2; trim 0 20 40; splice 3 4; trim 0 80 20; splice 5 6"
+    wanted = "parts 0 0 20 0 60 20 0 20 40 0 80 20"
     expect(page.members("session")["script"] == wanted, f"the script after X is {page.members('session')['script']}")
     exports = page.members("session")["exports"]
     if exports:
@@ -1208,7 +1208,7 @@ def shots_and_fades(browser, room, clip, other):
     browser.drag([(box[0] + 4, box[1] + 6), (box[0] + 0.02 * box[2], box[1] + 6), (box[0] + 0.05 * box[2], box[1] + 6)])
     browser.wait("wokureti.model.session.script.split('fade').length === 3")
     script = page.members("session")["script"]
-    wanted = "trim 0 0 20; fade 1 0 5 0 256; trim 0 60 20; splice 2 3; trim 0 20 40; fade 5 30 10 256 0; splice 4 6; trim 0 80 20; splice 7 8"
+    wanted = "trim 0 0 20; fade 1 0 5 0 256; trim 0 20 40; fade 3 30 10 256 0; parts 2 0 20 0 60 20 4 0 40 0 80 20"
     expect(script == wanted, f"the script with fades is {script}")
     expect(not exports or browser.run("return document.getElementById('export').classList.contains('off')"), "a fade can be exported")
     with Session(clip) as session:

@@ -16,6 +16,7 @@ import tempfile
 import results
 from library.ivf import ivf
 from library.traced import program_of, traced
+from library.webm import webm
 from refused_memory import HEIGHT, INTER, KEY, WIDTH, clip_packets, refusals_of
 
 OPTIONS = ([], ["--json"], ["--hash"], ["--check"], ["--check", "--json"], ["--check", "--strict"], ["--check", "--tables", "tables.bin"], ["--hash", "--tables", "tables.bin"], ["--macroblocks", "all"], ["--header", "all", "--json"])
@@ -32,6 +33,7 @@ def streams_of(clip):
     yield "no key packet first, and other sizes", ivf(WIDTH, HEIGHT, [INTER, *resized, bytes([0x11, 0]), INTER])
     yield "a file that is cut off", ivf(WIDTH, HEIGHT, clip)[:-3]
     yield "no packets", ivf(WIDTH, HEIGHT, [])
+    yield "a WebM file that is cut off", webm(clip, [40 * place for place in range(len(clip))])[:-3]
 
 
 class Bench:

@@ -76,6 +76,7 @@ def random_script(dice):
                     f"source {dice.randrange(2)}",
                     f"trim {clip} {dice.randint(0, 9)} {dice.randint(0, 40)}",
                     f"splice {clip} {dice.randrange(number)}",
+                    f"parts {' '.join(f'{dice.randrange(number)} {dice.randint(0, 9)} {dice.randint(0, 12)}' for _ in range(dice.randint(1, 4)))}",
                     f"crop {clip} {2 * dice.randint(0, 3)} 0 {dice.choice([16, 176, 320])} {dice.choice([16, 144, 180])}",
                     f"crop {clip} 0 0 {dice.choice([32, 176, 320])} {dice.choice([16, 144, 180])}",
                     f"fade {clip} {dice.randint(0, 20)} {dice.randint(1, 9)} {dice.choice([0, 255, 256])} {dice.choice([0, 256])}",
@@ -99,6 +100,9 @@ class Script:
                 made = self.nodes[numbers[0]][numbers[1] : numbers[1] + numbers[2]]
             elif word == "splice":
                 made = self.nodes[numbers[0]] + self.nodes[numbers[1]]
+            elif word == "parts":
+                parts = zip(*[iter(numbers)] * 3)
+                made = [frame for clip, first, count in parts for frame in self.nodes[clip][first : first + count]]
             elif word == "crop":
                 made = [(source, frame, (*steps, (number, "crop", numbers[1:]))) for source, frame, steps in self.nodes[numbers[0]]]
             else:

@@ -1,12 +1,14 @@
 #!/usr/bin/env python3
-"""Tests that vp8serve reads WebM files as sources: test_webm_sources.py [LISTS [SEED]]
+"""Tests that vp8serve and vp8list read WebM files: test_webm_sources.py [LISTS [SEED]]
 
 The same packets are written here as IVF with a time base of 1 ms, and as WebM by a few lines that know nothing of the reader. Random lists of requests over both
 have the same replies and the same frames, but for the frame rate in the first line of the frames, which is that of the track, or of the median step. The two kinds
-are mixed by `--sources`. Each kind of refusal has its word, its status and, with `--explain`, its sentence. What is saved is IVF with the file's time base. It
-prints what differs and ends with 1, or prints nothing and ends with 0.
+are mixed by `--sources`. Each kind of refusal has its word, its status and, with `--explain`, its sentence. What is saved is IVF with the file's time base.
+vp8list writes the same for both files in every mode, but for `byte`, at which the packet's bytes are in the file, also as mkvinfo says it. A
+damaged file has its findings, and a file that is refused its word and sentence. It prints what differs and ends with 1, or prints nothing and ends with 0.
 """
 
+import json
 import os
 import pathlib
 import random
@@ -22,7 +24,7 @@ from library.ivf import HEAD, RECORD, packets_of, records  # noqa: E402
 from library.programs import real_streams  # noqa: E402
 from library.webm import block, webm  # noqa: E402
 
-SERVE = pathlib.Path(os.environ["VP8SERVE"]).resolve()
+SERVE, LIST = (pathlib.Path(os.environ[name]).resolve() for name in ("VP8SERVE", "VP8LIST"))
 LISTS, SEED = 40, 1
 LIMIT = 60
 def ivf(packets, stamps):
@@ -124,6 +126,10 @@ def refusals(folder, packets):
         status, _, _, _, error = run(folder, folder / "good.webm", "count\n", "--sources", path)
         if status != 1 or not error.startswith(f"vp8serve: source 1 {word}\n"):
             yield f"{word} of source 1: status {status}, {error!r}"
+        for words in ([], ["--json"], ["--hash"], ["--check"], ["--header", "0"]):
+            status, said, error = listed(path, *words)
+            if status != 2 or said or not error.startswith(f"vp8list: input {word}\n") or sentence not in error or str(path) not in error:
+                yield f"vp8list {words} of {word}: status {status}, {said!r} {error!r}"
 
 
 def cut_files(folder, packets):
@@ -137,6 +143,79 @@ def cut_files(folder, packets):
         yield f"a file without its last byte: status {status}, {replies} {error!r}, not spare {left}"
 
 
+def listed(path, *words):
+    """The status of vp8list, its text and standard error."""
+    done = subprocess.run([LIST, path, *words], stdout=subprocess.PIPE, stderr=subprocess.PIPE, timeout=LIMIT)
+    return done.returncode, done.stdout.decode(), done.stderr.decode()
+
+
+def same_lists(folder, dice, packets):
+    """Each mode writes the same for both kinds, but for `byte`, which is where the packet's bytes are."""
+    first = dice.randint(0, len(packets) - 1)
+    packets = packets[first : first + dice.randint(1, 30)]
+    stamps = [33 * at + dice.randint(0, 2) for at in range(len(packets))]
+    text = webm(packets, stamps)
+    (folder / "a.ivf").write_bytes(ivf(packets, stamps))
+    (folder / "a.webm").write_bytes(text)
+    for words in (["--header", "all"], ["--header", "0", "--json"], ["--macroblocks", "all"], ["--macroblocks", "0", "--json"], ["--hash"], ["--check"], ["--check", "--json", "--strict"]):
+        one, other = (listed(folder / name, *words) for name in ("a.ivf", "a.webm"))
+        if one != other:
+            yield f"vp8list {words} of IVF and WebM differ: {one[0]} {one[2]!r}, {other[0]} {other[2]!r}"
+    one, other = ([json.loads(line) for line in listed(folder / name, "--json")[1].splitlines()] for name in ("a.ivf", "a.webm"))
+    lines = [line.split("\t") for line in listed(folder / "a.webm")[1].splitlines()]
+    places = [int(line[lines[0].index("byte")]) for line in lines[1:]]
+    if places != [facts["byte"] for facts in other] or [{**facts, "byte": 0} for facts in one] != [{**facts, "byte": 0} for facts in other]:
+        yield "the lists of IVF and WebM differ in more than the bytes"
+    if [text[at : at + len(packet)] for at, packet in zip(places, packets)] != packets or len(places) != len(packets):
+        yield f"the packets are not at the bytes that vp8list names: {places}"
+
+
+def places_of_others(folder, path):
+    """`byte` in files of ffmpeg and mkvmerge, with sound: the packets are those of ffprobe, and their bytes where mkvinfo finds them."""
+    sound = ["-f", "lavfi", "-i", "sine=duration=1", "-c:v", "copy", "-c:a", "libopus", "-shortest"]
+    made = folder / "made.webm"
+    subprocess.run(["ffmpeg", "-nostdin", "-v", "error", "-y", "-i", path, *sound, made], check=True, timeout=LIMIT)
+    subprocess.run(["mkvmerge", "-q", "-o", folder / "made.mkv", made], check=True, timeout=LIMIT)
+    for file in (made, folder / "made.mkv"):
+        status, text, error = listed(file, "--json")
+        facts = [json.loads(line) for line in text.splitlines()]
+        probe = ["ffprobe", "-v", "error", "-select_streams", "v", "-show_entries", "packet=pts,size", "-of", "csv=p=0", file]
+        known = [tuple(int(word) for word in line.split(",")[:2]) for line in subprocess.run(probe, check=True, stdout=subprocess.PIPE, timeout=LIMIT).stdout.decode().split()]
+        if status or [(each["stamp"], each["bytes"]) for each in facts] != known:
+            yield f"{file.name}: status {status} {error!r}, or other packets than ffprobe's"
+        info = subprocess.run(["mkvinfo", "-v", "-v", "-o", file], check=True, stdout=subprocess.PIPE, timeout=LIMIT).stdout.decode()
+        frames = [(track, int(size), int(at)) for track, size, at in re.findall(r"track number (\d+),.*\n.*Frame with size (\d+) at (\d+)", info)]
+        own = [(each["bytes"], each["byte"]) for each in facts]
+        if own not in [[(size, at) for number, size, at in frames if number == track] for track in {number for number, _, _ in frames}]:
+            yield f"{file.name}: other bytes than mkvinfo's"
+
+
+def findings(folder, packets):
+    """What is wrong with a file besides its packets: bytes that are no element, an end that is cut, laced blocks, tracks that are not listed."""
+    few = packets[:5]
+    text = webm(few, [40 * at for at in range(5)])
+    last = block(3, 160, few[-1])
+    begins, head = text.index(last), 13
+    status, said, _ = listed(folder / "good.webm", "--check")
+    if status or "damage: 0" not in said:
+        yield f"a good file: status {status}, {said!r}"
+    for changed, line, found in (
+        (text[:-1], f"damage: element at byte {begins}: the file ends within it, {len(last) - 1} bytes are there", {"kind": "cut_element", "byte": begins, "left": len(last) - 1, "severity": "damage"}),
+        (text + bytes(9), f"damage: byte {len(text)}: 9 bytes are no element, and are skipped", {"kind": "skipped", "byte": len(text), "bytes": 9, "severity": "damage"}),
+        (text[:begins] + bytes(7) + text[begins:], f"damage: byte {begins}: 7 bytes are no element, and are skipped", {"kind": "skipped", "byte": begins, "bytes": 7, "severity": "damage"}),
+        (text[: begins + head - 1] + b"\2" + text[begins + head :], f"damage: block at byte {begins}: laced packets of the video, which are left out", {"kind": "laced_block", "byte": begins, "severity": "damage"}),
+        (text[: begins + head - 4] + b"\x87" + text[begins + head - 3 :], f"note: block at byte {begins}: track 7, which the file does not list", {"kind": "unlisted_block", "byte": begins, "track": 7, "severity": "note"}),
+    ):
+        path = folder / "wrong.webm"
+        path.write_bytes(changed)
+        status, said, error = listed(path, "--check")
+        if status != int(line.startswith("damage")) or error or line not in said.splitlines():
+            yield f"not {line!r}: status {status}, {said!r} {error!r}"
+        status, said, error = listed(path, "--check", "--json", "--strict")
+        if status != 1 or error or {"packet": None, "frame": None, **found} not in [json.loads(each) for each in said.splitlines()]:
+            yield f"not {found}: status {status}, {said!r} {error!r}"
+
+
 def main():
     lists, seed = (int(word) for word in [*sys.argv[1:], *(LISTS, SEED)[len(sys.argv) - 1 :]])
     dice = random.Random(seed)
@@ -146,10 +225,12 @@ def main():
         folder = pathlib.Path(room)
         plain = max(streams, key=len)
         (folder / "good.webm").write_bytes(webm(plain[:3], [0, 40, 80]))
-        for part in (frame_rates, saves, refusals, cut_files):
+        for part in (frame_rates, saves, refusals, cut_files, findings):
             found += part(folder, plain)
+        found += places_of_others(folder, max(real_streams(), key=lambda path: path.stat().st_size))
         for _ in range(lists):
             found += same_answers(folder, dice, dice.choice(streams))
+            found += same_lists(folder, dice, dice.choice(streams))
     for line in found:
         print(line)
     sys.exit(bool(found))

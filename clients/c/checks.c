@@ -265,7 +265,7 @@ static void rooms(void) {
 }
 
 static void fuzz(void) {
-    static const char *words[] = {"frame", "insert", "replace", "delete", "move", "copy", "blank", "hold", "use", "script", "count", "stats", "trim", "splice", "crop", "fade", "source",
+    static const char *words[] = {"frame", "insert", "replace", "delete", "move", "copy", "blank", "hold", "use", "script", "count", "stats", "trim", "splice", "parts", "crop", "fade", "source",
                                   ";", "-", "0", "1", "7", "16", "99", "18446744073709551615", "1100", "a0", "#", "x", ""};
     run r = {.room = __real_malloc(ROOM), .room_size = ROOM};
     uint64_t state = 75;

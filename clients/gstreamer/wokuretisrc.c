@@ -443,4 +443,4 @@ static gboolean plugin_init(GstPlugin *plugin) {
     return gst_element_register(plugin, "wokuretisrc", GST_RANK_NONE, WOKURETI_TYPE_SRC);
 }
 
-GST_PLUGIN_DEFINE(GST_VERSION_MAJOR, GST_VERSION_MINOR, wokureti, "Frames of edited VP8 streams", plugin_init, "0.14.0", "Proprietary", PACKAGE, "https://example.invalid/")
+GST_PLUGIN_DEFINE(GST_VERSION_MAJOR, GST_VERSION_MINOR, wokureti, "Frames of edited VP8 streams", plugin_init, "0.15.0", "Proprietary", PACKAGE, "https://example.invalid/")

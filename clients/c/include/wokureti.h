@@ -89,7 +89,7 @@ enum {
     WK_FILE_DOC_TYPE, WK_FILE_NO_TRACKS, WK_FILE_NO_VIDEO, WK_FILE_ENCODED, WK_FILE_SCALE
 };
 
-/* The version of the library: 1400 is 0.14.0, and 10203 is 1.2.3. */
+/* The version of the library: 1500 is 0.15.0, and 10203 is 1.2.3. */
 uint32_t wk_version(void);
 
 /* Opens a session over `sources` IVF, WebM or Matroska files, 1 to 8, which lie one after the other in `files`, each up to its end in `ends`. At most

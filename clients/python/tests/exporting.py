@@ -1,6 +1,6 @@
 #!/usr/bin/env python3
 """Stands for vp8serve where the one that is tested has no --export yet: `exporting.py ..` is vp8serve, and writes the file of --export by the plain
-model of compare/exports.py. It knows edits of source 0, and scripts of source, trim and splice. The program is that of REAL_VP8SERVE."""
+model of compare/exports.py. It knows edits of source 0, and scripts of source, trim, splice and parts. The program is that of REAL_VP8SERVE."""
 
 import os
 import pathlib
@@ -19,13 +19,19 @@ def run(words, given=None):
 
 
 def origins(script, counts):
-    """The source of each frame of a script of source, trim and splice, and its frame there, for sources of so many frames."""
+    """The source of each frame of a script of source, trim, splice and parts, and its frame there, for sources of so many frames."""
     sources = [[(source, frame) for frame in range(count)] for source, count in enumerate(counts)]
     nodes = [sources[0]]
     for text in script.split(";") if script != "-" else ():
         word, *rest = text.split()
         one, *rest = map(int, rest)
-        nodes.append(sources[one] if word == "source" else nodes[one] + nodes[rest[0]] if word == "splice" else nodes[one][rest[0] : sum(rest)])
+        if word == "source":
+            made = sources[one]
+        elif word == "splice":
+            made = nodes[one] + nodes[rest[0]]
+        else:
+            made = [frame for node, first, count in zip(*[iter([one, *rest])] * 3) for frame in nodes[node][first : first + count]]
+        nodes.append(made)
     return nodes[-1]
 
 

@@ -97,7 +97,7 @@ def random_line(choose, counts, current):
     return choose.choice(lines)
 
 
-def random_script(choose, sources, kinds=("source", "trim", "splice")):
+def random_script(choose, sources, kinds=("source", "trim", "splice", "parts")):
     nodes = []
     for number in range(choose.randrange(5)):
         word, node = choose.choice(kinds), choose.randrange(number + 1)
@@ -105,6 +105,7 @@ def random_script(choose, sources, kinds=("source", "trim", "splice")):
             "source": f"{choose.randrange(sources)}",
             "trim": f"{node} {choose.randrange(6)} {choose.randrange(1, 9)}",
             "splice": f"{node} {choose.randrange(number + 1)}",
+            "parts": " ".join(f"{choose.randrange(number + 1)} {choose.randrange(6)} {choose.randrange(5)}" for _ in range(choose.randrange(1, 5))),
             "crop": f"{node} 0 {2 * choose.randrange(2)} {choose.choice([2, 7, 16, 40])} {choose.choice([1, 5, 16])}",
             "fade": f"{node} {choose.randrange(4)} {choose.randrange(1, 5)} {choose.choice([0, 256])} {choose.choice([0, 256])}",
         }[word]
@@ -364,7 +365,7 @@ class Frames(AskedCase):
             self.assertEqual(told, [(origin["source"], origin["source_frame"]) for origin in asked])
             self.assertEqual([(run.source, run.first + turn) for run in part for turn in range(run.count)], told[:5])
             # Nodes of every kind.
-            stream.request(f"script {random_script(choose, len(paths), ('source', 'trim', 'splice', 'crop', 'fade'))}")
+            stream.request(f"script {random_script(choose, len(paths), ('source', 'trim', 'splice', 'parts', 'crop', 'fade'))}")
             asked = stream.origins(0, stream.count().frames)
             changed = [node for run in runs_of(stream) for _ in range(run.count) for node in [list(run.changed)]]
             self.assertEqual(changed, [origin["changed"] for origin in asked])

@@ -85,13 +85,20 @@ class Places(Case):
 
     def test_scripts(self):
         found = self.frames()
-        self.assertEqual(exports.cut_script(found, [("f3", "f8")]), "trim 0 3 5")
-        self.assertEqual(exports.cut_script(found, [(None, "0.08"), ("f5", None), ("f0", "f1")]), "trim 0 0 2; trim 0 5 7; trim 0 0 1; splice 1 2; splice 4 3")
-        self.assertEqual(len(exports.cut_script(found, [("f1", "f2")] * 8).split(";")), 15)
-        for parts, why in (([("f3", "f3")], "there is no frame from f3 to f3"), ([("20", None)], "from 20 to the end: the stream has 12 frames, 0:00:00.480"), ([("f1", "f2")] * 9, "1 to 8 parts"), ([], "1 to 8 parts")):
+        self.assertEqual(exports.cut_script(found, [("f3", "f8")]), "parts 0 3 5")
+        self.assertEqual(exports.cut_script(found, [(None, "0.08"), ("f5", None), ("f0", "f1")]), "parts 0 0 2 0 5 7 0 0 1")
+        self.assertEqual(exports.cut_script(found, [("f1", "f2")] * 1000), "parts" + " 0 1 1" * 1000)
+        for parts, why in (([("f3", "f3")], "there is no frame from f3 to f3"), ([("20", None)], "from 20 to the end: the stream has 12 frames, 0:00:00.480"), ([], "there is no part")):
             with self.assertRaisesRegex(exports.Failed, why):
                 exports.cut_script(found, parts)
-        self.assertEqual([exports.join_script(count) for count in (1, 2, 3)], ["-", "source 1; splice 0 1", "source 1; source 2; splice 0 1; splice 3 2"])
+        with mock.patch.object(exports, "knows_parts", return_value=False):
+            # What a program that has no parts is given.
+            self.assertEqual(exports.known("parts 0 3 5", ""), "trim 0 3 5")
+            self.assertEqual(exports.known("source 1; parts 0 0 2 1 5 7 0 0 1", ""), "source 1; trim 0 0 2; trim 1 5 7; trim 0 0 1; splice 2 3; splice 5 4")
+            self.assertEqual(exports.known("trim 0 0 1", ""), "trim 0 0 1")
+            with self.assertRaisesRegex(exports.Failed, "no script for 9 parts: install a newer vp8serve"):
+                exports.known("parts" + " 0 1 1" * 9, "")
+        self.assertEqual([exports.join_script(count) for count in (1, 2, 3)], ["-", "source 1; parts 0 0 1048576 1 0 1048576", "source 1; source 2; parts 0 0 1048576 1 0 1048576 2 0 1048576"])
 
     def test_what_is_said(self):
         told = exports.Told(14_400 * MS, 361, 400, 39, 5000, 50000)

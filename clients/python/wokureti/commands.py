@@ -394,7 +394,7 @@ def run_cut(given):
 
 
 def run_cut_list(given):
-    """Cuts the parts of a list. A script has eight of them: of more, eight at a time are cut, and then joined."""
+    """Cuts the parts of a list."""
     from .tools import cut_lists, exports
 
     if given.starts or given.ends:
@@ -403,13 +403,7 @@ def run_cut_list(given):
     muxing.check_ending(given.out)
     check_replaced(given, given.out)
     parts = cut_lists.read(given.cuts)
-    groups = [parts[place : place + exports.MOST_PARTS] for place in range(0, len(parts), exports.MOST_PARTS)]
-    script_of = lambda group: lambda frames: exports.cut_script(frames, group)  # noqa: E731
-    if len(groups) == 1:
-        return run_script(given, [given.stream], script_of(parts))
-    with rooms.Room() as room:
-        given.streams = [script_step(given, [given.stream], script_of(group), os.path.join(room, f"cut-{place}")) for place, group in enumerate(groups)]
-        return run_join(given)
+    return run_script(given, [given.stream], lambda frames: exports.cut_script(frames, parts))
 
 
 def add_join(commands):

@@ -1,13 +1,9 @@
--- The format of a file that is given for an IVF file, and the message that names it and the command that converts it.
-use Rattle.std.specs.Prelude.{ℕ, Bool, ◌&&◌, nat_eq, if◌then◌else◌, List, [], ◌∷◌, ◌++◌, codes, drop, Option, Some, None}
+-- The format of a file that is given for a file that is read, and the message that names it and the command that converts it.
+use Rattle.std.specs.Prelude.{ℕ, Bool, ◌&&◌, nat_eq, if◌then◌else◌, List, ◌++◌, codes, drop, Option, Some, None}
 use Rattle.std.specs.List.{starts_with}
 use Rattle.command_lines.specs.InLine.{in_line}
 use Rattle.command_lines.specs.declared.formats.Format.{Format}
-use Rattle.command_lines.specs.declared.formats.Format.TheVariants.{WebM, Mp4, Avi, Y4m}
-
--- EBML's magic number, with which WebM and Matroska files begin
-abbrev pub is_webm : List ℕ → Bool
-is_webm bytes = starts_with nat_eq bytes (0x1A ∷ 0x45 ∷ 0xDF ∷ 0xA3 ∷ [])
+use Rattle.command_lines.specs.declared.formats.Format.TheVariants.{Mp4, Avi, Y4m}
 
 -- a box `ftyp`, after its size
 abbrev pub is_mp4 : List ℕ → Bool
@@ -23,8 +19,7 @@ is_y4m bytes = starts_with nat_eq bytes (codes "YUV4MPEG2")
 -- the format of a file that begins with these bytes
 abbrev pub format_of : List ℕ → Option Format
 format_of bytes =
-    if is_webm bytes then Some WebM
-    else if is_mp4 bytes then Some Mp4
+    if is_mp4 bytes then Some Mp4
     else if is_avi bytes then Some Avi
     else if is_y4m bytes then Some Y4m
     else None
@@ -48,7 +43,6 @@ line_text path name options = in_line path ++ codes " is " ++ name ++ codes ": f
 
 -- the message for a file with this path
 abbrev pub format_text : List ℕ → Format → List ℕ
-format_text path WebM = line_text path (codes "a WebM or Matroska file") (codes "-an -c copy -copyts")
 format_text path Mp4 = container_text path (codes "an MP4 file")
 format_text path Avi = container_text path (codes "an AVI file")
 format_text path Y4m = line_text path (codes "a YUV4MPEG2 file, whose frames are not coded") (codes "-c:v libvpx")

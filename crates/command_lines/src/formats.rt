@@ -1,7 +1,7 @@
-// The formats of files that are given for an IVF file.
+// The formats of files that are given for a file that is read.
 ghost use Rattle.std.specs.Prelude.{◌≡◌, OnOk};
 ghost use Rattle.std.specs.Io.KnownBytes.{Appends};
-ghost use Rattle.command_lines.specs.Formats.{around_text, coding_text, container_text, copy_text, format_of, format_text, is_avi, is_mp4, is_webm, is_y4m, line_text};
+ghost use Rattle.command_lines.specs.Formats.{around_text, coding_text, container_text, copy_text, format_of, format_text, is_avi, is_mp4, is_y4m, line_text};
 
 use crate::in_line::write_in_line;
 use std::io::{self, Write};
@@ -9,20 +9,12 @@ use std::io::{self, Write};
 /// The format of a file.
 #[derive(Clone, Copy, Debug, PartialEq, Eq)]
 pub enum Format {
-    /// WebM or Matroska.
-    WebM,
     /// MP4.
     Mp4,
     /// AVI.
     Avi,
     /// YUV4MPEG2: frames that are not coded.
     Y4m,
-}
-
-fn is_webm(bytes: &[u8]) -> bool
-    ensures { result ≡ is_webm bytes.now }
-{
-    bytes.starts_with(&[0x1A, 0x45, 0xDF, 0xA3])
 }
 
 fn is_mp4(bytes: &[u8]) -> bool
@@ -50,13 +42,11 @@ fn is_y4m(bytes: &[u8]) -> bool
 }
 
 /// The format of a file that begins with these bytes, if it is one of `Format`; 12 bytes are enough.
-/// An IVF file has none of them.
+/// A file that is read has none of them.
 pub fn format_of(bytes: &[u8]) -> Option<Format>
     ensures { result ≡ format_of bytes.now }
 {
-    if is_webm(bytes) {
-        Some(Format::WebM)
-    } else if is_mp4(bytes) {
+    if is_mp4(bytes) {
         Some(Format::Mp4)
     } else if is_avi(bytes) {
         Some(Format::Avi)
@@ -116,12 +106,6 @@ pub fn write_format<E: Write>(errors: &mut E, path: &str, format: Format) -> io:
     ensures { OnOk result (Appends (E.contents errors.old) (E.contents errors.new) (format_text path.now format)) }
 {
     match format {
-        Format::WebM => write_line(
-            errors,
-            path,
-            "a WebM or Matroska file",
-            "-an -c copy -copyts",
-        ),
         Format::Mp4 => write_container(errors, path, "an MP4 file"),
         Format::Avi => write_container(errors, path, "an AVI file"),
         Format::Y4m => write_line(

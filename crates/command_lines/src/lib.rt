@@ -1,5 +1,5 @@
 //! What both programs have: the arguments of a command line and its help, the files that it names, the error that ends a program, and the
-//! formats of files that are given for an IVF file.
+//! formats of files that are given for a file that is read, and why a WebM file is not read.
 #![tactic(auto)]
 
 mod arguments;
@@ -10,6 +10,7 @@ mod help;
 mod in_line;
 mod inputs;
 mod messages;
+mod webm_faults;
 
 pub use arguments::{VERSION, flag, given};
 pub use endings::{Ending, exit_status, tell};
@@ -19,3 +20,4 @@ pub use help::help_or_mistake;
 pub use in_line::InLine;
 pub use inputs::{NO_FILE, NamedFiles, read_file, read_input, read_tables};
 pub use messages::{MessageWriter, control_length, plain_length};
+pub use webm_faults::write_webm_fault;

@@ -9,7 +9,7 @@ use Rattle.explanations.specs.Words.{shown_word}
 use Rattle.script_nodes.specs.Nodes.{short_number_of}
 use Rattle.explanations.specs.Lines.{missing, no_short_number, reason_text, too_many}
 use Rattle.explanations.specs.declared.nodes.NodeName.{NodeName}
-use Rattle.explanations.specs.declared.nodes.NodeName.TheVariants.{Source, Trim, Splice, Crop, Fade}
+use Rattle.explanations.specs.declared.nodes.NodeName.TheVariants.{Source, Trim, Splice, Crop, Fade, Parts}
 use Rattle.explanations.specs.declared.nodes.NodeReason.{NodeReason}
 use Rattle.explanations.specs.declared.nodes.NodeReason.TheVariants.{Empty, NoNode, Misfit}
 
@@ -21,15 +21,8 @@ name_of word =
     else if bytes_eq word (codes "splice") then Some Splice
     else if bytes_eq word (codes "crop") then Some Crop
     else if bytes_eq word (codes "fade") then Some Fade
+    else if bytes_eq word (codes "parts") then Some Parts
     else None
-
--- the number of the numbers after a node's name
-abbrev pub node_numbers : NodeName → ℕ
-node_numbers Source = 1
-node_numbers Trim = 3
-node_numbers Splice = 2
-node_numbers Crop = 5
-node_numbers Fade = 5
 
 -- a node as it is written
 abbrev pub form_text : NodeName → List ℕ
@@ -38,12 +31,13 @@ form_text Trim = codes "trim A FIRST COUNT"
 form_text Splice = codes "splice A B"
 form_text Crop = codes "crop A X Y W H"
 form_text Fade = codes "fade A FIRST COUNT FROM TO"
+form_text Parts = codes "parts A FIRST COUNT A FIRST COUNT .."
 
 abbrev pub empty_node : List ℕ
 empty_node = codes "the node is empty"
 
 abbrev pub no_node : List ℕ → List ℕ
-no_node word = shown_word word ++ codes " is not source, trim, splice, crop or fade"
+no_node word = shown_word word ++ codes " is not source, trim, splice, crop, fade or parts"
 
 -- a reason, and the form that was meant
 abbrev pub with_form : NodeName → List ℕ → List ℕ
@@ -63,10 +57,26 @@ wrong_number count (word ∷ words) =
     else if is_some (short_number_of word) then wrong_number (count - 1) words
     else Some (no_short_number word)
 
+-- the same for words that are to be parts, three numbers each: this many are missing from the current part
+abbrev pub wrong_part : ℕ → List (List ℕ) → Option (List ℕ)
+wrong_part missing_numbers [] = if missing_numbers == 0 then None else Some missing
+wrong_part missing_numbers (word ∷ words) =
+    if is_some (short_number_of word) then wrong_part (if missing_numbers == 0 then 2 else missing_numbers - 1) words
+    else Some (no_short_number word)
+
+-- the same for the words after a node's name
+abbrev pub misfit : NodeName → List (List ℕ) → Option (List ℕ)
+misfit Source words = wrong_number 1 words
+misfit Trim words = wrong_number 3 words
+misfit Splice words = wrong_number 2 words
+misfit Crop words = wrong_number 5 words
+misfit Fade words = wrong_number 5 words
+misfit Parts words = wrong_part 3 words
+
 -- why these words are not a node, if they are not
 abbrev pub reason_after_name : Option NodeName → List ℕ → List (List ℕ) → Option (List ℕ)
 reason_after_name None word words = Some (no_node word)
-reason_after_name (Some name) word words = option_map (with_form name) (wrong_number (node_numbers name) words)
+reason_after_name (Some name) word words = option_map (with_form name) (misfit name words)
 
 abbrev pub node_reason : List (List ℕ) → Option (List ℕ)
 node_reason [] = Some empty_node

@@ -80,7 +80,7 @@ refusal_reason detail refusals.SizeDiffers = detail_or (codes "the frame has ano
 refusal_reason detail refusals.Syntax = codes "the text is not a list of nodes"
 refusal_reason detail refusals.Nodes = codes "the script has more than 16 nodes"
 refusal_reason detail refusals.Reference = codes "a node names a source or node that is not before it"
-refusal_reason detail refusals.Number = codes "a number of the script is out of range"
+refusal_reason detail refusals.Number = codes "a number of the script is out of range, or a node has more than 68719476736 frames"
 refusal_reason detail refusals.NoMemory = codes "out of memory"
 
 -- the command of a line, and a colon

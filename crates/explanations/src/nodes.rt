@@ -5,7 +5,7 @@ ghost use Rattle.script_nodes.specs.Nodes.{short_number_of};
 ghost use Rattle.script_nodes.specs.Reading.{IsCut};
 ghost use Rattle.text_words.specs.Words.{words_of};
 ghost use Rattle.explanations.specs.Lines.{reason_text};
-ghost use Rattle.explanations.specs.Nodes.{form_text, line_syntax_reason, name_of, node_numbers, node_reason, node_reason_text, numbered, syntax_reason, wrong_number};
+ghost use Rattle.explanations.specs.Nodes.{form_text, line_syntax_reason, misfit, name_of, node_reason, node_reason_text, numbered, syntax_reason, wrong_number, wrong_part};
 
 use crate::lines::{Reason, write_reason};
 use crate::words::{write_text, write_word};
@@ -21,6 +21,7 @@ pub enum NodeName {
     Splice,
     Crop,
     Fade,
+    Parts,
 }
 
 /// Why a part of a script is not a node.
@@ -60,20 +61,23 @@ impl NodeName {
             Some(NodeName::Crop)
         } else if word == b"fade".as_slice() {
             Some(NodeName::Fade)
+        } else if word == b"parts".as_slice() {
+            Some(NodeName::Parts)
         } else {
             None
         }
     }
 
-    /// The number of the numbers after the name.
-    fn numbers(self) -> u8
-        ensures { result ≡ node_numbers self }
+    /// The first reason why the words after the name do not have its form, if they do not.
+    fn misfit(self, words: &[u8]) -> Option<Reason<'_>>
+        ensures { option_map reason_text result ≡ misfit self (words_of words.now) }
     {
         match self {
-            NodeName::Source => 1,
-            NodeName::Trim => 3,
-            NodeName::Splice => 2,
-            NodeName::Crop | NodeName::Fade => 5,
+            NodeName::Source => wrong_number(1, words),
+            NodeName::Trim => wrong_number(3, words),
+            NodeName::Splice => wrong_number(2, words),
+            NodeName::Crop | NodeName::Fade => wrong_number(5, words),
+            NodeName::Parts => wrong_part(words),
         }
     }
 
@@ -87,6 +91,7 @@ impl NodeName {
             NodeName::Splice => "splice A B",
             NodeName::Crop => "crop A X Y W H",
             NodeName::Fade => "fade A FIRST COUNT FROM TO",
+            NodeName::Parts => "parts A FIRST COUNT A FIRST COUNT ..",
         }
     }
 }
@@ -118,6 +123,26 @@ fn wrong_number(count: u8, words: &[u8]) -> Option<Reason<'_>>
     wrong_number(count - 1, following)
 }
 
+/// The first reason why some words are not parts, three numbers each, if they are not.
+fn wrong_part(words: &[u8]) -> Option<Reason<'_>>
+    ensures { option_map reason_text result ≡ wrong_part 3 (words_of words.now) }
+{
+    let mut missing: u8 = 3;
+    let mut left = words;
+    while let Some((word, following)) = next_word(left) {
+        if !is_short_number(word) {
+            return Some(Reason::NoShortNumber(Part::new(word)));
+        }
+        missing = if missing == 0 { 2 } else { missing - 1 };
+        left = following;
+    }
+    if missing == 0 {
+        None
+    } else {
+        Some(Reason::Word(Misfit::Missing))
+    }
+}
+
 /// Why a part of a script is not a node, if it is not.
 fn node_reason(part: &[u8]) -> Option<NodeReason<'_>>
     ensures { option_map node_reason_text result ≡ node_reason (words_of part.now) }
@@ -128,7 +153,7 @@ fn node_reason(part: &[u8]) -> Option<NodeReason<'_>>
     let Some(name) = NodeName::of(word) else {
         return Some(NodeReason::NoNode(Part::new(word)));
     };
-    match wrong_number(name.numbers(), words) {
+    match name.misfit(words) {
         Some(reason) => Some(NodeReason::Misfit { name, reason }),
         None => None,
     }
@@ -179,7 +204,7 @@ fn write_node_reason<W: Write>(w: &mut W, reason: NodeReason<'_>) -> io::Result<
         NodeReason::Empty => write_text(w, "the node is empty"),
         NodeReason::NoNode(word) => {
             write_word(w, word.as_slice())?;
-            write_text(w, " is not source, trim, splice, crop or fade")
+            write_text(w, " is not source, trim, splice, crop, fade or parts")
         }
         NodeReason::Misfit { name, reason } => {
             write_reason(w, reason)?;

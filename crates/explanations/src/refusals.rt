@@ -172,7 +172,10 @@ fn write_meaning<W: Write>(w: &mut W, detail: Detail, refusal: Refusal) -> io::R
         Refusal::Reference => {
             write_text(w, "a node names a source or node that is not before it")
         }
-        Refusal::Number => write_text(w, "a number of the script is out of range"),
+        Refusal::Number => write_text(
+            w,
+            "a number of the script is out of range, or a node has more than 68719476736 frames",
+        ),
         Refusal::NoMemory => write_text(w, "out of memory"),
     }
 }

@@ -6,7 +6,8 @@ use std::io::{self, Write};
 use std::process::ExitCode;
 use std::str::Utf8Error;
 use stream_checks::{CheckFault, CheckedFile, Form, Unwatched, check};
-use stream_files::{IvfFault, ReadFault, ivf_read, read_all};
+use stream_files::{ReadFault, read_all};
+use stream_sources::{StreamFault, source_read_from};
 use thiserror::Error;
 use vp8_tables::Tables;
 
@@ -22,8 +23,8 @@ enum Fault {
     Read(#[from] ReadFault),
     #[error("names")]
     Names(#[from] Utf8Error),
-    #[error("not IVF")]
-    Ivf(#[from] IvfFault),
+    #[error("not a stream")]
+    Stream(#[from] StreamFault),
     #[error("check")]
     Check(#[from] CheckFault),
 }
@@ -32,7 +33,7 @@ enum Fault {
 fn report<O: Write>(rt: &HostRuntime, name: &str, output: &mut O) -> Result<(), Fault> {
     let mut file = File::open(rt, name)?;
     let bytes = read_all(rt.alloc(), &mut file, LIMIT)?;
-    let file = ivf_read(rt.alloc(), bytes.as_slice())?;
+    let source = source_read_from(rt.alloc(), &bytes.as_slice())?;
     writeln!(output, "{name}")?;
     let tally = check(
         output,
@@ -41,7 +42,7 @@ fn report<O: Write>(rt: &HostRuntime, name: &str, output: &mut O) -> Result<(), 
         &Tables::rfc(),
         CheckedFile {
             bytes: bytes.as_slice(),
-            stream: &file,
+            source: &source,
         },
         &mut Unwatched,
     )?;

@@ -56,7 +56,15 @@ fn splice<O: Write>(session: &mut Session, output: &mut O) -> Result<(), Fault> 
         "an odd column",
         set_script(session, b"crop 0 1 0 4 4"),
     )?;
-    print_frame(output, "its third frame again", session, 2)
+    print_frame(output, "its third frame again", session, 2)?;
+    join_parts(session, output)
+}
+
+/// Serves parts of a key packet and two others, one after the other.
+fn join_parts<O: Write>(session: &mut Session, output: &mut O) -> Result<(), Fault> {
+    set_script(session, b"parts 0 1 2 0 0 2")?;
+    print_count(output, "a script of parts", session)?;
+    print_frame(output, "its third frame", session, 2)
 }
 
 /// Inserts a key packet after frames were decoded.

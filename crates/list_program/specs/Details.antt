@@ -3,7 +3,8 @@ use Rattle.std.specs.Prelude.{◌≡◌, ◌⊎◌, ℕ, ◌+◌, ◌-◌, ◌�
 use Rattle.std.specs.Io.KnownBytes.{Appends}
 use Rattle.vp8_tables.specs.Tables.{TableEntries}
 use Rattle.stream_files.specs.declared.streams.Stream.{Stream}
-use Rattle.stream_files.specs.Ivf.{IsIvf, IvfRefuses}
+use Rattle.stream_sources.specs.Faults.{StreamRefuses}
+use Rattle.stream_sources.specs.Sources.{IsStream}
 use Rattle.macroblock_lists.specs.Fronts.{GainsFront}
 use Rattle.macroblock_lists.specs.Texts.{list_text}
 use Rattle.macroblock_lists.specs.declared.listing.Wanted.{Wanted}
@@ -36,32 +37,32 @@ abbrev pub IsAbsent : Asked → ℕ → Fault → Type 0
 IsAbsent asked count (NoPacket packet number) = (number ≡ count) × (count ≤ packet) × ((asked.first ≡ packet) ⊎ (asked.last ≡ Some packet))
 IsAbsent asked count _ = ⊥
 
--- the bytes are an IVF file that has these packets, and the output gained their text
+-- the bytes are a file that has these packets, and the output gained their text
 pub record IsDetailed (asked : Asked) (tables : TableEntries) (bytes : List ℕ) (output output' : Option (List ℕ)) : Type 0 where
   pub file : Stream
-  pub read : IsIvf bytes file
+  pub read : IsStream bytes file
   pub inside : end_of asked.last (length file.packets) ≤ length file.packets
   pub written : Appends output output' (list_text asked.what asked.form tables file.packets (start_of asked (length file.packets)) (count_of asked (length file.packets)))
 
--- the bytes are an IVF file of so many packets that does not have this one, the first or the last that is asked for
+-- the bytes are a file of so many packets that does not have this one, the first or the last that is asked for
 pub record HasNoPacket (asked : Asked) (bytes : List ℕ) (packet count : ℕ) : Type 0 where
   pub file : Stream
-  pub read : IsIvf bytes file
+  pub read : IsStream bytes file
   pub counted : length file.packets ≡ count
   pub over : count ≤ packet
   pub asked_for : (asked.first ≡ packet) ⊎ (asked.last ≡ Some packet)
 
--- the bytes are an IVF file that has these packets, and the output gained the front of their text
+-- the bytes are a file that has these packets, and the output gained the front of their text
 pub record IsDetailCut (asked : Asked) (tables : TableEntries) (bytes : List ℕ) (output output' : Option (List ℕ)) : Type 0 where
   pub file : Stream
-  pub read : IsIvf bytes file
+  pub read : IsStream bytes file
   pub inside : end_of asked.last (length file.packets) ≤ length file.packets
   pub front : GainsFront (list_text asked.what asked.form tables file.packets (start_of asked (length file.packets)) (count_of asked (length file.packets))) output output'
 
--- why they were not written: the bytes are not an IVF file, or a packet is not there, and then nothing was written; memory ran out; or the
+-- why they were not written: the bytes are not a file, or a packet is not there, and then nothing was written; memory ran out; or the
 -- writer returned an error
 abbrev pub IsDetailFault : Asked → TableEntries → List ℕ → Option (List ℕ) → Option (List ℕ) → Fault → Type 0
-IsDetailFault asked tables bytes output output' (Input fault) = IvfRefuses bytes fault × (output' ≡ output)
+IsDetailFault asked tables bytes output output' (Input fault) = StreamRefuses bytes fault × (output' ≡ output)
 IsDetailFault asked tables bytes output output' (NoPacket packet count) = HasNoPacket asked bytes packet count × (output' ≡ output)
 IsDetailFault asked tables bytes output output' NoMemory = IsDetailCut asked tables bytes output output'
 IsDetailFault asked tables bytes output output' CannotWrite = Unit {0}

@@ -1,7 +1,7 @@
 -- What the options ask for.
 use Rattle.std.specs.Prelude.{Bool, true, false, ◌||◌, if◌then◌else◌, Option, Some, None}
 use Rattle.list_program.specs.declared.answering.Output.{Output}
-use Rattle.list_program.specs.declared.answering.Output.TheVariants.{List, Objects, Hashes, Findings, Details}
+use Rattle.list_program.specs.declared.answering.Output.TheVariants.{List, Hashes, Findings, Details}
 use Rattle.macroblock_lists.specs.declared.layouts.Form.{Form}
 use Rattle.macroblock_lists.specs.declared.layouts.Form.TheVariants as forms
 use Rattle.macroblock_lists.specs.declared.layouts.What.{What}
@@ -20,7 +20,7 @@ output_by is_json false true is_strict = Some (Findings (record { form = form_of
 output_by false true false false = Some Hashes
 output_by is_json true false is_strict = None
 output_by is_json false false true = None
-output_by is_json false false false = Some (if is_json then Objects else List)
+output_by is_json false false false = Some (List (form_of is_json))
 
 -- the output that asks for parts of packets: none without a range, or with another option than `--json`
 abbrev pub details_of : What → Bool → Option Range → Option Output

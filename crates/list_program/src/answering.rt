@@ -8,7 +8,8 @@ use crate::checking::{Checking, check_to};
 use crate::details::{Asked, details_to};
 use crate::fault::Fault;
 use crate::hashing::hash_to;
-use crate::listing::{list_to, objects_to};
+use crate::listing::list_to;
+use macroblock_lists::Form;
 use std::alloc::Global;
 use std::io::{BufWriter, Write};
 use std::rc::RcSlice;
@@ -18,10 +19,8 @@ use vp8_tables::Tables;
 /// What is written of a file.
 #[derive(Clone, Copy, Debug, PartialEq, Eq)]
 pub enum Output {
-    /// A line for each packet.
-    List,
-    /// A JSON object for each packet.
-    Objects,
+    /// A line or a JSON object for each packet.
+    List(Form),
     /// The MD5 of each frame.
     Hashes,
     /// What is wrong with the stream.
@@ -52,12 +51,8 @@ fn write_output<O: Write, E: Write, G: Watch>(
 {
     let InputFile { bytes, tables } = file;
     match output {
-        Output::List => {
-            list_to(alloc, bytes, w)?;
-            Ok(0)
-        }
-        Output::Objects => {
-            objects_to(alloc, bytes, w)?;
+        Output::List(form) => {
+            list_to(alloc, form, bytes, w)?;
             Ok(0)
         }
         Output::Hashes => hash_to(alloc, tables, bytes, w, errors, progress),
@@ -73,7 +68,7 @@ fn write_output<O: Write, E: Write, G: Watch>(
 /// for damage that a check finds, for a note if it is strict, and for a packet without a frame in the
 /// list of hashes; else 0. Lines that name such packets go to `errors`.
 ///
-/// `Fault::Input` if the bytes are not an IVF file, `Fault::NoPacket` if a packet that is asked for is not there: nothing is written then. `Fault::NoMemory` if memory
+/// `Fault::Input` if the bytes are neither an IVF file nor a WebM or Matroska file with VP8, `Fault::NoPacket` if a packet that is asked for is not there: nothing is written then. `Fault::NoMemory` if memory
 /// runs out: the begin of the output was written, and is not flushed. `Fault::CannotWrite` if the writer
 /// returns an error.
 pub fn answer_to<W: Write + Drop, E: Write, G: Watch>(

@@ -14,7 +14,7 @@ use std::convert::AsStr;
 
 /// The purpose of the program.
 const ABOUT: &str = "\
-Lists the packets of a VP8 stream (IVF): a line with the names of the columns,
+Lists the packets of a VP8 stream (IVF, WebM or Matroska): a line with the names of the columns,
 and a line a packet, with tabs between columns. Only headers are read.
 Each of --json, --hash, --check, --macroblocks and --header replaces the list; give one of them,
 or --json with --check, --macroblocks or --header.
@@ -81,6 +81,10 @@ those that were coded:
               an inter packet, where all other steps are the same; else a note
   damage: record 100 at byte 51234: claims 12 + 900 bytes, 324 are there
               the file ends within a record; 12 bytes are the record's head
+  damage: byte 51234: 324 bytes are no element, and are skipped
+  damage: element at byte 51234: the file ends within it, 324 bytes are there
+              a WebM file is damaged there: blocks may be lost
+  damage: block at byte 51234: laced packets of the video, which are left out
 
 Anything else is a note:
 
@@ -88,6 +92,7 @@ Anything else is a note:
   note: header: size 320x180, first key packet 640x360
   note: header: rate 0, scale 1
               the header of the file is not that of its packets
+  note: block at byte 51234: track 7, which the file does not list
   note: packet 12: token partition 0: no bytes, which libvpx calls corrupt
   note: packet 12: no bytes, at which vpxdec ends
   note: packet 12: copy_buffer_to_golden 3, at which vpxdec ends
@@ -141,13 +146,13 @@ several packets, as 12-15, or all:
 A line that begins with # has the header of a packet, or why it is refused.
 
 Exit status: 0; 1 if --check finds damage, with --strict also a note, or if --hash meets a refused
-packet; 2 for a mistake on the command line, a file that is not IVF, a packet that is
-not there and any other error.";
+packet; 2 for a mistake on the command line, a file that is not IVF, WebM or Matroska
+with VP8, a packet that is not there and any other error.";
 
 /// The values of the arguments.
 #[derive(Clone, Copy)]
 pub struct Arguments<'a> {
-    /// The IVF file; `-` is standard input.
+    /// The IVF, WebM or Matroska file; `-` is standard input.
     pub stream: &'a str,
     /// The file of the long tables, if given.
     pub tables: Option<&'a str>,
@@ -159,7 +164,7 @@ pub struct Arguments<'a> {
 fn stream<'a>(alloc: Global) -> Arg<'a> {
     Arg::new(alloc, "IN")
         .required(true)
-        .help("IVF file; - reads standard input")
+        .help("IVF, WebM or Matroska file; - reads standard input")
 }
 
 /// The option for the file of the long tables.
@@ -231,11 +236,7 @@ fn output_by(is_json: bool, is_hash: bool, is_check: bool, is_strict: bool) -> O
             is_strict,
         })),
         (true, false) if !is_json && !is_strict => Some(Output::Hashes),
-        (false, false) if !is_strict => Some(if is_json {
-            Output::Objects
-        } else {
-            Output::List
-        }),
+        (false, false) if !is_strict => Some(Output::List(form_of(is_json))),
         _ => None,
     }
 }

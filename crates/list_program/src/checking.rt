@@ -1,4 +1,4 @@
-// The findings of an IVF file.
+// The findings of a file.
 ghost use Rattle.std.specs.Prelude.{◌≡◌, ◌≤◌, IfErr, IfOk};
 ghost use Rattle.std.specs.Rc.{rc_slice_items};
 ghost use Rattle.list_program.specs.CheckedFiles.{IsCheckedFault, IsFileChecked, status_of};
@@ -8,7 +8,7 @@ use std::alloc::Global;
 use std::io::Write;
 use std::rc::RcSlice;
 use stream_checks::{CheckFault, CheckedFile, Form, Tally, Watch, check};
-use stream_files::ivf_share;
+use stream_sources::source_share;
 use vp8_tables::Tables;
 
 /// How a file is checked.
@@ -32,7 +32,7 @@ fn status_of(is_strict: bool, tally: Tally) -> u8
     }
 }
 
-/// Writes the findings of an IVF file, flushes the writer, and returns the exit status: 1 for damage,
+/// Writes the findings of a file, flushes the writer, and returns the exit status: 1 for damage,
 /// and with `is_strict` for a note too, else 0. If memory runs out, the findings before are written and
 /// not flushed.
 pub fn check_to<O: Write, G: Watch>(
@@ -47,8 +47,8 @@ pub fn check_to<O: Write, G: Watch>(
     ensures fault { IfErr result (IsCheckedFault checking.form tables.now (rc_slice_items bytes.now) (O.contents output.old) (O.contents output.new)) }
     ensures status { IfOk result (λ status. status ≤ 1) }
 {
-    let file = match ivf_share(alloc, bytes) {
-        Ok(file) => file,
+    let source = match source_share(alloc, bytes) {
+        Ok(source) => source,
         Err(fault) => return Err(Fault::Input(fault)),
     };
     let tally = match check(
@@ -58,7 +58,7 @@ pub fn check_to<O: Write, G: Watch>(
         tables,
         CheckedFile {
             bytes: bytes.as_slice(),
-            stream: &file,
+            source: &source,
         },
         progress,
     ) {

@@ -1,4 +1,4 @@
-// The macroblocks of packets of an IVF file, or their headers.
+// The macroblocks of packets of a file, or their headers.
 ghost use Rattle.std.specs.Prelude.{◌≤◌, IfErr, IfOk, OnOk};
 ghost use Rattle.std.specs.Rc.{rc_slice_items};
 ghost use Rattle.list_program.specs.Details.{IsAbsent, IsDetailFault, IsDetailed, IsWanted};
@@ -8,7 +8,7 @@ use macroblock_lists::{Form, ListFault, Wanted, What, write_list};
 use std::alloc::Global;
 use std::io::Write;
 use std::rc::RcSlice;
-use stream_files::ivf_share;
+use stream_sources::stream_share;
 use vp8_tables::Tables;
 
 /// What is asked for of which packets.
@@ -61,7 +61,7 @@ fn wanted_of(asked: Asked, count: usize) -> Result<Wanted, Fault<'static>>
     })
 }
 
-/// Writes the macroblocks of packets of an IVF file, or their headers, and flushes the writer.
+/// Writes the macroblocks of packets of a file, or their headers, and flushes the writer.
 ///
 /// `NoPacket` if the stream has no such packet: nothing is written then. `NoMemory` if memory runs out: the front of the
 /// text was written, and is not flushed. `CannotWrite` if the writer returns an error.
@@ -75,7 +75,7 @@ pub fn details_to<O: Write>(
     ensures detailed { OnOk result (IsDetailed asked tables.now (rc_slice_items bytes.now) (O.contents output.old) (O.contents output.new)) }
     ensures fault { IfErr result (IsDetailFault asked tables.now (rc_slice_items bytes.now) (O.contents output.old) (O.contents output.new)) }
 {
-    let file = match ivf_share(alloc, bytes) {
+    let file = match stream_share(alloc, bytes) {
         Ok(file) => file,
         Err(fault) => return Err(Fault::Input(fault)),
     };

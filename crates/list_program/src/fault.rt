@@ -4,7 +4,7 @@ ghost use Rattle.list_program.specs.Statuses.{argument_fault, file_fault};
 
 use command_lines::{ArgumentFault, Ending, FileFault, InLine};
 use std::fmt;
-use stream_files::IvfFault;
+use stream_sources::StreamFault;
 use thiserror::Error;
 
 /// Why the program exits without its list. Its `Display` is the text that the user sees after the
@@ -23,9 +23,9 @@ pub enum Fault<'a> {
     /// The file of the tables does not have 3012 bytes.
     #[error("tables are not 3012 bytes")]
     Tables,
-    /// The bytes are not an IVF file, or out of memory for its packets.
+    /// The bytes are neither an IVF file nor a WebM or Matroska file with VP8, or out of memory for its packets.
     #[error("input {word}", word = .0.word())]
-    Input(IvfFault),
+    Input(StreamFault),
     /// The stream has no packet at this index.
     #[error("no packet {packet}, the stream has {count} packets")]
     NoPacket { packet: usize, count: usize },

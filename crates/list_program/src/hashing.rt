@@ -1,4 +1,4 @@
-// The MD5 of each frame of an IVF file.
+// The MD5 of each frame of a file.
 ghost use Rattle.std.specs.Prelude.{◌≡◌, ◌≤◌, IfErr, IfOk};
 ghost use Rattle.std.specs.Rc.{rc_slice_items};
 ghost use Rattle.list_program.specs.HashedFiles.{IsFileHashed, IsFileHashFault, hash_status};
@@ -9,7 +9,7 @@ use std::io::Write;
 use std::rc::RcSlice;
 use stream_checks::{HashFault, Watch, write_hashes};
 use stream_facts::{has_refused, write_refusals};
-use stream_files::ivf_share;
+use stream_sources::stream_share;
 use vp8_tables::Tables;
 
 fn hash_status(is_refused: bool) -> u8
@@ -19,7 +19,7 @@ fn hash_status(is_refused: bool) -> u8
     if is_refused { 1 } else { 0 }
 }
 
-/// Writes the MD5 of each frame of an IVF file, flushes the writer, and returns the exit status: 1 if a
+/// Writes the MD5 of each frame of a file, flushes the writer, and returns the exit status: 1 if a
 /// packet is refused, else 0. A line for each such packet goes to `errors`; if it refuses the text, only
 /// the status reports them.
 pub fn hash_to<O: Write, E: Write, G: Watch>(
@@ -34,7 +34,7 @@ pub fn hash_to<O: Write, E: Write, G: Watch>(
     ensures fault { IfErr result (IsFileHashFault tables.now (rc_slice_items bytes.now) (O.contents output.old) (O.contents output.new)) }
     ensures status { IfOk result (λ status. status ≤ 1) }
 {
-    let file = match ivf_share(alloc, bytes) {
+    let file = match stream_share(alloc, bytes) {
         Ok(file) => file,
         Err(fault) => return Err(Fault::Input(fault)),
     };
@@ -46,6 +46,7 @@ pub fn hash_to<O: Write, E: Write, G: Watch>(
     let Ok(()) = output.flush() else {
         return Err(Fault::CannotWrite);
     };
-    let _ = write_refusals(errors, bytes.as_slice(), &file);
-    Ok(hash_status(has_refused(bytes.as_slice(), &file)))
+    let packets = file.packets.as_slice();
+    let _ = write_refusals(errors, packets);
+    Ok(hash_status(has_refused(packets)))
 }

@@ -7,29 +7,33 @@ use crate::arguments::{Arguments, parse};
 use crate::fault::Fault;
 use command_lines::{
     NamedFiles, format_of, help_or_mistake, read_input, read_tables, tell, write_format,
+    write_webm_fault,
 };
 use std::convert::AsStr;
 use std::io::{BufWriter, Read, Write};
 use std::rc::RcSlice;
 use stream_checks::Watch;
-use stream_files::IvfFault;
+use stream_sources::StreamFault;
+use webm_files::is_marked;
 
 /// The number of bytes of the list that are buffered.
 pub const BYTES_AT_ONCE: usize = 65_536;
 
-/// Shows why the bytes of a file are not a stream, and for a file of another format the command that converts it.
-/// Returns the exit status.
-fn tell_input<E: Write>(path: &str, bytes: &[u8], fault: IvfFault, errors: &mut E) -> u8
+/// Shows why the bytes of a file are not a stream: for a WebM file what is missing, for a file of another format the command that
+/// converts it. Returns the exit status.
+fn tell_input<E: Write>(path: &str, bytes: &[u8], fault: StreamFault, errors: &mut E) -> u8
     ensures { result ≡ 2 }
 {
     let status = tell(Fault::Input(fault), errors);
-    if let Some(format) = format_of(bytes) {
+    if is_marked(bytes) {
+        let _ = write_webm_fault(errors, path, bytes, fault);
+    } else if let Some(format) = format_of(bytes) {
         let _ = write_format(errors, path, format);
     }
     status
 }
 
-/// Writes what the arguments ask for, and returns the exit status, which is 2 if the bytes are not an IVF file.
+/// Writes what the arguments ask for, and returns the exit status, which is 2 if the bytes are not a stream.
 fn answer_given<'a, R: NamedFiles + AllocGlobal, I: Read, O: Write + Drop, E: Write, G: Watch>(
     rt: &R,
     given: Arguments<'a>,

@@ -4,11 +4,12 @@ use Rattle.std.proofs.Common.{◌≡◌, ℕ, zero, suc, ◌+◌, ◌-◌, Bool,
 use Rattle.std.proofs.lemmas.Bool.{cases_lt, cases_eq}
 use Rattle.std.proofs.lemmas.List.{get_or_append_left, get_or-append_right, get_or_past}
 use Rattle.script_nodes.specs.declared.nodes.Node.{Node}
-use Rattle.script_nodes.specs.declared.nodes.Node.TheVariants.{Source, Trim, Splice, Crop, Fade}
+use Rattle.script_nodes.specs.declared.nodes.Node.TheVariants.{Source, Trim, Splice, Crop, Fade, Parts}
+use Rattle.script_nodes.specs.declared.part_list.Part.{Part}
 use Rattle.script_nodes.specs.declared.traces.Step.{Step}
 use Rattle.script_nodes.specs.declared.traces.Step.TheVariants.{Cut, Weigh}
-use Rattle.script_nodes.specs.Lengths.{built, lengths}
-use Rattle.script_nodes.specs.Frames.{Origin, origin, with_step, node_frame, frames, script_frame, weight_at, after_steps}
+use Rattle.script_nodes.specs.Lengths.{built, lengths, part_length}
+use Rattle.script_nodes.specs.Frames.{Origin, origin, with_step, node_frame, frames, parts_frame, script_frame, weight_at, after_steps}
 use Rattle.script_nodes.specs.Scripts.{origin_of}
 use Rattle.script_nodes.specs.Shown.{use_step, IsFollowed}
 use Rattle.script_nodes.proofs.Built.{length-one_more}
@@ -30,6 +31,15 @@ module _ {A : Type 0} (made : Step → A → A) (clip_lengths : List ℕ) (sourc
   step_same : (step : Step) (frame : A) (from : Origin) → frame ≡ after from → made step frame ≡ after (with_step step from)
   step_same step frame from same = ap (made step) same ∙ sym (after_more from.steps step (sources from.source from.frame))
 
+  -- and so they do for parts
+  parts_same : (clips : List (ℕ → A)) (origins : List (ℕ → Origin)) (parts : List Part) (i : ℕ) → GoTogether clips origins → parts_frame clip_lengths clips (sources 0) parts i ≡ after (parts_frame clip_lengths origins (origin 0) parts i)
+  parts_same clips origins [] i t = refl
+  parts_same clips origins (part ∷ parts) i t = by_place (nat_lt i (part_length clip_lengths part)) refl (parts_same clips origins parts (i - part_length clip_lengths part) t)
+    where
+      by_place : (b : Bool) → nat_lt i (part_length clip_lengths part) ≡ b → parts_frame clip_lengths clips (sources 0) parts (i - part_length clip_lengths part) ≡ after (parts_frame clip_lengths origins (origin 0) parts (i - part_length clip_lengths part)) → parts_frame clip_lengths clips (sources 0) (part ∷ parts) i ≡ after (parts_frame clip_lengths origins (origin 0) (part ∷ parts) i)
+      by_place true e rest = rw e (t.same part.clip (part.first + i))
+      by_place false e rest = rw e rest
+
   -- and so they do for a node
   node_same : (clips : List (ℕ → A)) (origins : List (ℕ → Origin)) (node : Node) (i : ℕ) → GoTogether clips origins → node_frame made clip_lengths sources clips node i ≡ after (node_frame with_step clip_lengths origin origins node i)
   node_same clips origins (Source number) i t = refl
@@ -41,6 +51,7 @@ module _ {A : Type 0} (made : Step → A → A) (clip_lengths : List ℕ) (sourc
       by_place false e = rw e (t.same back (i - slice_index clip_lengths front))
   node_same clips origins (Crop clip area) i t = step_same (Cut area) _ (slice_index_or origins clip (origin 0) i) (t.same clip i)
   node_same clips origins (Fade clip ramp) i t = step_same (Weigh (weight_at ramp i)) _ (slice_index_or origins clip (origin 0) i) (t.same clip i)
+  node_same clips origins (Parts parts) i t = parts_same clips origins parts i t
 
   one_more : (clips : List (ℕ → A)) (origins : List (ℕ → Origin)) (node : Node) → GoTogether clips origins → GoTogether (clips ++ node_frame made clip_lengths sources clips node ∷ []) (origins ++ node_frame with_step clip_lengths origin origins node ∷ [])
   one_more clips origins node t =

@@ -5,18 +5,28 @@ use Rattle.std.proofs.Common.{◌≡◌, ℕ, zero, suc, ◌+◌, ◌-◌, ◌^�
 use Rattle.std.proofs.lemmas.List.Elements.{All-push}
 use Rattle.std.proofs.lemmas.Bool.{ltb-true, lt-ltb, le-ltb, leb-true, cond-true, cond-false}
 use Rattle.script_nodes.specs.declared.nodes.Node.{Node}
-use Rattle.script_nodes.specs.declared.nodes.Node.TheVariants.{Source, Trim, Splice, Crop, Fade}
+use Rattle.script_nodes.specs.declared.nodes.Node.TheVariants.{Source, Trim, Splice, Crop, Fade, Parts}
+use Rattle.script_nodes.specs.declared.part_list.Part.{Part}
 use Rattle.script_nodes.specs.declared.nodes.Area.{Area}
 use Rattle.script_nodes.specs.declared.nodes.Ramp.{Ramp}
 use Rattle.script_nodes.specs.declared.traces.Step.{Step}
 use Rattle.script_nodes.specs.declared.traces.Step.TheVariants.{Cut, Weigh}
 use Rattle.script_nodes.specs.Nodes.{uses_below, all_use_below, has_numbers, is_area}
-use Rattle.script_nodes.specs.Lengths.{node_length, lengths}
-use Rattle.script_nodes.specs.Frames.{Origin, origin, with_step, node_frame, frames, weight_at}
+use Rattle.script_nodes.specs.Lengths.{has_clip, lengths, node_length, part_length, parts_length, place_in}
+use Rattle.script_nodes.specs.PartLists.{most_frames}
+use Rattle.script_nodes.specs.Frames.{Origin, origin, with_step, node_frame, frames, parts_frame, weight_at}
 use Rattle.script_nodes.specs.Traces.{IsStep}
 use Rattle.script_nodes.specs.Scripts.{Given, origin_of}
+use Rattle.script_nodes.proofs.PartSums.{frame_placed, parts_used, place_inside}
 use Rattle.script_nodes.proofs.Uses.{both}
 use Rattle.script_nodes.proofs.Built.{IsLocal, built_at, built_below, length-built}
+
+-- parts have the same number of frames over clips of the same lengths
+parts_length_same : (n : ℕ) (below all : List ℕ) (parts : List Part) → list_all (λ part. nat_lt part.clip n) parts ≡ true → ((k d : ℕ) → k < n → get_or all k d ≡ get_or below k d) → parts_length all parts ≡ parts_length below parts
+parts_length_same n below all [] uses same = refl
+parts_length_same n below all (part ∷ parts) uses same =
+    ap (λ (k : ℕ). min part.count (k - part.first) + parts_length all parts) (same part.clip 0 (ltb-true part.clip n (both _ _ uses).0))
+    ∙ ap (λ (k : ℕ). part_length below part + k) (parts_length_same n below all parts (both _ _ uses).1 same)
 
 length_same : (counts : List ℕ) (n : ℕ) (below all : List ℕ) (node : Node) → uses_below n node ≡ true → ((k d : ℕ) → k < n → get_or all k d ≡ get_or below k d) → node_length counts all node ≡ node_length counts below node
 length_same counts n below all (Source number) uses same = refl
@@ -26,11 +36,18 @@ length_same counts n below all (Splice front back) uses same =
     rw (same front 0 (ltb-true front n used.0), same back 0 (ltb-true back n used.1)) refl
 length_same counts n below all (Crop clip area) uses same = same clip 0 (ltb-true clip n uses)
 length_same counts n below all (Fade clip ramp) uses same = same clip 0 (ltb-true clip n uses)
+length_same counts n below all (Parts parts) uses same = parts_length_same n below all parts uses same
 
 lengths_local : (counts : List ℕ) → IsLocal (node_length counts)
 lengths_local counts = record { same = length_same counts }
 
 module _ {A : Type 0} (made : Step → A → A) (clip_lengths : List ℕ) (sources : ℕ → ℕ → A) where
+  parts_frame_same : (n : ℕ) (below all : List (ℕ → A)) (parts : List Part) → list_all (λ part. nat_lt part.clip n) parts ≡ true → ((k : ℕ) (d : ℕ → A) → k < n → get_or all k d ≡ get_or below k d) → parts_frame clip_lengths all (sources 0) parts ≡ parts_frame clip_lengths below (sources 0) parts
+  parts_frame_same n below all [] uses same = refl
+  parts_frame_same n below all (part ∷ parts) uses same =
+      ap (λ (f : ℕ → A). λ (i : ℕ). if nat_lt i (part_length clip_lengths part) then f (part.first + i) else parts_frame clip_lengths all (sources 0) parts (i - part_length clip_lengths part)) (same part.clip (sources 0) (ltb-true part.clip n (both _ _ uses).0))
+      ∙ ap (λ (f : ℕ → A). λ (i : ℕ). if nat_lt i (part_length clip_lengths part) then get_or below part.clip (sources 0) (part.first + i) else f (i - part_length clip_lengths part)) (parts_frame_same n below all parts (both _ _ uses).1 same)
+
   frame_same : (n : ℕ) (below all : List (ℕ → A)) (node : Node) → uses_below n node ≡ true → ((k : ℕ) (d : ℕ → A) → k < n → get_or all k d ≡ get_or below k d) → node_frame made clip_lengths sources all node ≡ node_frame made clip_lengths sources below node
   frame_same n below all (Source number) uses same = refl
   frame_same n below all (Trim clip first count) uses same = ap (λ (f : ℕ → A). λ (i : ℕ). f (first + i)) (same clip (sources 0) (ltb-true clip n uses))
@@ -40,6 +57,7 @@ module _ {A : Type 0} (made : Step → A → A) (clip_lengths : List ℕ) (sourc
       ∙ ap (λ (f : ℕ → A). λ (i : ℕ). if nat_lt i (slice_index clip_lengths front) then get_or below front (sources 0) i else f (i - slice_index clip_lengths front)) (same back (sources 0) (ltb-true back n used.1))
   frame_same n below all (Crop clip area) uses same = ap (λ (f : ℕ → A). λ (i : ℕ). made (Cut area) (f i)) (same clip (sources 0) (ltb-true clip n uses))
   frame_same n below all (Fade clip ramp) uses same = ap (λ (f : ℕ → A). λ (i : ℕ). made (Weigh (weight_at ramp i)) (f i)) (same clip (sources 0) (ltb-true clip n uses))
+  frame_same n below all (Parts parts) uses same = parts_frame_same n below all parts uses same
 
   -- the frames of a node, by the frames of all clips
   pub frames_at : (nodes : List Node) (clip : ℕ) (e : Node) → all_use_below 1 nodes ≡ true → 0 < clip → clip ≤ length nodes → get_or (frames made clip_lengths sources nodes) clip (sources 0) ≡ node_frame made clip_lengths sources (frames made clip_lengths sources nodes) (get_or nodes (clip - 1) e)
@@ -115,6 +133,30 @@ module _ (counts : List ℕ) (nodes : List Node) (clip_lengths : List ℕ) (clip
       let c = clip_is counts nodes clip_lengths clip e (Fade lower ramp) n in
       (ltb-true lower clip c.uses, omega (arith, c.count))
 
+  -- what is known of a frame of parts
+  pub record IsPartsFrame (parts : List Part) : Type 0 where
+    pub few : length clip_lengths ≤ 17
+    pub uses : All (has_clip (length clip_lengths)) parts
+    pub within : parts_length clip_lengths parts ≤ most_frames
+    pub inside : i < parts_length clip_lengths parts
+    pub below : (place_in clip_lengths parts i).0 < clip
+    pub frame : (place_in clip_lengths parts i).1 < slice_index clip_lengths (place_in clip_lengths parts i).0
+
+  pub parts_inside : (parts : List Part) → IsNode counts nodes clip_lengths clip e (Parts parts) → i < slice_index clip_lengths clip → IsPartsFrame parts
+  parts_inside parts n inside =
+      let c = clip_is counts nodes clip_lengths clip e (Parts parts) n in
+      let here : i < parts_length clip_lengths parts = omega (arith, c.count, inside) in
+      let long : length clip_lengths ≡ length nodes + 1 = given_long counts nodes clip_lengths n.given in
+      let place = place_inside clip_lengths clip parts i c.uses here in
+      record {
+        few = omega (arith, long, n.given.script.few);
+        uses = parts_used clip (length clip_lengths) parts c.uses (omega (arith, long, n.within));
+        within = omega (arith, c.count, n.given.small clip);
+        inside = here;
+        below = place.0;
+        frame = place.1;
+      }
+
   -- the origin of a frame of source 0
   pub first_frame : clip ≡ 0 → slice_index_or (frames with_step clip_lengths origin nodes) clip (origin 0) i ≡ origin 0 i
   first_frame first =
@@ -145,6 +187,9 @@ module _ (counts : List ℕ) (nodes : List Node) (clip_lengths : List ℕ) (clip
   pub fade_frame : (lower : ℕ) (ramp : Ramp) (weight source frame : ℕ) (steps new : List Step) → IsNode counts nodes clip_lengths clip e (Fade lower ramp) → new ≡ steps ++ Weigh weight ∷ [] → weight ≡ weight_at ramp i → origin_of source frame steps ≡ slice_index_or (frames with_step clip_lengths origin nodes) lower (origin 0) i → origin_of source frame new ≡ slice_index_or (frames with_step clip_lengths origin nodes) clip (origin 0) i
   fade_frame lower ramp weight source frame steps new n pushed at is =
       ap (origin_of source frame) (pushed ∙ ap (λ (w : ℕ). steps ++ Weigh w ∷ []) at) ∙ ap (with_step (Weigh (weight_at ramp i))) is ∙ sym (frame_here (Fade lower ramp) n)
+
+  pub parts_frame_at : (parts : List Part) (found : Origin) → IsNode counts nodes clip_lengths clip e (Parts parts) → i < parts_length clip_lengths parts → found ≡ slice_index_or (frames with_step clip_lengths origin nodes) (place_in clip_lengths parts i).0 (origin 0) (place_in clip_lengths parts i).1 → found ≡ slice_index_or (frames with_step clip_lengths origin nodes) clip (origin 0) i
+  parts_frame_at parts found n inside is = is ∙ sym (frame_here (Parts parts) n ∙ frame_placed clip_lengths (frames with_step clip_lengths origin nodes) (origin 0) parts i inside)
 
 -- a test of all nodes holds of each
 all_hold : (p : Node → Bool) (xs : List Node) (k : ℕ) (d : Node) → list_all p xs ≡ true → k < length xs → p (get_or xs k d) ≡ true

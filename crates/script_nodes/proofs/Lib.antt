@@ -1,8 +1,12 @@
+pub mod PartSums
 pub mod Ramps
 pub mod Built
 pub mod TextParts
 pub mod Uses
-pub mod PartsRead
+pub mod Splices
+pub mod PartTexts
+pub mod PartWords
+pub mod NodesRead
 pub mod Counts
 pub mod Sizes
 pub mod Follows

@@ -1,5 +1,5 @@
 -- A script that is written is read again.
-use Rattle.std.proofs.Common.{rules, ◌≡◌, ℕ, ◌+◌, ◌<◌, ◌≤◌, ◌^◌, Bool, true, false, cond, not, ◌&&◌, ◌==◌, List, [], ◌∷◌, ◌++◌, Option, Some, None, Result, Ok, Err, length, map, nat_lt, refl, sym, ap, ◌∙◌, arith, append-nil, ne_eqb}
+use Rattle.std.proofs.Common.{rules, ◌≡◌, ℕ, ◌+◌, ◌<◌, ◌≤◌, ◌^◌, Bool, true, false, cond, not, ◌&&◌, ◌==◌, List, [], ◌∷◌, ◌++◌, Option, Some, None, Ok, Err, length, map, nat_lt, refl, ap, ◌∙◌, arith, append-nil, ne_eqb}
 use Rattle.std.proofs.lemmas.Bool.{le-leb, lt-ltb, ltb-false, ltb-true}
 use Rattle.std.proofs.lemmas.Bool.Decides.{nat_tests}
 use Rattle.std.proofs.lemmas.Fmt.{decimal_nonempty, digits_decimal, digits_value-decimal, length-decimal-le}
@@ -16,14 +16,16 @@ use Rattle.std.specs.Str.{bytes_eq}
 use Rattle.std.specs.Str.Parse.{digits_value}
 use Rattle.text_words.specs.Words.{at_end, words_of}
 use Rattle.text_words.proofs.Splits.{not_zero}
-use Rattle.script_nodes.specs.declared.faults.ScriptFault.{ScriptFault}
 use Rattle.script_nodes.specs.declared.faults.ScriptFault.TheVariants.{Nodes, Reference, Number}
 use Rattle.script_nodes.specs.declared.nodes.Area.{Area}
 use Rattle.script_nodes.specs.declared.nodes.Ramp.{Ramp}
 use Rattle.script_nodes.specs.declared.nodes.Node.{Node}
-use Rattle.script_nodes.specs.declared.nodes.Node.TheVariants.{Source, Trim, Splice, Crop, Fade}
-use Rattle.script_nodes.specs.Nodes.{all_use_below, has_numbers, has_source, is_area, is_dash, is_ramp, node_before, node_by_words, node_of, nodes_by_parts, nodes_of, script_from, script_of, short_number_of, uses_below, with_short_number}
-use Rattle.script_nodes.specs.Written.{TextsAreReadBack, later_text, node_text, node_words, script_text}
+use Rattle.script_nodes.specs.declared.nodes.Node.TheVariants.{Source, Trim, Splice, Crop, Fade, Parts}
+use Rattle.script_nodes.specs.declared.part_list.Part.{Part}
+use Rattle.script_nodes.specs.Nodes.{all_use_below, has_numbers, has_source, is_area, is_dash, is_part, is_ramp, node_before, node_by_words, node_of, node_of_parts, nodes_by_parts, nodes_of, part_before, part_of, parts_by, script_from, short_number_of, uses_below, with_short_number}
+use Rattle.script_nodes.specs.Written.{TextsAreReadBack, later_text, node_text, node_words, part_words, script_text}
+use Rattle.script_nodes.specs.Lengths.{is_length, most_lengths}
+use Rattle.script_nodes.proofs.PartWords.{parts_node}
 use Rattle.script_nodes.proofs.Uses.{both}
 
 -- ---- numbers
@@ -104,6 +106,13 @@ fade_word = record {
   semicolons = All-from_recursion (λ b. (b == 59) ≡ false) (codes "fade") (search rules);
 }
 
+parts_word : IsWord (codes "parts")
+parts_word = record {
+  some = omega arith;
+  spaces = All-from_recursion (λ b. (b == 32) ≡ false) (codes "parts") (search rules);
+  semicolons = All-from_recursion (λ b. (b == 59) ≡ false) (codes "parts") (search rules);
+}
+
 abbrev is_some_word : List ℕ → Bool
 is_some_word word = not (length word == 0)
 
@@ -131,6 +140,11 @@ joined_lacks (word ∷ next ∷ words) are =
 
 -- ---- nodes
 
+-- the numbers of parts have at most 10 digits
+abbrev ArePartsShort : List Part → Type 0
+ArePartsShort [] = Unit {0}
+ArePartsShort (part ∷ parts) = ((part.clip < 2 ^ 32) × (part.first < 2 ^ 32) × (part.count < 2 ^ 32)) × ArePartsShort parts
+
 -- the numbers of a node have at most 10 digits
 abbrev IsShort : Node → Type 0
 IsShort (Source number) = number < 2 ^ 32
@@ -138,10 +152,15 @@ IsShort (Trim clip first count) = (clip < 2 ^ 32) × (first < 2 ^ 32) × (count 
 IsShort (Splice front back) = (front < 2 ^ 32) × (back < 2 ^ 32)
 IsShort (Crop clip area) = (clip < 2 ^ 32) × (area.x < 2 ^ 32) × (area.y < 2 ^ 32) × (area.width < 2 ^ 32) × (area.height < 2 ^ 32)
 IsShort (Fade clip ramp) = (clip < 2 ^ 32) × (ramp.first < 2 ^ 32) × (ramp.count < 2 ^ 32) × (ramp.start < 2 ^ 32) × (ramp.end < 2 ^ 32)
+IsShort (Parts parts) = (0 < length parts) × ArePartsShort parts
 
 abbrev AreShort : List Node → Type 0
 AreShort [] = Unit {0}
 AreShort (node ∷ nodes) = IsShort node × AreShort nodes
+
+parts_are_words : (parts : List Part) → ArePartsShort parts → AreWords (flat_map part_words parts)
+parts_are_words [] s = tt
+parts_are_words (part ∷ parts) s = (number_word part.clip s.0.0, (number_word part.first s.0.1, (number_word part.count s.0.2, parts_are_words parts s.1)))
 
 node_are_words : (node : Node) → IsShort node → AreWords (node_words node)
 node_are_words (Source number) s = (source_word, (number_word number s, tt))
@@ -149,6 +168,17 @@ node_are_words (Trim clip first count) s = (trim_word, (number_word clip s.0, (n
 node_are_words (Splice front back) s = (splice_word, (number_word front s.0, (number_word back s.1, tt)))
 node_are_words (Crop clip area) s = (crop_word, (number_word clip s.0, (number_word area.x s.1, (number_word area.y s.2, (number_word area.width s.3, (number_word area.height s.4, tt))))))
 node_are_words (Fade clip ramp) s = (fade_word, (number_word clip s.0, (number_word ramp.first s.1, (number_word ramp.count s.2, (number_word ramp.start s.3, (number_word ramp.end s.4, tt))))))
+node_are_words (Parts parts) s = (parts_word, parts_are_words parts s.1)
+
+-- the parts of the words that are written
+part_read : (part : Part) → part.clip < 2 ^ 32 → part.first < 2 ^ 32 → part.count < 2 ^ 32 → part_of (decimal part.clip) (decimal part.first) (decimal part.count) ≡ Some part
+part_read part clip first count = rw (number_read part.clip clip, number_read part.first first, number_read part.count count) refl
+
+parts_read : (parts : List Part) → ArePartsShort parts → parts_by (flat_map part_words parts) ≡ Some parts
+parts_read [] s = refl
+parts_read (part ∷ parts) s =
+    ap (λ (first : Option Part). part_before first (parts_by (flat_map part_words parts))) (part_read part s.0.0 s.0.1 s.0.2)
+    ∙ ap (part_before (Some part)) (parts_read parts s.1)
 
 -- the node of the words that are written
 node_by_own_words : (node : Node) → IsShort node → node_by_words (node_words node) ≡ Some node
@@ -172,6 +202,7 @@ node_by_own_words (Fade clip ramp) s =
     ∙ with_read ramp.count (λ n. with_short_number (λ u. with_short_number (λ v. at_end None (Some (Fade clip (record { first = ramp.first; count = n; start = u; end = v })))))) (decimal ramp.start ∷ decimal ramp.end ∷ []) s.2
     ∙ with_read ramp.start (λ u. with_short_number (λ v. at_end None (Some (Fade clip (record { first = ramp.first; count = ramp.count; start = u; end = v }))))) (decimal ramp.end ∷ []) s.3
     ∙ with_read ramp.end (λ v. at_end None (Some (Fade clip (record { first = ramp.first; count = ramp.count; start = ramp.start; end = v })))) [] s.4
+node_by_own_words (Parts parts) s = ap node_of_parts (parts_read parts s.1) ∙ parts_node parts s.0
 
 node_read : (node : Node) → IsShort node → node_of (node_text node) ≡ Some node
 node_read node s = ap node_by_words (words_joined (node_words node) (node_are_words node s)) ∙ node_by_own_words node s
@@ -184,12 +215,14 @@ name_no_dash word text is other = ap is_dash (words_first word text is) ∙ by_m
     by_more [] = other
     by_more (next ∷ more) = refl
 
-node_no_dash : (node : Node) (text : List ℕ) → is_dash (words_of (node_text node ++ text)) ≡ false
-node_no_dash (Source number) text = name_no_dash (codes "source") (decimal number ++ text) source_word refl
-node_no_dash (Trim clip first count) text = name_no_dash (codes "trim") (join_with_byte 32 (decimal clip ∷ decimal first ∷ decimal count ∷ []) ++ text) trim_word refl
-node_no_dash (Splice front back) text = name_no_dash (codes "splice") (join_with_byte 32 (decimal front ∷ decimal back ∷ []) ++ text) splice_word refl
-node_no_dash (Crop clip area) text = name_no_dash (codes "crop") (join_with_byte 32 (decimal clip ∷ decimal area.x ∷ decimal area.y ∷ decimal area.width ∷ decimal area.height ∷ []) ++ text) crop_word refl
-node_no_dash (Fade clip ramp) text = name_no_dash (codes "fade") (join_with_byte 32 (decimal clip ∷ decimal ramp.first ∷ decimal ramp.count ∷ decimal ramp.start ∷ decimal ramp.end ∷ []) ++ text) fade_word refl
+node_no_dash : (node : Node) (text : List ℕ) → IsShort node → is_dash (words_of (node_text node ++ text)) ≡ false
+node_no_dash (Source number) text s = name_no_dash (codes "source") (decimal number ++ text) source_word refl
+node_no_dash (Trim clip first count) text s = name_no_dash (codes "trim") (join_with_byte 32 (decimal clip ∷ decimal first ∷ decimal count ∷ []) ++ text) trim_word refl
+node_no_dash (Splice front back) text s = name_no_dash (codes "splice") (join_with_byte 32 (decimal front ∷ decimal back ∷ []) ++ text) splice_word refl
+node_no_dash (Crop clip area) text s = name_no_dash (codes "crop") (join_with_byte 32 (decimal clip ∷ decimal area.x ∷ decimal area.y ∷ decimal area.width ∷ decimal area.height ∷ []) ++ text) crop_word refl
+node_no_dash (Fade clip ramp) text s = name_no_dash (codes "fade") (join_with_byte 32 (decimal clip ∷ decimal ramp.first ∷ decimal ramp.count ∷ decimal ramp.start ∷ decimal ramp.end ∷ []) ++ text) fade_word refl
+node_no_dash (Parts []) text s = absurd (omega (arith, s.0))
+node_no_dash (Parts (part ∷ parts)) text s = name_no_dash (codes "parts") (join_with_byte 32 (flat_map part_words (part ∷ parts)) ++ text) parts_word refl
 
 -- ---- scripts
 
@@ -211,7 +244,7 @@ text_read : (nodes : List Node) → AreShort nodes → nodes_of (script_text nod
 text_read [] are = refl
 text_read (node ∷ nodes) are =
     let text : List ℕ = node_text node ++ flat_map later_text nodes in
-    ap (λ (dash : Bool). cond dash (Some []) (nodes_by_parts (slice_split (λ b. b == 59) text))) (node_no_dash node (flat_map later_text nodes))
+    ap (λ (dash : Bool). cond dash (Some []) (nodes_by_parts (slice_split (λ b. b == 59) text))) (node_no_dash node (flat_map later_text nodes) are.0)
     ∙ ap nodes_by_parts (parts_of node nodes are.0 are.1)
     ∙ all_read (node ∷ nodes) are
 
@@ -225,6 +258,14 @@ ramp_short ramp is = (grind (arith, nat_tests), grind (arith, nat_tests), grind 
 below : (n most : ℕ) → most ≤ 2 ^ 32 → nat_lt n most ≡ true → n < 2 ^ 32
 below n most few is = let less : n < most = ltb-true n most is in omega (arith, less, few)
 
+parts_short : (own : ℕ) (parts : List Part) → own ≤ 2 ^ 32 → list_all (λ part. nat_lt part.clip own) parts ≡ true → list_all is_part parts ≡ true → ArePartsShort parts
+parts_short own [] few uses numbers = tt
+parts_short own (part ∷ parts) few uses numbers =
+    let u = both _ _ uses in
+    let n = both _ _ numbers in
+    let here = both _ _ n.0 in
+    ((below part.clip own few u.0, below part.first (2 ^ 32) (omega arith) here.0, below part.count (2 ^ 32) (omega arith) here.1), parts_short own parts few u.1 n.1)
+
 node_short : (own sources : ℕ) (node : Node) → own ≤ 2 ^ 32 → sources ≤ 2 ^ 32 → uses_below own node ≡ true → has_source sources node ≡ true → has_numbers node ≡ true → IsShort node
 node_short own sources (Source number) few many uses source numbers = below number sources many source
 node_short own sources (Trim clip first count) few many uses source numbers =
@@ -233,6 +274,7 @@ node_short own sources (Trim clip first count) few many uses source numbers =
 node_short own sources (Splice front back) few many uses source numbers = let two = both _ _ uses in (below front own few two.0, below back own few two.1)
 node_short own sources (Crop clip area) few many uses source numbers = let a = area_short area numbers in (below clip own few uses, a.0, a.1, a.2, a.3)
 node_short own sources (Fade clip ramp) few many uses source numbers = let r = ramp_short ramp numbers in (below clip own few uses, r.0, r.1, r.2, r.3)
+node_short own sources (Parts parts) few many uses source numbers = let two = both _ _ numbers in (ltb-true 0 (length parts) two.0, parts_short own parts few uses two.1)
 
 all_short : (own sources : ℕ) (nodes : List Node) → own + length nodes ≤ 2 ^ 32 → sources ≤ 2 ^ 32 → all_use_below own nodes ≡ true → list_all (has_source sources) nodes ≡ true → list_all has_numbers nodes ≡ true → AreShort nodes
 all_short own sources [] few many uses source numbers = tt
@@ -255,7 +297,8 @@ turned false is = cc
 
 pub read_back : TextsAreReadBack
 read_back sources nodes many is =
-    let allowed = accepted (nat_lt 16 (length nodes)) (not (all_use_below 1 nodes && list_all (has_source sources) nodes)) (not (list_all has_numbers nodes)) nodes is in
+    let allowed = accepted (nat_lt 16 (length nodes)) (not (all_use_below 1 nodes && list_all (has_source sources) nodes)) (not (list_all has_numbers nodes && list_all is_length (most_lengths nodes))) nodes is in
     let few : length nodes ≤ 16 = ltb-false 16 (length nodes) allowed.0 in
     let uses = both (all_use_below 1 nodes) (list_all (has_source sources) nodes) (turned _ allowed.1) in
-    ap (script_from sources) (text_read nodes (all_short 1 sources nodes (omega (arith, few)) many uses.0 uses.1 (turned _ allowed.2))) ∙ is
+    let numbers = both (list_all has_numbers nodes) (list_all is_length (most_lengths nodes)) (turned _ allowed.2) in
+    ap (script_from sources) (text_read nodes (all_short 1 sources nodes (omega (arith, few)) many uses.0 uses.1 numbers.0)) ∙ is

@@ -2,10 +2,11 @@
 use Rattle.std.specs.Prelude.{ℕ, ◌+◌, ◌-◌, ◌*◌, ◌/◌, List, [], ◌∷◌, ◌++◌, length, nat_lt, nat_le, if◌then◌else◌, slice_index, slice_index_or, Option, None, Some}
 use Rattle.script_nodes.specs.declared.nodes.Ramp.{Ramp}
 use Rattle.script_nodes.specs.declared.nodes.Node.{Node}
-use Rattle.script_nodes.specs.declared.nodes.Node.TheVariants.{Source, Trim, Splice, Crop, Fade}
+use Rattle.script_nodes.specs.declared.nodes.Node.TheVariants.{Source, Trim, Splice, Crop, Fade, Parts}
+use Rattle.script_nodes.specs.declared.part_list.Part.{Part}
 use Rattle.script_nodes.specs.declared.traces.Step.{Step}
 use Rattle.script_nodes.specs.declared.traces.Step.TheVariants.{Cut, Weigh}
-use Rattle.script_nodes.specs.Lengths.{built, lengths, script_length}
+use Rattle.script_nodes.specs.Lengths.{built, lengths, part_length, script_length}
 
 -- the weight of frame i in 256ths: `start` before the ramp, `end` after it, and evenly from the one to the other between
 unfoldable pub weight_at : Ramp → ℕ → ℕ
@@ -13,6 +14,13 @@ weight_at ramp i =
     if nat_lt i ramp.first then ramp.start
     else if nat_le (ramp.first + ramp.count) i then ramp.end
     else (ramp.start * (ramp.count - (i - ramp.first)) + ramp.end * (i - ramp.first)) / ramp.count
+
+-- the frames of parts: those of the first part, followed by those of the others; `none` past the end
+abbrev pub parts_frame : {A : Type 0} → List ℕ → List (ℕ → A) → (ℕ → A) → List Part → ℕ → A
+parts_frame clip_lengths below none [] = none
+parts_frame clip_lengths below none (part ∷ parts) = λ i.
+    if nat_lt i (part_length clip_lengths part) then slice_index_or below part.clip none (part.first + i)
+    else parts_frame clip_lengths below none parts (i - part_length clip_lengths part)
 
 -- frame i of a node; `made` applies a step to a frame, `sources` has the frames of each source, and the lengths and the frames of the clips below are given, source 0 first
 abbrev pub node_frame : {A : Type 0} → (Step → A → A) → List ℕ → (ℕ → ℕ → A) → List (ℕ → A) → Node → ℕ → A
@@ -23,6 +31,7 @@ node_frame made clip_lengths sources below (Splice front back) = λ i.
     else slice_index_or below back (sources 0) (i - slice_index clip_lengths front)
 node_frame made clip_lengths sources below (Crop clip area) = λ i. made (Cut area) (slice_index_or below clip (sources 0) i)
 node_frame made clip_lengths sources below (Fade clip ramp) = λ i. made (Weigh (weight_at ramp i)) (slice_index_or below clip (sources 0) i)
+node_frame made clip_lengths sources below (Parts parts) = parts_frame clip_lengths below (sources 0) parts
 
 -- the frames of source 0, and then of each node
 abbrev pub frames : {A : Type 0} → (Step → A → A) → List ℕ → (ℕ → ℕ → A) → List Node → List (ℕ → A)

@@ -1,3 +1,4 @@
+pub mod PartLists
 pub mod Nodes
 pub mod Faults
 pub mod Reading

@@ -1,15 +1,23 @@
 -- The steps of a frame with the numbers of their nodes.
 use Rattle.std.specs.Prelude.{◌≡◌, ℕ, zero, suc, ◌+◌, ◌-◌, ◌==◌, ◌&&◌, Bool, unwrap_or, List, [], ◌∷◌, ◌++◌, length, map, nat_lt, if◌then◌else◌, slice_index, slice_index_or}
 use Rattle.script_nodes.specs.declared.nodes.Node.{Node}
-use Rattle.script_nodes.specs.declared.nodes.Node.TheVariants.{Source, Trim, Splice, Crop, Fade}
+use Rattle.script_nodes.specs.declared.nodes.Node.TheVariants.{Source, Trim, Splice, Crop, Fade, Parts}
+use Rattle.script_nodes.specs.declared.part_list.Part.{Part}
 use Rattle.script_nodes.specs.declared.node_steps.NodeStep.{NodeStep}
 use Rattle.script_nodes.specs.declared.traces.Step.{Step}
 use Rattle.script_nodes.specs.declared.traces.Step.TheVariants.{Cut, Weigh}
 use Rattle.script_nodes.specs.Frames.{origin, script_frame, weight_at, with_step}
-use Rattle.script_nodes.specs.Lengths.{lengths}
+use Rattle.script_nodes.specs.Lengths.{lengths, part_length}
 use Rattle.script_nodes.specs.Scripts.{IsScript}
 use Rattle.script_nodes.specs.Shown.{Size, step_size}
 use Rattle.script_nodes.specs.Traces.{IsStep}
+
+-- the steps of frame i of parts
+abbrev pub steps_of_parts : (ℕ → ℕ → List NodeStep) → List ℕ → List Part → ℕ → List NodeStep
+steps_of_parts below clip_lengths [] i = []
+steps_of_parts below clip_lengths (part ∷ parts) i =
+    if nat_lt i (part_length clip_lengths part) then below part.clip (part.first + i)
+    else steps_of_parts below clip_lengths parts (i - part_length clip_lengths part)
 
 -- the steps of frame i of a node with this number, in order; `below` has those of each frame of the clips below
 abbrev pub steps_of_node : (ℕ → ℕ → List NodeStep) → List ℕ → ℕ → Node → ℕ → List NodeStep
@@ -18,6 +26,7 @@ steps_of_node below clip_lengths own (Trim clip first count) i = below clip (fir
 steps_of_node below clip_lengths own (Splice front back) i = if nat_lt i (slice_index clip_lengths front) then below front i else below back (i - slice_index clip_lengths front)
 steps_of_node below clip_lengths own (Crop clip area) i = below clip i ++ record { node = own; step = Cut area } ∷ []
 steps_of_node below clip_lengths own (Fade clip ramp) i = below clip i ++ record { node = own; step = Weigh (weight_at ramp i) } ∷ []
+steps_of_node below clip_lengths own (Parts parts) i = steps_of_parts below clip_lengths parts i
 
 -- the steps of frame i of a clip. A node uses only clips below it, so the clip's number is depth enough
 abbrev pub steps_of_clip : ℕ → List Node → List ℕ → ℕ → ℕ → List NodeStep

@@ -6,9 +6,11 @@ use Rattle.pixel_planes.specs.Pictures.{is_side}
 use Rattle.script_nodes.specs.declared.nodes.Area.{Area}
 use Rattle.script_nodes.specs.declared.nodes.Ramp.{Ramp}
 use Rattle.script_nodes.specs.declared.nodes.Node.{Node}
-use Rattle.script_nodes.specs.declared.nodes.Node.TheVariants.{Source, Trim, Splice, Crop, Fade}
+use Rattle.script_nodes.specs.declared.nodes.Node.TheVariants.{Source, Trim, Splice, Crop, Fade, Parts}
+use Rattle.script_nodes.specs.declared.part_list.Part.{Part}
 use Rattle.script_nodes.specs.declared.faults.ScriptFault.{ScriptFault}
 use Rattle.script_nodes.specs.declared.faults.ScriptFault.TheVariants.{Syntax, Nodes, Reference, Number}
+use Rattle.script_nodes.specs.Lengths.{is_length, most_lengths}
 use Rattle.text_words.specs.Words.{words_of, number_of, with_word, at_end}
 
 -- ---- the text of a node
@@ -41,6 +43,35 @@ fade_by words =
     with_short_number (λ clip. with_short_number (λ first. with_short_number (λ count. with_short_number (λ start. with_short_number (λ end.
     at_end None (Some (Fade clip (record { first = first; count = count; start = start; end = end })))))))) words
 
+-- the part of three words
+abbrev pub part_from : Option ℕ → Option ℕ → Option ℕ → Option Part
+part_from None first count = None
+part_from (Some clip) None count = None
+part_from (Some clip) (Some first) None = None
+part_from (Some clip) (Some first) (Some count) = Some (record { clip = clip; first = first; count = count })
+
+abbrev pub part_of : List ℕ → List ℕ → List ℕ → Option Part
+part_of clip first count = part_from (short_number_of clip) (short_number_of first) (short_number_of count)
+
+-- a part before others, if both exist
+abbrev pub part_before : Option Part → Option (List Part) → Option (List Part)
+part_before None parts = None
+part_before (Some part) None = None
+part_before (Some part) (Some parts) = Some (part ∷ parts)
+
+-- the parts of words, three words a part
+abbrev pub parts_by : List (List ℕ) → Option (List Part)
+parts_by [] = Some []
+parts_by (clip ∷ []) = None
+parts_by (clip ∷ first ∷ []) = None
+parts_by (clip ∷ first ∷ count ∷ words) = part_before (part_of clip first count) (parts_by words)
+
+-- a node of one or more parts
+abbrev pub node_of_parts : Option (List Part) → Option Node
+node_of_parts None = None
+node_of_parts (Some []) = None
+node_of_parts (Some (part ∷ parts)) = Some (Parts (part ∷ parts))
+
 -- the node of these words
 abbrev pub node_by_words : List (List ℕ) → Option Node
 node_by_words [] = None
@@ -50,6 +81,7 @@ node_by_words (name ∷ words) =
     else if bytes_eq name (codes "splice") then splice_by words
     else if bytes_eq name (codes "crop") then crop_by words
     else if bytes_eq name (codes "fade") then fade_by words
+    else if bytes_eq name (codes "parts") then node_of_parts (parts_by words)
     else None
 
 -- the node that a text writes
@@ -88,6 +120,7 @@ uses_below own (Trim clip first count) = nat_lt clip own
 uses_below own (Splice front back) = nat_lt front own && nat_lt back own
 uses_below own (Crop clip area) = nat_lt clip own
 uses_below own (Fade clip ramp) = nat_lt clip own
+uses_below own (Parts parts) = list_all (λ part. nat_lt part.clip own) parts
 
 -- whether each node uses only nodes below its own number; the first one has this number
 abbrev pub all_use_below : ℕ → List Node → Bool
@@ -101,6 +134,7 @@ has_source sources (Trim clip first count) = true
 has_source sources (Splice front back) = true
 has_source sources (Crop clip area) = true
 has_source sources (Fade clip ramp) = true
+has_source sources (Parts parts) = true
 
 -- whether a number is at most 4,294,967,295
 abbrev pub is_number : ℕ → Bool
@@ -120,6 +154,10 @@ is_area area = is_place area.x && is_place area.y && is_side area.width && is_si
 abbrev pub is_ramp : Ramp → Bool
 is_ramp ramp = is_number ramp.first && is_number ramp.count && nat_lt 0 ramp.count && is_weight ramp.start && is_weight ramp.end
 
+-- whether the first frame and the count of a part are allowed
+abbrev pub is_part : Part → Bool
+is_part part = is_number part.first && is_number part.count
+
 -- whether the numbers of a node, except the numbers of nodes and sources that it uses, are allowed
 abbrev pub has_numbers : Node → Bool
 has_numbers (Source number) = true
@@ -127,6 +165,7 @@ has_numbers (Trim clip first count) = is_number first && is_number count
 has_numbers (Splice front back) = true
 has_numbers (Crop clip area) = is_area area
 has_numbers (Fade clip ramp) = is_ramp ramp
+has_numbers (Parts parts) = nat_lt 0 (length parts) && list_all is_part parts
 
 -- the script of these nodes over this many sources, or their first error
 abbrev pub script_from : ℕ → Option (List Node) → Result (List Node) ScriptFault
@@ -134,7 +173,7 @@ script_from sources None = Err Syntax
 script_from sources (Some nodes) =
     if nat_lt 16 (length nodes) then Err Nodes
     else if not (all_use_below 1 nodes && list_all (has_source sources) nodes) then Err Reference
-    else if not (list_all has_numbers nodes) then Err Number
+    else if not (list_all has_numbers nodes && list_all is_length (most_lengths nodes)) then Err Number
     else Ok nodes
 
 -- the script of a text over this many sources, or its first error

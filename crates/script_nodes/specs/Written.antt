@@ -3,8 +3,13 @@ use Rattle.std.specs.Prelude.{◌≡◌, ℕ, ◌≤◌, ◌^◌, List, [], ◌�
 use Rattle.std.specs.Fmt.{decimal}
 use Rattle.std.specs.List.{flat_map, join_with_byte}
 use Rattle.script_nodes.specs.declared.nodes.Node.{Node}
-use Rattle.script_nodes.specs.declared.nodes.Node.TheVariants.{Source, Trim, Splice, Crop, Fade}
+use Rattle.script_nodes.specs.declared.nodes.Node.TheVariants.{Source, Trim, Splice, Crop, Fade, Parts}
+use Rattle.script_nodes.specs.declared.part_list.Part.{Part}
 use Rattle.script_nodes.specs.Nodes.{script_from, script_of}
+
+-- the words of a part
+abbrev pub part_words : Part → List (List ℕ)
+part_words part = decimal part.clip ∷ decimal part.first ∷ decimal part.count ∷ []
 
 -- the words of a node: its name and its numbers
 abbrev pub node_words : Node → List (List ℕ)
@@ -13,6 +18,11 @@ node_words (Trim clip first count) = codes "trim" ∷ decimal clip ∷ decimal f
 node_words (Splice front back) = codes "splice" ∷ decimal front ∷ decimal back ∷ []
 node_words (Crop clip area) = codes "crop" ∷ decimal clip ∷ decimal area.x ∷ decimal area.y ∷ decimal area.width ∷ decimal area.height ∷ []
 node_words (Fade clip ramp) = codes "fade" ∷ decimal clip ∷ decimal ramp.first ∷ decimal ramp.count ∷ decimal ramp.start ∷ decimal ramp.end ∷ []
+node_words (Parts parts) = codes "parts" ∷ flat_map part_words parts
+
+-- a part after a word
+abbrev pub later_part : Part → List ℕ
+later_part part = 32 ∷ decimal part.clip ++ 32 ∷ decimal part.first ++ 32 ∷ decimal part.count
 
 abbrev pub node_text : Node → List ℕ
 node_text node = join_with_byte 32 (node_words node)

@@ -2,7 +2,7 @@
 
 ghost use Rattle.std.specs.Prelude.{◌≡◌, [], ◌∷◌, codes};
 ghost use Rattle.script_nodes.specs.declared.nodes.Node.TheVariants as nodes;
-ghost use Rattle.script_nodes.specs.Laws.{TracesAreFollowed, WorkedSplice, WorkedFaults, WorkedWeights, RampsMeetTheirEnds, ShownSamplesAreSame};
+ghost use Rattle.script_nodes.specs.Laws.{PartsAreSplices, TracesAreFollowed, WorkedSplice, WorkedParts, WorkedPartFaults, WorkedFaults, WorkedWeights, RampsMeetTheirEnds, ShownSamplesAreSame};
 ghost use Rattle.script_nodes.specs.NodeSteps.{StepsAreOfNodes};
 ghost use Rattle.script_nodes.specs.Written.{TextsAreReadBack, script_text};
 
@@ -15,6 +15,18 @@ pub fn traces_are_followed()
 /// origins of frames.
 pub fn worked_splice()
     ensures { WorkedSplice }
+{}
+
+/// Parts of a clip, of which one is cut short and one has no frame: the text, the length and the origins of frames; and texts that are
+/// not parts.
+pub fn worked_parts()
+    ensures parts { WorkedParts }
+    ensures faults { WorkedPartFaults }
+{}
+
+/// Parts are the splices of trims.
+pub fn parts_are_splices()
+    ensures { PartsAreSplices }
 {}
 
 /// Texts that are not scripts.

@@ -65,5 +65,9 @@ pub(crate) fn steps_of_clip(
             });
             found
         }
+        Node::Parts { ref parts } => {
+            let (used, frame) = parts.place(lengths, frame);
+            steps_of_clip(below, nodes, lengths, used, frame)
+        }
     }
 }

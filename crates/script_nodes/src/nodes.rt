@@ -1,12 +1,14 @@
 ghost use Rattle.std.specs.Prelude.{◌≡◌, ℕ, ◌≤◌, true, length, slice_index};
-ghost use Rattle.script_nodes.specs.Nodes.{uses_below, has_source, has_numbers, is_place, is_area, is_ramp};
+ghost use Rattle.script_nodes.specs.Nodes.{uses_below, is_place, is_area, is_ramp};
 ghost use Rattle.script_nodes.specs.Lengths.{node_length};
+ghost use Rattle.script_nodes.specs.PartLists.{most_frames};
 ghost use Rattle.script_nodes.specs.Frames.{weight_at};
 
+use crate::part_list::{PartList, length_at};
 use pixel_planes::is_side;
 
 /// The largest number in a script.
-const MOST_NUMBER: u64 = 4_294_967_295;
+pub(crate) const MOST_NUMBER: u64 = 4_294_967_295;
 
 /// The weight of a picture that is not faded.
 pub(crate) const WHOLE: u64 = 256;
@@ -47,7 +49,7 @@ pub struct Ramp {
 ///
 /// A source is a stream that the script is applied to, with the frames that it shows. Sources are
 /// numbered from 0.
-#[derive(Clone, Copy, Debug, PartialEq, Eq)]
+#[derive(Debug, Drop)]
 pub enum Node {
     /// All frames of the source with this number.
     Source { number: u64 },
@@ -59,33 +61,13 @@ pub enum Node {
     Crop { clip: u64, area: Area },
     /// The frames of a clip, each at its weight with black at the rest.
     Fade { clip: u64, ramp: Ramp },
-}
-
-/// The node that fills unused slots: it has no frames.
-impl Default for Node {
-    fn default() -> Self {
-        Node::Trim {
-            clip: 0,
-            first: 0,
-            count: 0,
-        }
-    }
-}
-
-/// The number of frames of a source: 0 if `counts` does not have it.
-pub(crate) fn count_of(counts: &[u64], source: u64) -> u64
-    ensures { result ≡ slice_index counts.now source }
-{
-    if source < counts.len() as u64 {
-        counts[source as usize]
-    } else {
-        0
-    }
+    /// The frames of parts of clips, one part after the other.
+    Parts { parts: PartList },
 }
 
 impl Area {
     /// Whether a script may have this area.
-    fn is_allowed(&self) -> bool
+    pub(crate) fn is_allowed(&self) -> bool
         ensures { result ≡ is_area self.now }
     {
         is_place(self.x) && is_place(self.y) && is_side(self.width) && is_side(self.height)
@@ -100,7 +82,7 @@ fn is_place(n: u64) -> bool
 
 impl Ramp {
     /// Whether a script may have this ramp.
-    fn is_allowed(&self) -> bool
+    pub(crate) fn is_allowed(&self) -> bool
         ensures { result ≡ is_ramp self.now }
     {
         self.first <= MOST_NUMBER
@@ -128,55 +110,23 @@ impl Ramp {
 }
 
 impl Node {
-    /// Whether the node uses only clips with numbers below this one.
-    pub(crate) fn uses_below(&self, own: u64) -> bool
-        ensures { result ≡ uses_below own self.now }
-    {
-        match self {
-            Node::Source { .. } => true,
-            Node::Trim { clip, .. } => *clip < own,
-            Node::Splice { front, back } => *front < own && *back < own,
-            Node::Crop { clip, .. } => *clip < own,
-            Node::Fade { clip, .. } => *clip < own,
-        }
-    }
-
-    /// Whether the source that the node names, if it names one, is one of this many.
-    pub(crate) fn has_source(&self, sources: u64) -> bool
-        ensures { result ≡ has_source sources self.now }
-    {
-        match self {
-            Node::Source { number } => *number < sources,
-            Node::Trim { .. } | Node::Splice { .. } | Node::Crop { .. } | Node::Fade { .. } => true,
-        }
-    }
-
-    /// Whether the numbers of the node, except numbers of clips and sources, are allowed in a script.
-    pub(crate) fn has_numbers(&self) -> bool
-        ensures { result ≡ has_numbers self.now }
-    {
-        match self {
-            Node::Trim { first, count, .. } => *first <= MOST_NUMBER && *count <= MOST_NUMBER,
-            Node::Source { .. } | Node::Splice { .. } => true,
-            Node::Crop { area, .. } => area.is_allowed(),
-            Node::Fade { ramp, .. } => ramp.is_allowed(),
-        }
-    }
-
     /// The number of frames of the node. `counts` has the number of frames of each source, and `below` that
-    /// of each clip below the node, source 0 first, each at most 2^62.
+    /// of each clip below the node, source 0 first.
     pub(crate) fn length(&self, counts: &[u64], below: &[u64]) -> u64
         requires uses { uses_below (length below.now) self.now ≡ true }
-        requires small { (k : ℕ) → slice_index below.now k ≤ 4611686018427387904 }
+        requires few { length below.now ≤ 17 }
+        requires small { (k : ℕ) → slice_index below.now k ≤ most_frames }
+        requires within { node_length counts.now below.now self.now ≤ most_frames }
         ensures { result ≡ node_length counts.now below.now self.now }
     {
         match self {
-            Node::Source { number } => count_of(counts, *number),
+            Node::Source { number } => length_at(counts, *number),
             Node::Trim { clip, first, count } => {
                 (*count).min(below[*clip as usize].saturating_sub(*first))
             }
             Node::Splice { front, back } => below[*front as usize] + below[*back as usize],
             Node::Crop { clip, .. } | Node::Fade { clip, .. } => below[*clip as usize],
+            Node::Parts { parts } => parts.length(below),
         }
     }
 }

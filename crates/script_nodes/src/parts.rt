@@ -2,16 +2,18 @@
 ghost use Rattle.std.specs.Prelude.{◌≡◌, ℕ, List, Option, None, IfSome, IfNone};
 ghost use Rattle.text_words.specs.Words.{at_end, words_of};
 ghost use Rattle.script_nodes.specs.Nodes.{short_number_of, with_short_number, source_by, trim_by, splice_by, crop_by, fade_by, node_of};
+ghost use Rattle.script_nodes.specs.Reading.{drafted, drafted_of};
 ghost use Rattle.script_nodes.specs.declared.nodes.Node.{Node};
 
-use crate::nodes::{Area, Node, Ramp};
+use crate::drafts::Draft;
+use crate::nodes::{Area, Ramp};
 use text_words::{next_word, number};
 
 /// The most digits of a number.
 const MOST_DIGITS: usize = 10;
 
 /// The number that a word writes: 1 to 10 decimal digits.
-fn short_number(word: &[u8]) -> Option<u64>
+pub(crate) fn short_number(word: &[u8]) -> Option<u64>
     ensures { result ≡ short_number_of word.now }
 {
     if word.len() > MOST_DIGITS {
@@ -33,41 +35,41 @@ fn next_number(text: &[u8]) -> Option<(u64, &[u8])>
 }
 
 /// The node, if no word is left.
-fn ended(node: Node, rest: &[u8]) -> Option<Node>
-    ensures { result ≡ at_end None (Some node) (words_of rest.now) }
+fn ended<'a>(draft: Draft<'a>, rest: &[u8]) -> Option<Draft<'a>>
+    ensures { drafted_of result ≡ at_end None (drafted draft.entry) (words_of rest.now) }
 {
     match next_word(rest) {
-        None => Some(node),
+        None => Some(draft),
         Some(_) => None,
     }
 }
 
-fn source_node(words: &[u8]) -> Option<Node>
-    ensures { result ≡ source_by (words_of words.now) }
+fn source_node(words: &[u8]) -> Option<Draft<'_>>
+    ensures { drafted_of result ≡ source_by (words_of words.now) }
 {
     let (number, rest) = next_number(words)?;
-    ended(Node::Source { number }, rest)
+    ended(Draft::Source { number }, rest)
 }
 
-fn trim_node(words: &[u8]) -> Option<Node>
-    ensures { result ≡ trim_by (words_of words.now) }
+fn trim_node(words: &[u8]) -> Option<Draft<'_>>
+    ensures { drafted_of result ≡ trim_by (words_of words.now) }
 {
     let (clip, rest) = next_number(words)?;
     let (first, rest) = next_number(rest)?;
     let (count, rest) = next_number(rest)?;
-    ended(Node::Trim { clip, first, count }, rest)
+    ended(Draft::Trim { clip, first, count }, rest)
 }
 
-fn splice_node(words: &[u8]) -> Option<Node>
-    ensures { result ≡ splice_by (words_of words.now) }
+fn splice_node(words: &[u8]) -> Option<Draft<'_>>
+    ensures { drafted_of result ≡ splice_by (words_of words.now) }
 {
     let (front, rest) = next_number(words)?;
     let (back, rest) = next_number(rest)?;
-    ended(Node::Splice { front, back }, rest)
+    ended(Draft::Splice { front, back }, rest)
 }
 
-fn crop_node(words: &[u8]) -> Option<Node>
-    ensures { result ≡ crop_by (words_of words.now) }
+fn crop_node(words: &[u8]) -> Option<Draft<'_>>
+    ensures { drafted_of result ≡ crop_by (words_of words.now) }
 {
     let (clip, rest) = next_number(words)?;
     let (x, rest) = next_number(rest)?;
@@ -80,11 +82,11 @@ fn crop_node(words: &[u8]) -> Option<Node>
         width,
         height,
     };
-    ended(Node::Crop { clip, area }, rest)
+    ended(Draft::Crop { clip, area }, rest)
 }
 
-fn fade_node(words: &[u8]) -> Option<Node>
-    ensures { result ≡ fade_by (words_of words.now) }
+fn fade_node(words: &[u8]) -> Option<Draft<'_>>
+    ensures { drafted_of result ≡ fade_by (words_of words.now) }
 {
     let (clip, rest) = next_number(words)?;
     let (first, rest) = next_number(rest)?;
@@ -97,12 +99,12 @@ fn fade_node(words: &[u8]) -> Option<Node>
         start,
         end,
     };
-    ended(Node::Fade { clip, ramp }, rest)
+    ended(Draft::Fade { clip, ramp }, rest)
 }
 
 /// The node that a text writes, or `None` if it does not write one.
-pub(crate) fn read_node(text: &[u8]) -> Option<Node>
-    ensures { result ≡ node_of text.now }
+pub(crate) fn read_draft(text: &[u8]) -> Option<Draft<'_>>
+    ensures { drafted_of result ≡ node_of text.now }
 {
     let (name, words) = next_word(text)?;
     if name == b"source".as_slice() {
@@ -115,6 +117,8 @@ pub(crate) fn read_node(text: &[u8]) -> Option<Node>
         crop_node(words)
     } else if name == b"fade".as_slice() {
         fade_node(words)
+    } else if name == b"parts".as_slice() {
+        Some(Draft::Parts { words })
     } else {
         None
     }

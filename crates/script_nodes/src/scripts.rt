@@ -13,7 +13,8 @@ ghost use Rattle.script_nodes.specs.Written.{script_text};
 
 use crate::faults::ScriptFault;
 use crate::node_steps::{NodeStep, steps_of_clip};
-use crate::nodes::{Node, count_of};
+use crate::nodes::Node;
+use crate::part_list::length_at;
 use crate::reading::read_script;
 use crate::traces::{Step, Trace};
 use crate::writing::write_nodes;
@@ -73,7 +74,7 @@ fn lengths_of(nodes: &[Node], counts: &[u64]) -> ArrayVec<u64, 17>
     ensures given { Given counts.now nodes.now result.items }
 {
     let mut found = ArrayVec::new();
-    found.push(count_of(counts, 0));
+    found.push(length_at(counts, 0));
     for node in nodes {
         let length = node.length(counts, &found);
         found.push(length);
@@ -115,6 +116,10 @@ fn found_in(nodes: &[Node], lengths: &[u64], clip: u64, frame: u64) -> Found
             found.steps.push(Step::Weigh(ramp.weight(frame)));
             found
         }
+        Node::Parts { ref parts } => {
+            let (clip, frame) = parts.place(lengths, frame);
+            found_in(nodes, lengths, clip, frame)
+        }
     }
 }
 
@@ -136,11 +141,8 @@ impl Script {
         ensures value { IfOk result (λ script. script_of sources text.now ≡ Ok script) }
         ensures refused { IfErr result (RefusesText sources text.now) }
     {
-        let nodes = read_script(text, sources)?;
-        match Vec::from_slice(alloc, &nodes) {
-            Ok(nodes) => Ok(Script { nodes }),
-            Err(_) => Err(ScriptFault::NoMemory),
-        }
+        let nodes = read_script(alloc, text, sources)?;
+        Ok(Script { nodes })
     }
 
     /// Writes the text of the script, from which `parse` reads it again: `-` without nodes, otherwise one space between two words

@@ -3,9 +3,10 @@ ghost use Rattle.std.specs.Prelude.{◌≡◌, OnOk};
 ghost use Rattle.std.specs.List.{flat_map};
 ghost use Rattle.std.specs.Io.KnownBytes.{Appends};
 ghost use Rattle.script_nodes.specs.declared.nodes.Node.TheVariants as nodes;
-ghost use Rattle.script_nodes.specs.Written.{later_text, node_text, script_text};
+ghost use Rattle.script_nodes.specs.Written.{later_part, later_text, node_text, script_text};
 
 use crate::nodes::{Area, Node, Ramp};
+use crate::part_list::Part;
 use std::io::{self, Write};
 
 fn write_trim<W: Write>(w: &mut W, clip: u64, first: u64, count: u64) -> io::Result<()>
@@ -44,16 +45,34 @@ fn write_fade<W: Write>(w: &mut W, clip: u64, ramp: Ramp) -> io::Result<()>
     write!(w, "fade {clip} {first} {count} {start} {end}")
 }
 
-/// Writes the text of a node.
-fn write_node<W: Write>(w: &mut W, node: Node) -> io::Result<()>
-    ensures { OnOk result (Appends (W.contents w.old) (W.contents w.new) (node_text node)) }
+fn write_part<W: Write>(w: &mut W, part: Part) -> io::Result<()>
+    ensures { OnOk result (Appends (W.contents w.old) (W.contents w.new) (later_part part)) }
 {
-    match node {
+    let Part { clip, first, count } = part;
+    write!(w, " {clip} {first} {count}")
+}
+
+fn write_parts<W: Write>(w: &mut W, parts: &[Part]) -> io::Result<()>
+    ensures { OnOk result (Appends (W.contents w.old) (W.contents w.new) (node_text (nodes.Parts parts.now))) }
+{
+    w.write_all(b"parts")?;
+    for part in parts {
+        write_part(w, *part)?;
+    }
+    Ok(())
+}
+
+/// Writes the text of a node.
+fn write_node<W: Write>(w: &mut W, node: &Node) -> io::Result<()>
+    ensures { OnOk result (Appends (W.contents w.old) (W.contents w.new) (node_text node.now)) }
+{
+    match *node {
         Node::Source { number } => write!(w, "source {number}"),
         Node::Trim { clip, first, count } => write_trim(w, clip, first, count),
         Node::Splice { front, back } => write_splice(w, front, back),
         Node::Crop { clip, area } => write_crop(w, clip, area),
         Node::Fade { clip, ramp } => write_fade(w, clip, ramp),
+        Node::Parts { ref parts } => write_parts(w, parts.parts()),
     }
 }
 
@@ -63,7 +82,7 @@ fn write_later<W: Write>(w: &mut W, nodes: &[Node]) -> io::Result<()>
 {
     for node in nodes {
         w.write_all(b";")?;
-        write_node(w, *node)?;
+        write_node(w, node)?;
     }
     Ok(())
 }
@@ -75,7 +94,7 @@ pub(crate) fn write_nodes<W: Write>(w: &mut W, nodes: &[Node]) -> io::Result<()>
     match nodes.split_first() {
         None => w.write_all(b"-"),
         Some((first, rest)) => {
-            write_node(w, *first)?;
+            write_node(w, first)?;
             write_later(w, rest)
         }
     }

@@ -73,6 +73,7 @@ nodes:
   source S                      the frames of source S
   trim A FIRST COUNT            COUNT frames of A, starting at FIRST
   splice A B                    A's frames, then B's
+  parts A FIRST COUNT ..        any number of trims, one after the other
   crop A X Y W H                W x H samples from column X, row Y (both even)
   fade A FIRST COUNT FROM TO    mix with black: weight FROM/256 before FIRST,
                                 TO/256 after COUNT frames, a ramp between

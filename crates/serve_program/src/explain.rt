@@ -7,7 +7,7 @@ ghost use Rattle.serve_program.specs.Reports.{export_line, export_report, number
 
 use crate::exports::Answered;
 use crate::messages::{Messages, UnsavedFile};
-use command_lines::{InLine, NO_FILE, write_format};
+use command_lines::{InLine, NO_FILE, write_format, write_webm_fault};
 use explanations::{CutRecord, StreamReason, cut_record, stream_reason};
 use frame_session::Export;
 use output_files::{Taken, Unsaved};
@@ -20,7 +20,7 @@ use std::rt::Files;
 use std::str;
 use stream_files::read_all;
 use stream_sources::StreamFault;
-use webm_files::{codec_there, is_marked};
+use webm_files::is_marked;
 
 /// Whether the option `--explain` is among the arguments.
 pub fn is_asked<S: AsStr>(words: &[S]) -> bool
@@ -296,64 +296,7 @@ fn explain_head<E: Write>(
             messages.errors,
             "{shown}: out of memory for its packets"
         ),
-        reason => explain_webm(path, head, reason, messages),
-    }
-}
-
-/// Explains why a file that begins as a WebM file is not a stream.
-fn explain_webm<E: Write>(
-    path: &str,
-    head: &[u8],
-    reason: StreamReason,
-    messages: &mut Messages<'_, E>,
-) -> io::Result<()> {
-    let shown = InLine(path);
-    match reason {
-        StreamReason::NoHeader => writeln!(
-            messages.errors,
-            "{shown} begins as a WebM file, but its EBML header is cut off or damaged"
-        ),
-        StreamReason::OtherKind => writeln!(
-            messages.errors,
-            "{shown} is an EBML file, but neither WebM nor Matroska"
-        ),
-        StreamReason::NoTracks => writeln!(
-            messages.errors,
-            "{shown} has no list of tracks: the first part of the file is lost or damaged"
-        ),
-        StreamReason::NoVideo => explain_no_video(path, head, messages),
-        StreamReason::Encoded => writeln!(
-            messages.errors,
-            "the packets of {shown} are compressed or encrypted once more; for a compression: mkvmerge -o out.mkv --compression -1:none {shown}"
-        ),
-        StreamReason::Scale => writeln!(
-            messages.errors,
-            "{shown} has a unit of time of 0, or of 4294967296 nanoseconds or more"
-        ),
-        StreamReason::TooManyParts => writeln!(
-            messages.errors,
-            "{shown} has more than 1048576 packets of its video, 16777216 elements or 127 tracks"
-        ),
-        _ => Ok(()),
-    }
-}
-
-/// Explains that a WebM file has no VP8 video, with the codec of its video if the first bytes of the file have its name.
-fn explain_no_video<E: Write>(
-    path: &str,
-    head: &[u8],
-    messages: &mut Messages<'_, E>,
-) -> io::Result<()> {
-    let shown = InLine(path);
-    match str::from_utf8(codec_there(head)) {
-        Ok(codec) if !codec.is_empty() => {
-            let codec = InLine(codec);
-            writeln!(
-                messages.errors,
-                "{shown} has no VP8 video: the codec of its video is {codec}, which has to be coded again, which changes each frame: ffmpeg -i {shown} -an -c:v libvpx out.ivf"
-            )
-        }
-        _ => writeln!(messages.errors, "{shown} has no VP8 video"),
+        _ => write_webm_fault(messages.errors, path, head, fault),
     }
 }
 

@@ -1,10 +1,9 @@
 -- The lines of a list of packets, as JSON.
-use Rattle.std.specs.Prelude.{◌≡◌, ℕ, ◌+◌, List, ◌++◌, drop, map, take}
-use Rattle.std.specs.List.{concat}
+use Rattle.std.specs.Prelude.{ℕ, List, drop, map, take}
 use Rattle.packet_edits.specs.Edits.{Listing}
 use Rattle.packet_edits.specs.Saved.{packets_of}
 use Rattle.stream_facts.specs.Facts.{facts_in}
-use Rattle.stream_facts.specs.Json.{object_of, objects_of}
+use Rattle.stream_facts.specs.Json.{object_of}
 
 -- the byte at which the first record of a saved file begins: after its header
 abbrev pub first_record : ℕ
@@ -17,11 +16,3 @@ lines_of list = map object_of (facts_in first_record (packets_of list))
 -- those of this many packets, starting at an index
 abbrev pub lines_from : Listing → ℕ → ℕ → List (List ℕ)
 lines_from list first count = take count (drop first (lines_of list))
-
--- all of them together are the text that vp8list writes of that file
-abbrev pub LinesAreListed : Type 0
-LinesAreListed = (list : Listing) → concat (lines_of list) ≡ objects_of first_record (packets_of list)
-
--- the lines of consecutive packets, put together, are those of all of them
-abbrev pub LinesAreJoined : Type 0
-LinesAreJoined = (list : Listing) (first count more : ℕ) → lines_from list first count ++ lines_from list (first + count) more ≡ lines_from list first (count + more)

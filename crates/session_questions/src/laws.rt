@@ -1,7 +1,7 @@
 //! Laws over the definitions.
 
 ghost use Rattle.session_questions.specs.FindingLaws.{FindingsAreChecked, FindingsAreJoined};
-ghost use Rattle.session_questions.specs.Lines.{LinesAreJoined, LinesAreListed};
+ghost use Rattle.session_questions.specs.LineLaws.{LinesAreJoined, LinesAreListed};
 
 /// The lines of all packets are the text that vp8list writes of the file to which they are saved.
 pub fn lines_are_listed()

@@ -9,7 +9,7 @@ use Rattle.stream_checks.specs.declared.fault.CheckFault.{CheckFault}
 use Rattle.stream_checks.specs.declared.fault.CheckFault.TheVariants.{NoMemory, Write}
 use Rattle.macroblock_lists.specs.declared.layouts.Form.{Form}
 use Rattle.vp8_tables.specs.Tables.{TableEntries}
-use Rattle.stream_files.specs.declared.streams.Stream.{Stream}
+use Rattle.stream_sources.specs.declared.sources.Source.{Source}
 use Rattle.stream_checks.specs.Checks.{IsBegun, IsChecked, IsEarlyEnd, IsPacketEnd}
 use Rattle.stream_checks.specs.Files.{end_findings, findings, head_findings}
 use Rattle.stream_checks.specs.Lines.{frames_of}
@@ -46,24 +46,24 @@ whole_tally first middle last a b c of_first of_middle of_last =
     ∙ ap (λ (t : Tally). plus t (tally_of last)) (sym (tally_append first middle)) ∙ sym (tally_append (first ++ middle) last)
 
 -- memory ran out in the middle of the second part
-pub early_whole : (fault : CheckFault) (form : Form) (tables : TableEntries) (bytes : List ℕ) (file : Stream) (w0 w1 w2 : Option (List ℕ))
-    → Appends w0 w1 (texts_of form (head_findings bytes file)) → IsPacketEnd form (packet_findings tables file.packets) w1 w2 fault
-    → IsEarlyEnd form tables bytes file w0 w2 fault
-early_whole NoMemory form tables bytes file w0 w1 w2 said begun = inr (begun_whole form (head_findings bytes file) (packet_findings tables file.packets) (end_findings bytes file) w0 w1 w2 said begun)
-early_whole Write form tables bytes file w0 w1 w2 said begun = tt
+pub early_whole : (fault : CheckFault) (form : Form) (tables : TableEntries) (bytes : List ℕ) (source : Source) (w0 w1 w2 : Option (List ℕ))
+    → Appends w0 w1 (texts_of form (head_findings bytes source)) → IsPacketEnd form (packet_findings tables source.stream.packets) w1 w2 fault
+    → IsEarlyEnd form tables bytes source w0 w2 fault
+early_whole NoMemory form tables bytes source w0 w1 w2 said begun = inr (begun_whole form (head_findings bytes source) (packet_findings tables source.stream.packets) (end_findings bytes source) w0 w1 w2 said begun)
+early_whole Write form tables bytes source w0 w1 w2 said begun = tt
 
 -- a whole check
-pub checked_whole : (form : Form) (tables : TableEntries) (bytes : List ℕ) (file : Stream) (w0 w1 w2 w3 w4 : Option (List ℕ)) (a b c total : Tally)
-    → Appends w0 w1 (texts_of form (head_findings bytes file)) → Appends w1 w2 (texts_of form (packet_findings tables file.packets)) → Appends w2 w3 (texts_of form (end_findings bytes file))
-    → a ≡ tally_of (head_findings bytes file) → b ≡ tally_of (packet_findings tables file.packets) → c ≡ tally_of (end_findings bytes file)
-    → total ≡ plus (plus a b) c → Appends w3 w4 (end_of form (length file.packets) (frames_of file.packets) total)
-    → IsChecked form tables bytes file total w0 w4
-checked_whole form tables bytes file w0 w1 w2 w3 w4 a b c total first middle last of_first of_middle of_last is end =
-    let all : List Finding = findings tables bytes file in
-    let counted : total ≡ tally_of all = is ∙ whole_tally (head_findings bytes file) (packet_findings tables file.packets) (end_findings bytes file) a b c of_first of_middle of_last in
-    let ended : Appends w3 w4 (end_of form (length file.packets) (frames_of file.packets) (tally_of all)) =
-    subst (λ (tally : Tally). Appends w3 w4 (end_of form (length file.packets) (frames_of file.packets) tally)) counted end in
+pub checked_whole : (form : Form) (tables : TableEntries) (bytes : List ℕ) (source : Source) (w0 w1 w2 w3 w4 : Option (List ℕ)) (a b c total : Tally)
+    → Appends w0 w1 (texts_of form (head_findings bytes source)) → Appends w1 w2 (texts_of form (packet_findings tables source.stream.packets)) → Appends w2 w3 (texts_of form (end_findings bytes source))
+    → a ≡ tally_of (head_findings bytes source) → b ≡ tally_of (packet_findings tables source.stream.packets) → c ≡ tally_of (end_findings bytes source)
+    → total ≡ plus (plus a b) c → Appends w3 w4 (end_of form (length source.stream.packets) (frames_of source.stream.packets) total)
+    → IsChecked form tables bytes source total w0 w4
+checked_whole form tables bytes source w0 w1 w2 w3 w4 a b c total first middle last of_first of_middle of_last is end =
+    let all : List Finding = findings tables bytes source in
+    let counted : total ≡ tally_of all = is ∙ whole_tally (head_findings bytes source) (packet_findings tables source.stream.packets) (end_findings bytes source) a b c of_first of_middle of_last in
+    let ended : Appends w3 w4 (end_of form (length source.stream.packets) (frames_of source.stream.packets) (tally_of all)) =
+    subst (λ (tally : Tally). Appends w3 w4 (end_of form (length source.stream.packets) (frames_of source.stream.packets) tally)) counted end in
     record {
-      written = whole_text form (head_findings bytes file) (packet_findings tables file.packets) (end_findings bytes file) _ w0 w1 w2 w3 w4 first middle last ended;
+      written = whole_text form (head_findings bytes source) (packet_findings tables source.stream.packets) (end_findings bytes source) _ w0 w1 w2 w3 w4 first middle last ended;
       counted = counted;
     }

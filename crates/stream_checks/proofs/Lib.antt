@@ -3,6 +3,7 @@ pub mod Steps
 pub mod Tallies
 pub mod Parts
 pub mod Ends
+pub mod MediaFound
 pub mod Lost
 mod HashAligned
 mod HashHeads

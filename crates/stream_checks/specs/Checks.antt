@@ -3,6 +3,7 @@ use Rattle.std.specs.Prelude.{◌≡◌, ◌⊎◌, ℕ, List, ◌++◌, length,
 use Rattle.std.specs.Io.KnownBytes.{Appends}
 use Rattle.vp8_tables.specs.Tables.{TableEntries}
 use Rattle.stream_files.specs.declared.streams.Stream.{Stream}
+use Rattle.stream_sources.specs.declared.sources.Source.{Source}
 use Rattle.stream_files.specs.declared.packets.Packet.{Packet}
 use Rattle.macroblock_lists.specs.Known.{Knowledge, progress_after}
 use Rattle.macroblock_lists.specs.PartitionEnds.{ends_before}
@@ -52,9 +53,9 @@ abbrev pub text_of_check : Form → Stream → List Finding → List ℕ
 text_of_check form file found = texts_of form found ++ end_of form (length file.packets) (frames_of file.packets) (tally_of found)
 
 -- a check of a file: the output gained the text of its findings, and the tally is theirs
-pub record IsChecked (form : Form) (tables : TableEntries) (bytes : List ℕ) (file : Stream) (tally : Tally) (output output' : Option (List ℕ)) : Type 0 where
-  pub written : Appends output output' (text_of_check form file (findings tables bytes file))
-  pub counted : tally ≡ tally_of (findings tables bytes file)
+pub record IsChecked (form : Form) (tables : TableEntries) (bytes : List ℕ) (source : Source) (tally : Tally) (output output' : Option (List ℕ)) : Type 0 where
+  pub written : Appends output output' (text_of_check form source.stream (findings tables bytes source))
+  pub counted : tally ≡ tally_of (findings tables bytes source)
 
 -- the output gained the texts of the first findings, as many as there was memory for
 pub record IsBegun (form : Form) (all : List Finding) (output output' : Option (List ℕ)) : Type 0 where
@@ -64,9 +65,9 @@ pub record IsBegun (form : Form) (all : List Finding) (output output' : Option (
   pub said : Appends output output' (texts_of form done)
 
 -- what was written when a check ended early
-abbrev pub IsEarlyEnd : Form → TableEntries → List ℕ → Stream → Option (List ℕ) → Option (List ℕ) → CheckFault → Type 0
-IsEarlyEnd form tables bytes file output output' NoMemory = (output' ≡ output) ⊎ IsBegun form (findings tables bytes file) output output'
-IsEarlyEnd form tables bytes file output output' Write = Unit {0}
+abbrev pub IsEarlyEnd : Form → TableEntries → List ℕ → Source → Option (List ℕ) → Option (List ℕ) → CheckFault → Type 0
+IsEarlyEnd form tables bytes source output output' NoMemory = (output' ≡ output) ⊎ IsBegun form (findings tables bytes source) output output'
+IsEarlyEnd form tables bytes source output output' Write = Unit {0}
 
 -- and when its packets did
 abbrev pub IsPacketEnd : Form → List Finding → Option (List ℕ) → Option (List ℕ) → CheckFault → Type 0

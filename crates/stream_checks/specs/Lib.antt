@@ -4,6 +4,7 @@ pub mod Severity
 pub mod Stamps
 pub mod Partitions
 pub mod Packets
+pub mod Media
 pub mod Files
 pub mod Lines
 pub mod Objects

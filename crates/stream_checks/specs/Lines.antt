@@ -8,7 +8,9 @@ use Rattle.stream_checks.specs.declared.finding.Finding.{Finding}
 use Rattle.stream_checks.specs.declared.finding.Spot.{Spot}
 use Rattle.stream_checks.specs.declared.finding.Tally.{Tally}
 use Rattle.stream_checks.specs.declared.finding.Trouble.{Trouble}
-use Rattle.stream_checks.specs.declared.finding.Trouble.TheVariants.{FrameCount, FrameSize, NoRate, Refused, PastFirst, PastToken, UnreadFirst, UnreadToken, EmptyToken, NoBytes, GoldenCopiesNone, AltrefCopiesNone, ComesTwice, StampRepeats, StampGoesBack, StampSkips, BreaksStep, SizeChanges, NeverShown, CutRecord}
+use Rattle.stream_checks.specs.declared.finding.Trouble.TheVariants.{FrameCount, FrameSize, NoRate, Refused, PastFirst, PastToken, UnreadFirst, UnreadToken, EmptyToken, NoBytes, GoldenCopiesNone, AltrefCopiesNone, ComesTwice, StampRepeats, StampGoesBack, StampSkips, BreaksStep, SizeChanges, NeverShown, CutRecord, InWebm}
+use Rattle.stream_checks.specs.declared.webm_trouble.WebmTrouble.{WebmTrouble}
+use Rattle.stream_checks.specs.declared.webm_trouble.WebmTrouble.TheVariants.{CutElement, Skipped, LacedBlock, UnlistedBlock}
 use Rattle.stream_checks.specs.Severity.{is_damage}
 
 -- what is at the front of a line
@@ -88,6 +90,32 @@ left_text (Some claimed) left = claimed_text claimed ++ decimal left ++ codes " 
 abbrev pub cut_text : ℕ → ℕ → Option ℕ → ℕ → List ℕ
 cut_text number begins claimed left = cut_start number begins ++ left_text claimed left
 
+-- of bytes of a WebM file that are read as no element
+abbrev pub cut_element_text : ℕ → ℕ → List ℕ
+cut_element_text begins left = codes "element at byte " ++ decimal begins ++ codes ": the file ends within it, " ++ decimal left ++ codes " bytes are there"
+
+abbrev pub skipped_text : ℕ → ℕ → List ℕ
+skipped_text begins bytes = codes "byte " ++ decimal begins ++ codes ": " ++ decimal bytes ++ codes " bytes are no element, and are skipped"
+
+-- of a block of a WebM file
+abbrev pub block_start : ℕ → List ℕ
+block_start begins = codes "block at byte " ++ decimal begins ++ codes ": "
+
+abbrev pub laced_text : ℕ → List ℕ
+laced_text begins = block_start begins ++ codes "laced packets of the video, which are left out"
+
+abbrev pub track_text : ℕ → List ℕ
+track_text track = codes "track " ++ decimal track ++ codes ", which the file does not list"
+
+abbrev pub unlisted_text : ℕ → ℕ → List ℕ
+unlisted_text begins track = block_start begins ++ track_text track
+
+abbrev pub webm_text : WebmTrouble → List ℕ
+webm_text (CutElement begins left) = cut_element_text begins left
+webm_text (Skipped begins bytes) = skipped_text begins bytes
+webm_text (LacedBlock begins) = laced_text begins
+webm_text (UnlistedBlock begins track) = unlisted_text begins track
+
 -- what is found
 abbrev pub trouble_text : Trouble → List ℕ
 trouble_text (FrameCount claimed packets) = count_text claimed packets
@@ -110,6 +138,7 @@ trouble_text (BreaksStep stamp before step) = breaks_text stamp before step
 trouble_text (SizeChanges before size) = change_text before size
 trouble_text NeverShown = codes "hidden, never shown"
 trouble_text (CutRecord number begins claimed left) = cut_text number begins claimed left
+trouble_text (InWebm trouble) = webm_text trouble
 
 -- the line of a finding
 abbrev pub line_of : Finding → List ℕ

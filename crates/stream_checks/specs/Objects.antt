@@ -7,7 +7,9 @@ use Rattle.stream_checks.specs.declared.finding.Finding.{Finding}
 use Rattle.stream_checks.specs.declared.finding.Spot.{Spot}
 use Rattle.stream_checks.specs.declared.finding.Tally.{Tally}
 use Rattle.stream_checks.specs.declared.finding.Trouble.{Trouble}
-use Rattle.stream_checks.specs.declared.finding.Trouble.TheVariants.{FrameCount, FrameSize, NoRate, Refused, PastFirst, PastToken, UnreadFirst, UnreadToken, EmptyToken, NoBytes, GoldenCopiesNone, AltrefCopiesNone, ComesTwice, StampRepeats, StampGoesBack, StampSkips, BreaksStep, SizeChanges, NeverShown, CutRecord}
+use Rattle.stream_checks.specs.declared.finding.Trouble.TheVariants.{FrameCount, FrameSize, NoRate, Refused, PastFirst, PastToken, UnreadFirst, UnreadToken, EmptyToken, NoBytes, GoldenCopiesNone, AltrefCopiesNone, ComesTwice, StampRepeats, StampGoesBack, StampSkips, BreaksStep, SizeChanges, NeverShown, CutRecord, InWebm}
+use Rattle.stream_checks.specs.declared.webm_trouble.WebmTrouble.{WebmTrouble}
+use Rattle.stream_checks.specs.declared.webm_trouble.WebmTrouble.TheVariants.{CutElement, Skipped, LacedBlock, UnlistedBlock}
 use Rattle.stream_checks.specs.Lines.{size_text}
 use Rattle.stream_checks.specs.Severity.{is_damage}
 
@@ -66,6 +68,28 @@ cut_members number begins claimed left =
     kind_member (codes "cut_record") ++ number_member (codes "record") number ++ number_member (codes "byte") begins
     ++ optional_member (codes "claimed") claimed ++ number_member (codes "left") left
 
+-- at a byte of a WebM file
+abbrev pub byte_members : List ℕ → ℕ → List ℕ
+byte_members kind begins = kind_member kind ++ number_member (codes "byte") begins
+
+abbrev pub cut_element_members : ℕ → ℕ → List ℕ
+cut_element_members begins left = byte_members (codes "cut_element") begins ++ number_member (codes "left") left
+
+abbrev pub skipped_members : ℕ → ℕ → List ℕ
+skipped_members begins bytes = byte_members (codes "skipped") begins ++ number_member (codes "bytes") bytes
+
+abbrev pub laced_members : ℕ → List ℕ
+laced_members begins = byte_members (codes "laced_block") begins
+
+abbrev pub unlisted_members : ℕ → ℕ → List ℕ
+unlisted_members begins track = byte_members (codes "unlisted_block") begins ++ number_member (codes "track") track
+
+abbrev pub webm_members : WebmTrouble → List ℕ
+webm_members (CutElement begins left) = cut_element_members begins left
+webm_members (Skipped begins bytes) = skipped_members begins bytes
+webm_members (LacedBlock begins) = laced_members begins
+webm_members (UnlistedBlock begins track) = unlisted_members begins track
+
 -- the kind of a finding, and the numbers of its line
 abbrev pub trouble_members : Trouble → List ℕ
 trouble_members (FrameCount claimed packets) = kind_member (codes "frame_count") ++ number_member (codes "claimed") claimed ++ number_member (codes "packets") packets
@@ -88,6 +112,7 @@ trouble_members (BreaksStep stamp before step) = breaks_members stamp before ste
 trouble_members (SizeChanges before size) = size_members (codes "size_changes") (codes "before") before size
 trouble_members NeverShown = kind_member (codes "never_shown")
 trouble_members (CutRecord number begins claimed left) = cut_members number begins claimed left
+trouble_members (InWebm trouble) = webm_members trouble
 
 -- damage, or a note
 abbrev pub severity_member : Trouble → List ℕ

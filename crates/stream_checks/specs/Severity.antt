@@ -3,7 +3,14 @@ use Rattle.std.specs.Prelude.{◌+◌, Bool, true, false, not, List, count_by}
 use Rattle.stream_checks.specs.declared.finding.Finding.{Finding}
 use Rattle.stream_checks.specs.declared.finding.Tally.{Tally}
 use Rattle.stream_checks.specs.declared.finding.Trouble.{Trouble}
-use Rattle.stream_checks.specs.declared.finding.Trouble.TheVariants.{Refused, PastFirst, PastToken, UnreadFirst, UnreadToken, ComesTwice, BreaksStep, CutRecord}
+use Rattle.stream_checks.specs.declared.finding.Trouble.TheVariants.{Refused, PastFirst, PastToken, UnreadFirst, UnreadToken, ComesTwice, BreaksStep, CutRecord, InWebm}
+use Rattle.stream_checks.specs.declared.webm_trouble.WebmTrouble.{WebmTrouble}
+use Rattle.stream_checks.specs.declared.webm_trouble.WebmTrouble.TheVariants.{UnlistedBlock}
+
+-- a block of a track that is not listed may be of another track than the video
+abbrev pub is_webm_damage : WebmTrouble → Bool
+is_webm_damage (UnlistedBlock begins track) = false
+is_webm_damage trouble = true
 
 -- samples are lost, or they are not those that were coded; anything else is only worth a note
 abbrev pub is_damage : Trouble → Bool
@@ -15,6 +22,7 @@ is_damage (UnreadToken partition bytes size) = true
 is_damage (ComesTwice breaks_step) = breaks_step
 is_damage (BreaksStep stamp before step) = true
 is_damage (CutRecord number begins claimed left) = true
+is_damage (InWebm trouble) = is_webm_damage trouble
 is_damage trouble = false
 
 -- how many findings are damage, and how many are notes

@@ -2,7 +2,7 @@
 
 ghost use Rattle.std.specs.Prelude.{◌≡◌, ◌+◌, ◌≤◌, IfErr, IfOk, OnOk, length};
 ghost use Rattle.std.specs.Io.KnownBytes.{Appends};
-ghost use Rattle.stream_files.specs.Ivf.{IsIvf};
+ghost use Rattle.stream_sources.specs.Sources.{IsSource};
 ghost use Rattle.stream_checks.specs.Files.{findings};
 ghost use Rattle.stream_checks.specs.Checks.{IsBegun, IsChecked, IsEarlyEnd, IsPacketEnd, findings_after, text_of_check};
 ghost use Rattle.stream_checks.specs.Lines.{frames_of};
@@ -11,7 +11,7 @@ ghost use Rattle.stream_checks.specs.Texts.{texts_of};
 
 use crate::checker::Checker;
 use crate::fault::CheckFault;
-use crate::file::{write_cut, write_head};
+use crate::file::{write_head, write_tail};
 use crate::finding::Tally;
 use crate::packets::{PacketsBefore, ahead_of};
 use crate::progress::Watch;
@@ -20,14 +20,15 @@ use crate::texts::write_end;
 use macroblock_lists::Form;
 use std::alloc::Global;
 use std::io::Write;
-use stream_files::{Packet, Stream};
+use stream_files::Packet;
+use stream_sources::Source;
 use vp8_tables::Tables;
 
-/// An IVF file that is checked: its bytes, and the stream that was read from them.
+/// A file that is checked: its bytes, and what was read from them.
 #[derive(Clone, Copy)]
 pub struct CheckedFile<'a> {
     pub bytes: &'a [u8],
-    pub stream: &'a Stream,
+    pub source: &'a Source,
 }
 
 /// What a check of packets counts: what is found at them, and the frames that are shown up to the last one.
@@ -74,9 +75,9 @@ fn write_packets<W: Write, G: Watch>(
     })
 }
 
-/// Checks an IVF file: reads the headers, modes and tokens of its packets, writes what it finds, as lines or as objects, and
+/// Checks a file: reads the headers, modes and tokens of its packets, writes what it finds, as lines or as objects, and
 /// after lines one with the numbers of packets, frames and findings. It returns the tally of the
-/// findings. They come in the order of the file: at its header, at each packet, and at its end. Memory
+/// findings. They come in this order: at the header, at each packet, and at the end or, of a WebM file, besides the packets. Memory
 /// is taken for the modes of a frame, its marked partitions, and the time stamps; no sample is made. `progress` is called after each packet.
 ///
 /// `NoMemory` if memory runs out: the findings before were written whole. `Write` if the writer
@@ -89,16 +90,16 @@ pub fn check<W: Write, G: Watch>(
     file: CheckedFile<'_>,
     progress: &mut G,
 ) -> Result<Tally, CheckFault>
-    requires { IsIvf file.bytes.now file.stream.now }
-    ensures checked { IfOk result (λ tally. IsChecked form tables.now file.entry.bytes.now file.entry.stream.now tally (W.contents w.old) (W.contents w.new)) }
-    ensures early { IfErr result (IsEarlyEnd form tables.now file.entry.bytes.now file.entry.stream.now (W.contents w.old) (W.contents w.new)) }
+    requires { IsSource file.bytes.now file.source.now }
+    ensures checked { IfOk result (λ tally. IsChecked form tables.now file.entry.bytes.now file.entry.source.now tally (W.contents w.old) (W.contents w.new)) }
+    ensures early { IfErr result (IsEarlyEnd form tables.now file.entry.bytes.now file.entry.source.now (W.contents w.old) (W.contents w.new)) }
 {
-    let CheckedFile { bytes, stream } = file;
-    let packets = stream.packets.as_slice();
+    let CheckedFile { bytes, source } = file;
+    let packets = source.stream.packets.as_slice();
     let Ok(pace) = pace_of(alloc, packets) else {
         return Err(CheckFault::NoMemory);
     };
-    let Ok(at_head) = write_head(w, form, bytes, stream) else {
+    let Ok(at_head) = write_head(w, form, bytes, source) else {
         return Err(CheckFault::Write);
     };
     let checker = Checker::new(alloc, form, pace, PacketsBefore::first(), Ok(None));
@@ -106,7 +107,7 @@ pub fn check<W: Write, G: Watch>(
         Ok(checked) => checked,
         Err(fault) => return Err(fault),
     };
-    let Ok(at_end) = write_cut(w, form, bytes, stream) else {
+    let Ok(at_end) = write_tail(w, form, bytes, source) else {
         return Err(CheckFault::Write);
     };
     let found = at_head.plus(checked.tally).plus(at_end);

@@ -1,21 +1,26 @@
 //! The findings at the header and at the end of a file.
 
-ghost use Rattle.std.specs.Prelude.{◌≡◌, ◌+◌, ◌≤◌, IfOk, OnOk, length};
+ghost use Rattle.std.specs.Prelude.{◌≡◌, ◌+◌, ◌≤◌, IfOk, None, OnOk, length};
+ghost use Rattle.std.specs.Option.{ForSome};
 ghost use Rattle.std.specs.Io.KnownBytes.{Appends};
-ghost use Rattle.stream_checks.specs.Files.{claimed_frames, claimed_size, count_trouble, cut_trouble, end_findings, head_findings, rate_trouble, size_trouble};
+ghost use Rattle.stream_checks.specs.Files.{claim_trouble, claimed_frames, claimed_size, count_trouble, cut_trouble, end_findings, head_findings, rate_trouble, size_trouble};
 ghost use Rattle.stream_checks.specs.Listed.{found_around};
 ghost use Rattle.stream_checks.specs.Severity.{tally_of};
 ghost use Rattle.stream_checks.specs.Texts.{texts_of};
+ghost use Rattle.webm_files.specs.Media.{IsFewKept};
 
 use crate::finding::{Finding, Tally, Trouble};
+use crate::media::write_media;
 use crate::texts::write_found;
 use byteorder::{ByteOrder, LittleEndian};
 use macroblock_lists::Form;
 use std::io::Write;
 use stream_facts::first_key_size;
-use stream_files::{Head, Stream, WriteFault};
+use stream_files::{Head, WriteFault};
+use stream_sources::Source;
+use webm_files::Media;
 
-/// The number of frames that the header gives.
+/// The number of frames that the header of an IVF file gives.
 fn claimed_frames(bytes: &[u8]) -> u32
     requires { 32 ≤ length bytes.now }
     ensures { result ≡ claimed_frames bytes.now }
@@ -33,6 +38,17 @@ fn count_trouble(bytes: &[u8], packets: usize) -> Option<Trouble>
         None
     } else {
         Some(Trouble::FrameCount { claimed, packets })
+    }
+}
+
+/// Compares the number of frames that the header gives, if the file has one, with the number of packets.
+fn claim_trouble(bytes: &[u8], media: &Option<Media>, packets: usize) -> Option<Trouble>
+    requires { media.now ≡ None → 32 ≤ length bytes.now }
+    ensures { result ≡ claim_trouble media.now bytes.now packets }
+{
+    match media {
+        None => count_trouble(bytes, packets),
+        Some(_) => None,
     }
 }
 
@@ -72,7 +88,7 @@ fn claimed_size(rest: &[u8]) -> Option<u32>
     Some(LittleEndian::read_u32(rest))
 }
 
-/// The record that the trailing bytes of a file begin.
+/// The record that the trailing bytes of an IVF file begin.
 fn cut_trouble(bytes: &[u8], packets: usize, spare: u64) -> Option<Trouble>
     ensures { result ≡ cut_trouble bytes.now packets spare }
 {
@@ -89,7 +105,7 @@ fn cut_trouble(bytes: &[u8], packets: usize, spare: u64) -> Option<Trouble>
 }
 
 /// What is found around the packets.
-fn found(trouble: Option<Trouble>) -> Option<Finding>
+pub(crate) fn found(trouble: Option<Trouble>) -> Option<Finding>
     ensures { result ≡ found_around trouble }
 {
     match trouble {
@@ -106,36 +122,42 @@ pub(crate) fn write_head<W: Write>(
     w: &mut W,
     form: Form,
     bytes: &[u8],
-    file: &Stream,
+    source: &Source,
 ) -> Result<Tally, WriteFault>
-    requires { 32 ≤ length bytes.now }
-    ensures written { OnOk result (Appends (W.contents w.old) (W.contents w.new) (texts_of form (head_findings bytes.now file.now))) }
-    ensures counted { IfOk result (λ tally. tally ≡ tally_of (head_findings bytes.now file.now)) }
+    requires { source.now.media ≡ None → 32 ≤ length bytes.now }
+    ensures written { OnOk result (Appends (W.contents w.old) (W.contents w.new) (texts_of form (head_findings bytes.now source.now))) }
+    ensures counted { IfOk result (λ tally. tally ≡ tally_of (head_findings bytes.now source.now)) }
     ensures few { IfOk result (λ tally. tally.damage + tally.notes ≤ 3) }
 {
-    let head = file.head;
-    let packets = file.packets.as_slice();
+    let head = source.stream.head;
+    let packets = source.stream.packets.as_slice();
+    let claim = claim_trouble(bytes, &source.media, packets.len());
     let size = size_trouble((head.width, head.height), first_key_size(packets));
-    let count = write_found(w, form, found(count_trouble(bytes, packets.len())))?;
+    let count = write_found(w, form, found(claim))?;
     let size = write_found(w, form, found(size))?;
     let rate = write_found(w, form, found(rate_trouble(head)))?;
     Ok(count.plus(size).plus(rate))
 }
 
-/// Writes the finding at the end, if there is one, and returns its tally.
-pub(crate) fn write_cut<W: Write>(
+/// Writes the findings at the end, and returns their tally.
+pub(crate) fn write_tail<W: Write>(
     w: &mut W,
     form: Form,
     bytes: &[u8],
-    file: &Stream,
+    source: &Source,
 ) -> Result<Tally, WriteFault>
-    ensures written { OnOk result (Appends (W.contents w.old) (W.contents w.new) (texts_of form (end_findings bytes.now file.now))) }
-    ensures counted { IfOk result (λ tally. tally ≡ tally_of (end_findings bytes.now file.now)) }
-    ensures few { IfOk result (λ tally. tally.damage + tally.notes ≤ 1) }
+    requires { ForSome source.now.media IsFewKept }
+    ensures written { OnOk result (Appends (W.contents w.old) (W.contents w.new) (texts_of form (end_findings bytes.now source.now))) }
+    ensures counted { IfOk result (λ tally. tally ≡ tally_of (end_findings bytes.now source.now)) }
+    ensures few { IfOk result (λ tally. tally.damage + tally.notes ≤ 50331649) }
 {
-    write_found(
-        w,
-        form,
-        found(cut_trouble(bytes, file.packets.len(), file.spare)),
-    )
+    let Source { stream, media } = source;
+    match media {
+        None => write_found(
+            w,
+            form,
+            found(cut_trouble(bytes, stream.packets.len(), stream.spare)),
+        ),
+        Some(media) => write_media(w, form, bytes.len(), media),
+    }
 }

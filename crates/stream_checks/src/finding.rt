@@ -4,6 +4,7 @@ ghost use Rattle.std.specs.Prelude.{◌≡◌, ◌+◌, ◌<◌, ◌≤◌, ◌^
 ghost use Rattle.stream_checks.specs.Severity.{is_damage, plus, tally_of};
 ghost use Rattle.stream_checks.specs.Listed.{listed};
 
+use crate::webm_trouble::WebmTrouble;
 use frame_header::Cause;
 
 /// A packet, and the frame that it is shown as; `None` if it is hidden. Both are counted from 0.
@@ -107,6 +108,8 @@ pub enum Trouble {
         claimed: Option<u32>,
         left: u64,
     },
+    /// Something in a WebM file besides its packets.
+    InWebm(WebmTrouble),
 }
 
 impl Trouble {
@@ -122,6 +125,7 @@ impl Trouble {
             | Trouble::UnreadToken { .. }
             | Trouble::BreaksStep { .. }
             | Trouble::CutRecord { .. } => true,
+            Trouble::InWebm(trouble) => trouble.is_damage(),
             Trouble::ComesTwice { breaks_step } => breaks_step,
             _ => false,
         }

@@ -1,5 +1,5 @@
 //! What decoding a whole stream shows: the MD5 of each frame, in the text of ffmpeg's muxer `framemd5`, and what is wrong with
-//! an IVF file and its packets.
+//! a file and its packets.
 #![tactic(auto)]
 
 mod checker;
@@ -12,6 +12,7 @@ mod hash_lines;
 mod hashes;
 pub mod laws;
 mod lines;
+mod media;
 mod objects;
 mod packets;
 mod partitions;
@@ -21,6 +22,7 @@ mod samples;
 mod stamps;
 mod texts;
 mod time_bases;
+mod webm_trouble;
 
 pub use checker::Checker;
 pub use checking::{CheckedFile, check};
@@ -33,3 +35,4 @@ pub use packets::{Ahead, PacketsBefore, is_same};
 pub use progress::{Unwatched, Watch};
 pub use reader::Reader;
 pub use stamps::{Pace, Stamps, add_stamp, pace_over};
+pub use webm_trouble::WebmTrouble;

@@ -7,6 +7,7 @@ ghost use Rattle.stream_facts.specs.Lines.{cause_text};
 ghost use Rattle.stream_checks.specs.Lines.{back_text, breaks_text, change_text, claimed_size_text, claimed_text, copy_text, count_text, counts_text, cut_start, cut_text, first_text, left_text, line_of, lost_text, partition_text, past_text, rate_text, refused_text, severity_text, size_text, skips_text, spot_text, stamp_text, summary_line, trouble_text, unread_text};
 
 use crate::finding::{Finding, Spot, Tally, Trouble};
+use crate::webm_trouble::write_webm;
 use frame_header::Cause;
 use std::io::Write;
 use stream_facts::{write_cause, write_text};
@@ -288,6 +289,7 @@ fn write_trouble<W: Write>(w: &mut W, trouble: Trouble) -> Result<(), WriteFault
             claimed,
             left,
         } => write_cut(w, number, begins, claimed, left),
+        Trouble::InWebm(trouble) => write_webm(w, trouble),
     }
 }
 

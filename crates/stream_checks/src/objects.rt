@@ -4,9 +4,10 @@ ghost use Rattle.std.specs.Prelude.{◌≡◌, ◌++◌, OnOk, codes};
 ghost use Rattle.std.specs.Io.KnownBytes.{Appends};
 ghost use Rattle.stream_facts.specs.Lines.{cause_text};
 ghost use Rattle.stream_facts.specs.Json.{number_member};
-ghost use Rattle.stream_checks.specs.Objects.{breaks_members, cause_member, copy_members, cut_members, field_member, kind_member, object_of, partition_members, past_members, refused_members, severity_member, size_member, size_members, spot_members, stamp_members, tally_object, trouble_members, unread_members};
+ghost use Rattle.stream_checks.specs.Objects.{breaks_members, byte_members, cause_member, copy_members, cut_element_members, cut_members, field_member, kind_member, laced_members, object_of, partition_members, past_members, refused_members, severity_member, size_member, size_members, skipped_members, spot_members, stamp_members, tally_object, trouble_members, unlisted_members, unread_members, webm_members};
 
 use crate::finding::{Finding, Spot, Tally, Trouble};
+use crate::webm_trouble::WebmTrouble;
 use frame_header::Cause;
 use std::io::Write;
 use stream_facts::{write_cause, write_member, write_number, write_optional, write_text};
@@ -197,6 +198,51 @@ fn write_cut<W: Write>(
 }
 
 /// Writes the kind of a finding and its numbers.
+fn write_byte<W: Write>(w: &mut W, kind: &str, begins: usize) -> Result<(), WriteFault>
+    ensures { OnOk result (Appends (W.contents w.old) (W.contents w.new) (byte_members kind.now begins)) }
+{
+    write_kind(w, kind)?;
+    write_number(w, "byte", begins as u64)
+}
+
+fn write_cut_element<W: Write>(w: &mut W, begins: usize, left: usize) -> Result<(), WriteFault>
+    ensures { OnOk result (Appends (W.contents w.old) (W.contents w.new) (cut_element_members begins left)) }
+{
+    write_byte(w, "cut_element", begins)?;
+    write_number(w, "left", left as u64)
+}
+
+fn write_skipped<W: Write>(w: &mut W, begins: usize, bytes: usize) -> Result<(), WriteFault>
+    ensures { OnOk result (Appends (W.contents w.old) (W.contents w.new) (skipped_members begins bytes)) }
+{
+    write_byte(w, "skipped", begins)?;
+    write_number(w, "bytes", bytes as u64)
+}
+
+fn write_laced<W: Write>(w: &mut W, begins: usize) -> Result<(), WriteFault>
+    ensures { OnOk result (Appends (W.contents w.old) (W.contents w.new) (laced_members begins)) }
+{
+    write_byte(w, "laced_block", begins)
+}
+
+fn write_unlisted<W: Write>(w: &mut W, begins: usize, track: u64) -> Result<(), WriteFault>
+    ensures { OnOk result (Appends (W.contents w.old) (W.contents w.new) (unlisted_members begins track)) }
+{
+    write_byte(w, "unlisted_block", begins)?;
+    write_number(w, "track", track)
+}
+
+fn write_webm<W: Write>(w: &mut W, trouble: WebmTrouble) -> Result<(), WriteFault>
+    ensures { OnOk result (Appends (W.contents w.old) (W.contents w.new) (webm_members trouble)) }
+{
+    match trouble {
+        WebmTrouble::CutElement { begins, left } => write_cut_element(w, begins, left),
+        WebmTrouble::Skipped { begins, bytes } => write_skipped(w, begins, bytes),
+        WebmTrouble::LacedBlock { begins } => write_laced(w, begins),
+        WebmTrouble::UnlistedBlock { begins, track } => write_unlisted(w, begins, track),
+    }
+}
+
 fn write_trouble<W: Write>(w: &mut W, trouble: Trouble) -> Result<(), WriteFault>
     ensures { OnOk result (Appends (W.contents w.old) (W.contents w.new) (trouble_members trouble)) }
 {
@@ -240,6 +286,7 @@ fn write_trouble<W: Write>(w: &mut W, trouble: Trouble) -> Result<(), WriteFault
             claimed,
             left,
         } => write_cut(w, number, begins, claimed, left),
+        Trouble::InWebm(trouble) => write_webm(w, trouble),
     }
 }
 

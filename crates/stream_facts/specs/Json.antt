@@ -1,8 +1,6 @@
 -- The line of a packet's facts as a JSON object (RFC 8259): a member for each column, and null for a fact that the packet does not have.
 use Rattle.std.specs.Prelude.{ℕ, Bool, true, false, if◌then◌else◌, List, [], ◌∷◌, ◌++◌, codes, Option, Some, None, Result, Ok, Err}
-use Rattle.std.specs.List.{flat_map}
 use Rattle.std.specs.Fmt.{decimal}
-use Rattle.stream_files.specs.declared.packets.Packet.{Packet}
 use Rattle.frame_header.specs.declared.cause.Cause.{Cause}
 use Rattle.frame_header.specs.declared.fields.Colors.{Colors}
 use Rattle.frame_header.specs.declared.references.Reference.{Reference}
@@ -11,7 +9,6 @@ use Rattle.frame_header.specs.declared.references.ReferenceUpdates.{ReferenceUpd
 use Rattle.frame_header.specs.declared.tag_fields.Tag.{Tag}
 use Rattle.frame_header.specs.declared.outline.Outline.{Outline}
 use Rattle.stream_facts.specs.declared.facts.Facts.{Facts}
-use Rattle.stream_facts.specs.Facts.{facts_in}
 use Rattle.stream_facts.specs.Lines.{cause_text}
 
 -- a member, and the comma after it
@@ -122,7 +119,3 @@ abbrev pub object_of : Facts → List ℕ
 object_of facts =
     codes "{" ++ place_members facts ++ tag_members facts ++ size_members facts ++ header_members facts.header
     ++ color_members facts.tag facts.header ++ cause_member facts ++ codes "}\n"
-
--- the objects of a stream's packets, a line each
-abbrev pub objects_of : ℕ → List Packet → List ℕ
-objects_of begins packets = flat_map object_of (facts_in begins packets)

@@ -1,4 +1,6 @@
 pub mod Facts
+pub mod Places
 pub mod Lines
 pub mod Json
+pub mod Lists
 pub mod Refusals

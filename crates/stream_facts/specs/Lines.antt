@@ -1,8 +1,6 @@
 -- The line of a packet's facts: columns between tabs, and `-` for a fact that it does not have.
 use Rattle.std.specs.Prelude.{ℕ, Bool, true, false, if◌then◌else◌, List, [], ◌∷◌, ◌++◌, codes, map, Option, Some, None, Result, Ok, Err}
-use Rattle.std.specs.List.{flat_map}
 use Rattle.std.specs.Fmt.{decimal}
-use Rattle.stream_files.specs.declared.packets.Packet.{Packet}
 use Rattle.frame_header.specs.Cause.{cause_word}
 use Rattle.frame_header.specs.declared.cause.Cause.{Cause}
 use Rattle.frame_header.specs.declared.cause.Cause.TheVariants as causes
@@ -13,7 +11,6 @@ use Rattle.frame_header.specs.declared.references.ReferenceUpdates.{ReferenceUpd
 use Rattle.frame_header.specs.declared.tag_fields.Tag.{Tag}
 use Rattle.frame_header.specs.declared.outline.Outline.{Outline}
 use Rattle.stream_facts.specs.declared.facts.Facts.{Facts}
-use Rattle.stream_facts.specs.Facts.{facts_in}
 
 -- the names of the columns
 abbrev pub head_line : List ℕ
@@ -137,7 +134,3 @@ abbrev pub line_of : Facts → List ℕ
 line_of facts =
     place_columns facts ++ tag_columns facts ++ size_columns facts ++ header_columns facts.header
     ++ cause_column facts ++ file_columns facts ++ color_columns facts.tag facts.header
-
--- the list of a stream whose first record begins at this byte: the names of the columns, and a line a packet
-abbrev pub list_text : ℕ → List Packet → List ℕ
-list_text begins packets = head_line ++ flat_map line_of (facts_in begins packets)

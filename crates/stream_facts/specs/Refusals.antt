@@ -21,8 +21,9 @@ own_refusal packet (Err cause) = refusal_start packet ++ cause_text cause ++ cod
 abbrev pub refusal_of : Facts → List ℕ
 refusal_of facts = if facts.is_lost then [] else own_refusal facts.packet facts.header
 
-abbrev pub refusals_of : ℕ → List Packet → List ℕ
-refusals_of begins packets = flat_map refusal_of (facts_in begins packets)
+-- of packets wherever they are in their file (`laws::refusals_have_no_place`)
+abbrev pub refusals_of : List Packet → List ℕ
+refusals_of packets = flat_map refusal_of (facts_in 0 packets)
 
 -- whether decoding refuses a packet of its own, not because of an earlier one
 abbrev pub is_accepted : Result (Option Outline) Cause → Bool
@@ -35,3 +36,7 @@ is_refused facts = if facts.is_lost then false else not (is_accepted facts.heade
 abbrev pub has_refused : List Facts → Bool
 has_refused [] = false
 has_refused (facts ∷ rest) = is_refused facts || has_refused rest
+
+-- and one of these packets
+abbrev pub refuses_one : List Packet → Bool
+refuses_one packets = has_refused (facts_in 0 packets)

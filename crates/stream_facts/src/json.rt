@@ -2,15 +2,15 @@
 
 ghost use Rattle.std.specs.Prelude.{◌≡◌, ◌+◌, ◌^◌, ◌<◌, OnOk, codes};
 ghost use Rattle.std.specs.Io.KnownBytes.{Appends};
-ghost use Rattle.stream_files.specs.Ivf.{IsIvf, header_length};
-ghost use Rattle.stream_facts.specs.Json.{bit_members, bit_value, cause_member, color_members, copy_value, field_members, first_of, header_members, kind_value, member, number_member, object_of, objects_of, optional_member, outline_bits, own_cause, place_members, reference_members, scale_member, show_value, size_member, size_members, some_fields, tag_members, update_value, version_of};
+ghost use Rattle.stream_facts.specs.Json.{bit_members, bit_value, cause_member, color_members, copy_value, field_members, first_of, header_members, kind_value, member, number_member, object_of, optional_member, outline_bits, own_cause, place_members, reference_members, scale_member, show_value, size_member, size_members, some_fields, tag_members, update_value, version_of};
+ghost use Rattle.stream_facts.specs.Lists.{objects_of};
 
-use crate::facts::{Facts, Position};
+use crate::facts::Facts;
 use crate::lines::{write_cause, write_text};
-use crate::listing::first_record;
+use crate::places::Places;
 use frame_header::{Cause, Colors, Outline, Reference, ReferenceUpdates, Tag};
 use std::io::Write;
-use stream_files::{Packet, Stream, WriteFault};
+use stream_files::{Packet, WriteFault};
 
 const NO_FIELDS: &str =
     "\"partitions\":null,\"quantizer\":null,\"level\":null,\"last\":null,\"golden\":null,\"altref\":null,";
@@ -281,22 +281,18 @@ pub fn write_object<W: Write>(w: &mut W, facts: Facts) -> Result<(), WriteFault>
     write_text(w, "}\n")
 }
 
-/// Writes an object for each packet, the first of whose records begins at this byte of the file.
-fn write_all<W: Write>(w: &mut W, begins: usize, packets: &[Packet]) -> Result<(), WriteFault>
-    ensures { OnOk result (Appends (W.contents w.old) (W.contents w.new) (objects_of begins packets.now)) }
+/// Writes a line for each packet of a file, where they are at these places: a JSON object with its facts. Only headers are read.
+pub fn write_objects<W: Write>(
+    w: &mut W,
+    places: &Places,
+    packets: &[Packet],
+) -> Result<(), WriteFault>
+    ensures { OnOk result (Appends (W.contents w.old) (W.contents w.new) (objects_of places.now packets.now)) }
 {
-    let mut position = Position::first(begins);
+    let mut position = places.start();
     for packet in packets {
-        let facts = position.next(packet);
+        let facts = places.next(&mut position, packet);
         write_object(w, facts)?;
     }
     Ok(())
-}
-
-/// Writes a line for each packet of an IVF file, a JSON object with its facts. Only headers are read.
-pub fn write_objects<W: Write>(w: &mut W, bytes: &[u8], file: &Stream) -> Result<(), WriteFault>
-    requires { IsIvf bytes.now file.now }
-    ensures { OnOk result (Appends (W.contents w.old) (W.contents w.new) (objects_of (header_length bytes.now) file.now.packets)) }
-{
-    write_all(w, first_record(bytes), file.packets.as_slice())
 }

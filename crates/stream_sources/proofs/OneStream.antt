@@ -1,7 +1,8 @@
 -- Bytes have one stream, with few packets, and at most one error.
-use Rattle.std.proofs.Common.{◌≡◌, ℕ, ◌≤◌, Bool, true, false, List, length, sym, ap, subst, refl, ◌∙◌, ◌↔◌}
+use Rattle.std.proofs.Common.{◌≡◌, ℕ, ◌≤◌, Bool, true, false, List, Option, None, length, unwrap_or, sym, ap, subst, refl, ◌∙◌, ◌↔◌}
 use Rattle.std.proofs.lemmas.List.{length-map}
 use Rattle.std.specs.List.{filter}
+use Rattle.std.specs.Option.{ForSome}
 use Rattle.stream_files.specs.declared.packets.Packet.{Packet}
 use Rattle.stream_files.specs.declared.streams.Stream.{Stream}
 use Rattle.stream_files.specs.declared.ivf.IvfFault.{IvfFault}
@@ -15,12 +16,15 @@ use Rattle.webm_files.specs.Blocks.{blocks_of}
 use Rattle.webm_files.specs.Tracks.{number_of}
 use Rattle.webm_files.specs.Packets.{is_packet, packet_of}
 use Rattle.webm_files.specs.Files.{is_marked}
+use Rattle.webm_files.specs.Media.{IsFewKept, Kept}
 use Rattle.webm_files.proofs.OneFile.{one_file, one_fault}
 use Rattle.webm_files.proofs.NotIvf.{not_marked}
+use Rattle.webm_files.proofs.FewKept.{few_kept}
 use Rattle.stream_sources.specs.declared.faults.StreamFault.{StreamFault}
 use Rattle.stream_sources.specs.declared.faults.StreamFault.TheVariants.{NoMemory}
 use Rattle.stream_sources.specs.Faults.{RefusedBy, StreamRefuses, of_ivf, of_webm}
-use Rattle.stream_sources.specs.Sources.{IsStream, IsStreamBy}
+use Rattle.stream_sources.specs.declared.sources.Source.{Source}
+use Rattle.stream_sources.specs.Sources.{IsIvfSource, IsSource, IsSourceBy, IsStream, IsStreamBy}
 
 -- ---- IVF files
 
@@ -33,6 +37,29 @@ stream_is_ivf bytes file not = (λ is. subst (λ (marked : Bool). IsStreamBy mar
 pub refused_as_ivf : (bytes : List ℕ) (fault : IvfFault) → is_marked bytes ≡ false → IvfRefuses bytes fault → StreamRefuses bytes (of_ivf fault)
 refused_as_ivf bytes fault not refuses = subst (λ (marked : Bool). RefusedBy marked bytes (of_ivf fault)) (sym not) (fault, refl, refuses)
 
+-- ---- what is read with what is kept
+
+stream_by : (marked : Bool) (bytes : List ℕ) (source : Source) → IsSourceBy marked bytes source → IsStreamBy marked bytes source.stream
+stream_by true bytes source is = (is.0, is.1, is.2)
+stream_by false bytes source is = is.0
+
+pub source_is_stream : (bytes : List ℕ) (source : Source) → IsSource bytes source → IsStream bytes source.stream
+source_is_stream bytes source is = stream_by (is_marked bytes) bytes source is
+
+ivf_by : (marked : Bool) (bytes : List ℕ) (source : Source) → IsSourceBy marked bytes source → source.media ≡ None → IsIvf bytes source.stream
+ivf_by true bytes source is none = cc
+ivf_by false bytes source is none = is.0
+
+pub source_is_ivf : (bytes : List ℕ) (source : Source) → IsSource bytes source → source.media ≡ None → IsIvf bytes source.stream
+source_is_ivf bytes source is none = ivf_by (is_marked bytes) bytes source is none
+
+-- and they have a header of 32 bytes
+pub ivf_has_fields : (bytes : List ℕ) (source : Source) → IsSource bytes source → source.media ≡ None → 32 ≤ length bytes
+ivf_has_fields bytes source is none = (source_is_ivf bytes source is none).header.0
+
+pub other_source_is_ivf : (bytes : List ℕ) (source : Source) → is_marked bytes ≡ false → IsSource bytes source ↔ IsIvfSource bytes source
+other_source_is_ivf bytes source not = (λ is. subst (λ (marked : Bool). IsSourceBy marked bytes source) not is, λ is. subst (λ (marked : Bool). IsSourceBy marked bytes source) (sym not) is)
+
 -- ---- few packets
 
 few_by : (marked : Bool) (bytes : List ℕ) (stream : Stream) → IsStreamBy marked bytes stream → length stream.packets ≤ 1048576
@@ -43,6 +70,19 @@ few_by false bytes stream is = is.few
 
 pub few : (bytes : List ℕ) (stream : Stream) → IsStream bytes stream → length stream.packets ≤ 1048576
 few bytes stream is = few_by (is_marked bytes) bytes stream is
+
+pub source_few : (bytes : List ℕ) (source : Source) → IsSource bytes source → length source.stream.packets ≤ 1048576
+source_few bytes source is = few bytes source.stream (source_is_stream bytes source is)
+
+-- little is kept of a WebM file
+kept_by : (marked : Bool) (bytes : List ℕ) (source : Source) → IsSourceBy marked bytes source → ForSome source.media IsFewKept
+kept_by true bytes source is = λ media some.
+    let same : is.0.media ≡ media = ap (λ (kept : Option Kept). unwrap_or kept is.0.media) (sym is.3 ∙ some) in
+    subst IsFewKept same (few_kept bytes is.0 is.1)
+kept_by false bytes source is = λ media some. cc
+
+pub source_kept : (bytes : List ℕ) (source : Source) → IsSource bytes source → ForSome source.media IsFewKept
+source_kept bytes source is = kept_by (is_marked bytes) bytes source is
 
 -- ---- one stream
 

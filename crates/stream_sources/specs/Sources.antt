@@ -1,5 +1,5 @@
 -- What bytes are read as: an IVF file, or the video of a WebM or Matroska file.
-use Rattle.std.specs.Prelude.{◌≡◌, ℕ, Bool, true, false, List, Result, Ok, Err}
+use Rattle.std.specs.Prelude.{◌≡◌, ℕ, Bool, true, false, List, Some, None, Result, Ok, Err}
 use Rattle.stream_files.specs.declared.streams.Stream.{Stream}
 use Rattle.stream_files.specs.Ivf.{IsIvf}
 use Rattle.webm_files.specs.declared.files.Webm.{Webm}
@@ -7,6 +7,7 @@ use Rattle.webm_files.specs.Files.{IsWebm, is_marked}
 use Rattle.webm_files.specs.Rates.{IsFrameRate}
 use Rattle.packet_times.specs.Medians.{median_of, steps_of}
 use Rattle.stream_sources.specs.declared.faults.StreamFault.{StreamFault}
+use Rattle.stream_sources.specs.declared.sources.Source.{Source}
 use Rattle.stream_sources.specs.Faults.{StreamRefuses}
 
 -- the stream of a WebM file: the head, the packets and the skipped bytes of its video. The frame rate is by the duration that its track gives a
@@ -30,3 +31,24 @@ IsStream bytes stream = IsStreamBy (is_marked bytes) bytes stream
 abbrev pub StreamAnswers : List ℕ → Result Stream StreamFault → Type 0
 StreamAnswers bytes (Ok stream) = IsStream bytes stream
 StreamAnswers bytes (Err fault) = StreamRefuses bytes fault
+
+-- the bytes are a WebM file of this stream, of which this is kept
+abbrev pub IsWebmSource : List ℕ → Source → Type 0
+IsWebmSource bytes source = (file : Webm) × IsWebm bytes file × IsVideo file source.stream × (source.media ≡ Some file.media)
+
+-- of an IVF file nothing else is kept
+abbrev pub IsIvfSource : List ℕ → Source → Type 0
+IsIvfSource bytes source = IsIvf bytes source.stream × (source.media ≡ None)
+
+abbrev pub IsSourceBy : Bool → List ℕ → Source → Type 0
+IsSourceBy true bytes source = IsWebmSource bytes source
+IsSourceBy false bytes source = IsIvfSource bytes source
+
+-- the bytes are a file of this stream, of which this is kept
+abbrev pub IsSource : List ℕ → Source → Type 0
+IsSource bytes source = IsSourceBy (is_marked bytes) bytes source
+
+-- the result of reading a file with what is kept of it
+abbrev pub SourceAnswers : List ℕ → Result Source StreamFault → Type 0
+SourceAnswers bytes (Ok source) = IsSource bytes source
+SourceAnswers bytes (Err fault) = StreamRefuses bytes fault

@@ -6,4 +6,4 @@ pub mod laws;
 mod sources;
 
 pub use faults::StreamFault;
-pub use sources::{stream_read_from, stream_share};
+pub use sources::{Source, source_read_from, source_share, stream_read_from, stream_share};

@@ -28,7 +28,7 @@ line 14: frame: packet 0 has 5 bytes, a key frame needs 10
 line 15: use: there is no such source
 line 16: delete: packet 7 does not exist: source 0 has 1 packets
 line 17: blank: width 0 is not 1 to 16383
-line 18: script: node 1: x is not source, trim, splice, crop or fade
+line 18: script: node 1: x is not source, trim, splice, crop, fade or parts
 line 20: count: 1 is one word too many
 ";
 
@@ -135,7 +135,7 @@ script trm 0 0 5\nscript trim 0 0\nscript trim 0 0 5; fade 1 0\nscript source 0 
     let replies = "\
 refused Syntax\nrefused Syntax\nrefused Syntax\nrefused Syntax\nrefused Syntax\nrefused Syntax\nrefused Syntax\nrefused Syntax\n";
     let told = "\
-line 1: script: node 1: trm is not source, trim, splice, crop or fade
+line 1: script: node 1: trm is not source, trim, splice, crop, fade or parts
 line 2: script: node 1: a word is missing: trim A FIRST COUNT
 line 3: script: node 2: a word is missing: fade A FIRST COUNT FROM TO
 line 4: script: node 1: 1 is one word too many: source S

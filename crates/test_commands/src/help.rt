@@ -98,6 +98,7 @@ nodes:
   source S                      the frames of source S
   trim A FIRST COUNT            COUNT frames of A, starting at FIRST
   splice A B                    A's frames, then B's
+  parts A FIRST COUNT ..        any number of trims, one after the other
   crop A X Y W H                W x H samples from column X, row Y (both even)
   fade A FIRST COUNT FROM TO    mix with black: weight FROM/256 before FIRST,
                                 TO/256 after COUNT frames, a ramp between
@@ -105,7 +106,7 @@ Example: script trim 0 0 50; fade 1 25 25 256 0
 ";
 
 const LIST_HELP: &str = "\
-Lists the packets of a VP8 stream (IVF): a line with the names of the columns,
+Lists the packets of a VP8 stream (IVF, WebM or Matroska): a line with the names of the columns,
 and a line a packet, with tabs between columns. Only headers are read.
 Each of --json, --hash, --check, --macroblocks and --header replaces the list; give one of them,
 or --json with --check, --macroblocks or --header.
@@ -172,6 +173,10 @@ those that were coded:
               an inter packet, where all other steps are the same; else a note
   damage: record 100 at byte 51234: claims 12 + 900 bytes, 324 are there
               the file ends within a record; 12 bytes are the record's head
+  damage: byte 51234: 324 bytes are no element, and are skipped
+  damage: element at byte 51234: the file ends within it, 324 bytes are there
+              a WebM file is damaged there: blocks may be lost
+  damage: block at byte 51234: laced packets of the video, which are left out
 
 Anything else is a note:
 
@@ -179,6 +184,7 @@ Anything else is a note:
   note: header: size 320x180, first key packet 640x360
   note: header: rate 0, scale 1
               the header of the file is not that of its packets
+  note: block at byte 51234: track 7, which the file does not list
   note: packet 12: token partition 0: no bytes, which libvpx calls corrupt
   note: packet 12: no bytes, at which vpxdec ends
   note: packet 12: copy_buffer_to_golden 3, at which vpxdec ends
@@ -232,13 +238,13 @@ several packets, as 12-15, or all:
 A line that begins with # has the header of a packet, or why it is refused.
 
 Exit status: 0; 1 if --check finds damage, with --strict also a note, or if --hash meets a refused
-packet; 2 for a mistake on the command line, a file that is not IVF, a packet that is
-not there and any other error.
+packet; 2 for a mistake on the command line, a file that is not IVF, WebM or Matroska
+with VP8, a packet that is not there and any other error.
 
 Usage: vp8list [OPTIONS] <IN>
 
 Arguments:
-  <IN>  IVF file; - reads standard input
+  <IN>  IVF, WebM or Matroska file; - reads standard input
 
 Options:
       --tables <FILE>                3012 bytes to use instead of RFC 6386's long tables
@@ -287,11 +293,11 @@ fn shows_its_version(rt: HostRuntime) {
         &rt,
         "vp8serve --version",
         "frame 0\n",
-        "vp8serve 0.14.0\n",
+        "vp8serve 0.15.0\n",
         "",
         0,
     );
-    expect(&rt, "vp8serve -V", "frame 0\n", "vp8serve 0.14.0\n", "", 0);
+    expect(&rt, "vp8serve -V", "frame 0\n", "vp8serve 0.15.0\n", "", 0);
 }
 
 #[test]
@@ -302,6 +308,6 @@ fn shows_help_of_the_list(rt: HostRuntime) {
 
 #[test]
 fn shows_the_version_of_the_list(rt: HostRuntime) {
-    expect_list(&rt, &["vp8list", "--version"], "vp8list 0.14.0\n");
-    expect_list(&rt, &["vp8list", "-V"], "vp8list 0.14.0\n");
+    expect_list(&rt, &["vp8list", "--version"], "vp8list 0.15.0\n");
+    expect_list(&rt, &["vp8list", "-V"], "vp8list 0.15.0\n");
 }

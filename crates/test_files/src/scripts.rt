@@ -22,6 +22,22 @@ const BROKEN: &[u8] = b"trim 0 0 1;trim 0 0 1;trim 0 0 1;trim 0 0 1;trim 0 0 1;t
 trim 0 0 1;trim 0 0 1;trim 0 0 1;trim 0 0 1;trim 0 0 1;trim 0 0 1;trim 0 0 1;trim 0 0 1;trim 0 0 1;\
 trim 0 0 1;trim 0 0 1;blur 0";
 
+/// Parts of a clip of 2^32 frames at most, 68,719,476,736 frames at most in all.
+const LONGEST: &[u8] =
+    b"splice 0 0;splice 1 1;splice 2 2;splice 3 3;splice 4 4;splice 5 5;splice 6 6;\
+splice 7 7;splice 8 8;splice 9 9;splice 10 10;splice 11 11;parts 12 0 4294967295 12 0 4294967295 \
+12 0 4294967295 12 0 4294967295 12 0 4294967295 12 0 4294967295 12 0 4294967295 12 0 4294967295 \
+12 0 4294967295 12 0 4294967295 12 0 4294967295 12 0 4294967295 12 0 4294967295 12 0 4294967295 \
+12 0 4294967295 12 0 4294967295 0 0 16";
+
+/// One frame more, and a frame of it.
+const TOO_LONG: &[u8] =
+    b"splice 0 0;splice 1 1;splice 2 2;splice 3 3;splice 4 4;splice 5 5;splice 6 6;\
+splice 7 7;splice 8 8;splice 9 9;splice 10 10;splice 11 11;parts 12 0 4294967295 12 0 4294967295 \
+12 0 4294967295 12 0 4294967295 12 0 4294967295 12 0 4294967295 12 0 4294967295 12 0 4294967295 \
+12 0 4294967295 12 0 4294967295 12 0 4294967295 12 0 4294967295 12 0 4294967295 12 0 4294967295 \
+12 0 4294967295 12 0 4294967295 0 0 17;trim 13 0 1";
+
 /// The name of the error of a text over one source, or the number of frames that its script makes of three.
 fn parsed(alloc: Global, text: &[u8]) -> (&'static str, u64) {
     match Script::parse(alloc, text, 1) {
@@ -54,6 +70,14 @@ const TEXTS: &[Text] = &[
     (b"fade 0 0 1 0 256;trim 1 0 2", ("script", 2)),
     (b"source 0", ("script", 3)),
     (b"source 00; splice 0 1", ("script", 6)),
+    (b"parts 0 1 2 0 0 3", ("script", 5)),
+    (b"parts 0 1 4 0 2 0 0 0 1", ("script", 3)),
+    (b" parts  0 0 0 ", ("script", 0)),
+    (
+        b"trim 0 0 2;parts 1 1 1 0 0 3;fade 2 0 1 0 256",
+        ("script", 4),
+    ),
+    (LONGEST, ("script", 196_611)),
     (b"", ("Syntax", 0)),
     (b";", ("Syntax", 0)),
     (b"trim 0 0 1;", ("Syntax", 0)),
@@ -67,11 +91,20 @@ const TEXTS: &[Text] = &[
     (b"source", ("Syntax", 0)),
     (b"source 0 0", ("Syntax", 0)),
     (b"source 1; blur 0", ("Syntax", 0)),
+    (b"parts", ("Syntax", 0)),
+    (b"parts 0 0", ("Syntax", 0)),
+    (b"parts 0 0 1 0", ("Syntax", 0)),
+    (b"parts 0 0 1 0 0 -1", ("Syntax", 0)),
+    (b"parts 9 9 4294967296;blur 0", ("Syntax", 0)),
     (BROKEN, ("Syntax", 0)),
     (SEVENTEEN, ("Nodes", 0)),
     (b"trim 1 0 1", ("Reference", 0)),
     (b"source 1", ("Reference", 0)),
     (b"splice 0 2;trim 1 0 4294967296", ("Reference", 0)),
+    (b"parts 0 0 4294967296 1 0 1", ("Reference", 0)),
+    (b"parts 0 4294967296 1", ("Number", 0)),
+    (b"parts 0 0 1 0 0 4294967296", ("Number", 0)),
+    (TOO_LONG, ("Number", 0)),
     (b"crop 0 1 0 4 4", ("Number", 0)),
     (b"crop 0 0 0 0 4", ("Number", 0)),
     (b"crop 0 0 0 4 16384", ("Number", 0)),
@@ -164,7 +197,25 @@ const ORIGINS: &[Origin] = &[
     (b"source 0", 2, None),
     (b"source 0; splice 1 0", 3, Some((0, 1))),
     (b"splice 0 0", 3, Some((0, 1))),
+    (WHOLE_PARTS, 0, Some((0, 1))),
+    (WHOLE_PARTS, 1, Some((1, 0))),
+    (WHOLE_PARTS, 2, Some((1, 1))),
+    (WHOLE_PARTS, 3, Some((2, 3))),
+    (WHOLE_PARTS, 4, Some((1, 2))),
+    (WHOLE_PARTS, 5, None),
+    (CUT_PARTS, 0, Some((0, 1))),
+    (CUT_PARTS, 1, Some((1, 0))),
+    (CUT_PARTS, 2, Some((1, 1))),
+    (CUT_PARTS, 3, Some((2, 3))),
+    (CUT_PARTS, 4, Some((1, 2))),
+    (CUT_PARTS, 5, None),
 ];
+
+/// Parts of sources of two, three and four frames, one of them of no frame.
+const WHOLE_PARTS: &[u8] = b"source 1; source 2; parts 0 1 1 1 0 2 2 3 1 0 0 0 1 2 1";
+
+/// The same, of which some ask for more frames than their source has.
+const CUT_PARTS: &[u8] = b"source 1; source 2; parts 0 1 7 1 0 2 2 3 9 0 2 5 1 2 2";
 
 #[test]
 fn a_source_without_a_count_has_no_frames(rt: HostRuntime) -> Result<(), Fail> {

@@ -1,7 +1,7 @@
 use std::alloc::Global;
 use std::process::Abort;
 use std::test::Fail;
-use stream_facts::write_listing;
+use stream_facts::{Places, write_listing};
 use stream_files::{Head, ivf_packet, ivf_read, ivf_start};
 
 const HEAD: &str =
@@ -27,7 +27,8 @@ fn file_of(alloc: Global, texts: &[&[u8]]) -> Result<Vec<u8>, Fail> {
 fn list_of(alloc: Global, bytes: &[u8]) -> Result<Vec<u8>, Fail> {
     let file = ivf_read(alloc, bytes)?;
     let mut output = Vec::new(alloc);
-    write_listing(&mut output, bytes, &file)?;
+    let places = Places::of_ivf(bytes);
+    write_listing(&mut output, &places, file.packets.as_slice())?;
     Ok(output)
 }
 
@@ -82,4 +83,26 @@ fn lists_packets(rt: HostRuntime) -> Result<(), Fail> {
         11\t10\t16\t11\tkey\tshown\t0\t16x16\t1\t1\t0\t0\tnew\tnew\tnew\t-\t229\t0x0\t1\t0\n\
         12\t11\t17\t3\tinter\tshown\t0\t-\t1\t-\t-\t-\t-\t-\t-\tFirstPartition\t252\t-\t-\t-\n";
     expect_lines(&rt, rt.alloc(), &texts, lines)
+}
+
+// Packets that are at other bytes of a file than those of an IVF file's records.
+#[test]
+fn lists_packets_at_other_bytes(rt: HostRuntime) -> Result<(), Fail> {
+    let bytes = file_of(rt.alloc(), &[[0x11, 0, 0].as_slice(), &[]])?;
+    let file = ivf_read(rt.alloc(), bytes.as_slice())?;
+    let mut begins = Vec::new(rt.alloc());
+    begins.push(700)?;
+    begins.push(100)?;
+    let mut output = Vec::new(rt.alloc());
+    write_listing(
+        &mut output,
+        &Places::Listed(begins),
+        file.packets.as_slice(),
+    )?;
+    let text = str::from_utf8(output.as_slice())?;
+    let lines = "\
+        0\t0\t5\t3\tinter\tshown\t0\t-\t0\t-\t-\t-\t-\t-\t-\tNoKeyFrame\t700\t-\t-\t-\n\
+        1\t1\t6\t0\t-\tshown\t-\t-\t-\t-\t-\t-\t-\t-\t-\tlost\t100\t-\t-\t-\n";
+    assert_eq!(rt; text.strip_prefix(HEAD), Some(lines));
+    Ok(())
 }

@@ -7,6 +7,8 @@ pub mod SurveyLemmas
 pub mod GapLemmas
 pub mod BlockLemmas
 pub mod FileLemmas
+pub mod KeptPackets
+pub mod FewKept
 pub mod RateLemmas
 pub mod OneFile
 pub mod NotIvf

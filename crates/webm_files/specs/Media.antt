@@ -1,5 +1,6 @@
 -- What is kept of a file besides the packets of its video, as contracts see it.
-use Rattle.std.specs.Prelude.{ℕ, Bool, List}
+use Rattle.std.specs.Prelude.{ℕ, ◌+◌, ◌≤◌, Bool, List, length}
+use Rattle.webm_files.specs.declared.files.TheConstants.{MAX_ELEMENTS}
 use Rattle.webm_files.specs.declared.elements.Element.{Element}
 use Rattle.webm_files.specs.declared.blocks.Block.{Block}
 use Rattle.webm_files.specs.declared.gaps.Gap.{Gap}
@@ -13,3 +14,9 @@ pub record Kept : Type 0 where
   pub gaps : List Gap
   pub parts : List Element
   pub is_cut : Bool
+
+-- so many gaps and blocks are kept of a file at most
+pub record IsFewKept (media : Kept) : Type 0 where
+  pub gaps : length media.gaps ≤ MAX_ELEMENTS + 1
+  pub blocks : length media.blocks ≤ MAX_ELEMENTS
+  pub unlisted : length media.unlisted ≤ MAX_ELEMENTS

@@ -18,6 +18,10 @@ packet_of file block = record { stamp = block.stamp; bytes = take (block.end - b
 abbrev pub packets_in : List ℕ → ℕ → List Block → List Packet
 packets_in file video blocks = map (packet_of file) (filter (is_packet video) blocks)
 
+-- where the bytes of each packet begin in the file
+abbrev pub places_in : ℕ → List Block → List ℕ
+places_in video blocks = map (λ block. block.start) (filter (is_packet video) blocks)
+
 -- a block has one of these track numbers
 abbrev pub is_listed : List ℕ → Block → Bool
 is_listed numbers block = list_any (λ number. number == block.track) numbers

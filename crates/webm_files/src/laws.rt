@@ -5,6 +5,8 @@ ghost use Rattle.stream_files.specs.Ivf.{IsIvf};
 ghost use Rattle.stream_files.specs.declared.streams.Stream.{Stream};
 ghost use Rattle.webm_files.specs.Children.{HasChild, after_child, children, first_child};
 ghost use Rattle.webm_files.specs.Files.{HasHeader, IsWebm, WebmRefuses, is_marked};
+ghost use Rattle.webm_files.specs.Media.{IsFewKept};
+ghost use Rattle.webm_files.specs.Packets.{packets_in};
 ghost use Rattle.webm_files.specs.declared.blocks.Block.{Block};
 ghost use Rattle.webm_files.specs.declared.files.Webm.{Webm};
 ghost use Rattle.webm_files.specs.declared.files.WebmFault.{WebmFault};
@@ -18,6 +20,16 @@ pub fn cluster_is_read()
 /// A file has one list of blocks.
 pub fn blocks_are_one()
     ensures { (file : List ℕ) (blocks others : List Block) → AreBlocks file blocks → AreBlocks file others → blocks ≡ others }
+{}
+
+/// The packets of a file are among the blocks that are kept of it: so `Media::packet_places` has the place of each.
+pub fn packets_are_kept()
+    ensures { (bytes : List ℕ) (file : Webm) → IsWebm bytes file → file.packets ≡ packets_in bytes file.media.video file.media.blocks }
+{}
+
+/// A file with few elements has few gaps and blocks.
+pub fn kept_are_few()
+    ensures { (bytes : List ℕ) (file : Webm) → IsWebm bytes file → IsFewKept file.media }
 {}
 
 /// Bytes are the text of at most one file.

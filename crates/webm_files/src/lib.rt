@@ -24,4 +24,5 @@ pub use files::{
 };
 pub use gaps::Gap;
 pub use media::Media;
+pub use packets::{is_listed, is_packet};
 pub use rates::frame_rate;

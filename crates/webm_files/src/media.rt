@@ -1,10 +1,26 @@
 // What is kept of a file besides the packets of its video.
-ghost use Rattle.std.specs.Prelude.{◌≡◌};
+ghost use Rattle.std.specs.Prelude.{◌≡◌, IfOk};
+ghost use Rattle.webm_files.specs.Packets.{places_in};
 
 use super::blocks::Block;
 use super::elements::Element;
 use super::gaps::Gap;
+use super::packets::is_packet;
+use std::alloc::{AllocError, Global};
 use std::marker::Model;
+
+/// The positions at which the packets among some blocks begin, if the video has this track number.
+fn places_in(alloc: Global, video: u64, blocks: &[Block]) -> Result<Vec<usize>, AllocError>
+    ensures { IfOk result (λ places. places.items ≡ places_in video blocks.now) }
+{
+    let mut places = Vec::new(alloc);
+    for block in blocks {
+        if is_packet(video, block) {
+            places.push(block.start)?;
+        }
+    }
+    Ok(places)
+}
 
 /// What is kept of a file besides the packets of its video, by position in the file: the blocks of all tracks, gaps, and the
 /// elements from which the file can be written again. A contract sees it as [`Kept`](specs).
@@ -64,6 +80,13 @@ impl Media {
         ensures { result.now ≡ self.now.blocks }
     {
         self.blocks.as_slice()
+    }
+
+    /// The positions of the file at which the bytes of the video's packets begin, in the order of the packets.
+    pub fn packet_places(&self, alloc: Global) -> Result<Vec<usize>, AllocError>
+        ensures { IfOk result (λ places. places.items ≡ places_in self.now.video self.now.blocks) }
+    {
+        places_in(alloc, self.video, self.blocks.as_slice())
     }
 
     /// The blocks of other track numbers.

@@ -18,15 +18,15 @@ pub(crate) struct Blocks {
     pub(crate) unlisted: Vec<Block>,
 }
 
-/// Whether a block is a packet of the video.
-fn is_packet(video: u64, block: &Block) -> bool
+/// Whether a block is a packet of the video with this track number. A laced block of the video is none.
+pub fn is_packet(video: u64, block: &Block) -> bool
     ensures { result ≡ is_packet video block.now }
 {
     block.track == video && block.flags / 2 % 4 == 0
 }
 
 /// Whether a block has one of these track numbers.
-fn is_listed(numbers: &[u64], block: &Block) -> bool
+pub fn is_listed(numbers: &[u64], block: &Block) -> bool
     ensures { result ≡ is_listed numbers.now block.now }
 {
     numbers.contains(&block.track)

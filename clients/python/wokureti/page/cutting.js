@@ -18,47 +18,32 @@ function base(script) {
   return [nodes, nodes.length];
 }
 
+/** Only the frames of these ranges are shown, as far as they have any. */
+function shown(script, ranges) {
+  const [nodes, last] = base(script);
+  const some = ranges.filter(([from, to]) => from < to).map(([from, to]) => [last, from, to - from]);
+  return [...nodes, parts.partsText(some.length ? some : [[last, 0, 0]])];
+}
+
 /** Only frames `first` to `end` - 1 are shown. */
 export function kept(script, { first, end }) {
-  const [nodes, last] = base(script);
-  return [...nodes, `trim ${last} ${first} ${end - first}`];
+  return shown(script, [[first, end]]);
 }
 
 /** The others are shown. */
 export function without(script, count, { first, end }) {
-  const [nodes, last] = base(script);
-  if (first === 0) return [...nodes, `trim ${last} ${end} ${count - end}`];
-  const found = [...nodes, `trim ${last} 0 ${first}`];
-  if (end >= count) return found;
-  return [...found, `trim ${last} ${end} ${count - end}`, `splice ${last + 1} ${last + 2}`];
+  return shown(script, [[0, first], [end, count]]);
 }
 
 /** These frames are shown before frame `at`. */
 export function moved(script, count, { first, end }, at) {
-  const [nodes, last] = base(script);
-  const found = [...nodes];
-  const ranges = at < first ? [[0, at], [first, end], [at, first], [end, count]] : [[0, first], [end, at], [first, end], [at, count]];
-  const trims = ranges.filter(([from, to]) => from < to).map(([from, to]) => found.push(`trim ${last} ${from} ${to - from}`));
-  for (const [place, node] of trims.entries()) {
-    if (place) found.push(`splice ${place === 1 ? trims[0] : found.length} ${node}`);
-  }
-  return found;
+  return shown(script, at < first ? [[0, at], [first, end], [at, first], [end, count]] : [[0, first], [end, at], [first, end], [at, count]]);
 }
 
-/** Puts the node that was added last between frames before `first` and those from `end` on, as far as there are any. */
-function between(nodes, last, count, { first, end }) {
-  const found = [...nodes];
-  let middle = found.length;
-  if (first > 0) {
-    found.push(`trim ${last} 0 ${first}`);
-    found.push(`splice ${found.length} ${middle}`);
-    middle = found.length;
-  }
-  if (end < count) {
-    found.push(`trim ${last} ${end} ${count - end}`);
-    found.push(`splice ${middle} ${found.length}`);
-  }
-  return found;
+/** Puts the node that was added last, of this length, between frames before `first` and those from `end` on, as far as there are any. */
+function between(nodes, length, last, count, { first, end }) {
+  const ranges = [[last, 0, first], [nodes.length, 0, length], [last, end, count - end]].filter((part) => part[2] > 0);
+  return ranges.length > 1 ? [...nodes, parts.partsText(ranges)] : nodes;
 }
 
 /** Frames are faded in from black, or out to black; those before and after them stay. */
@@ -66,17 +51,19 @@ export function faded(script, count, { first, end }, isIn) {
   const [nodes, last] = base(script);
   const length = end - first;
   const found = [...nodes, `trim ${last} ${first} ${length}`, `fade ${last + 1} 0 ${length} ${isIn ? "0 256" : "256 0"}`];
-  return between(found, last, count, { first, end });
+  return between(found, length, last, count, { first, end });
 }
 
 /** Before frame `at` the frame before it, or black, is shown for some frames. */
 export function still(script, count, at, length, isBlack) {
   const [nodes, last] = base(script);
-  const found = [...nodes, `trim ${last} ${Math.max(0, at - 1)} 1`];
-  for (let made = 1; made < length; made *= 2) found.push(`splice ${found.length} ${found.length}`);
-  found.push(`trim ${found.length} 0 ${length}`);
+  const some = Math.min(length, 400);
+  const found = [...nodes, parts.partsText(Array(some).fill([last, Math.max(0, at - 1), 1]))];
+  // A long still is made of shorter ones: a script of 100,000 parts is a long text.
+  const ranges = Array.from({ length: Math.ceil(length / some) }, (_, place) => [found.length, 0, Math.min(some, length - place * some)]);
+  if (ranges.length > 1) found.push(parts.partsText(ranges));
   if (isBlack) found.push(`fade ${found.length} 0 0 0 0`);
-  return between(found, last, count, { first: at, end: at });
+  return between(found, length, last, count, { first: at, end: at });
 }
 
 /** After the last frame those of a source are shown. */

@@ -1,4 +1,4 @@
-// The shots of a script of trims, splices and fades: parts of sources, one after the other. A script that is written anew from them has no nodes left over.
+// The shots of a script of trims, splices, parts and fades: parts of sources, one after the other. A script that is written anew from them has no nodes left over.
 
 import { nodesOf } from "./script.js";
 
@@ -57,6 +57,22 @@ function faded(shots, [first, count, from, to]) {
   return found;
 }
 
+/** The shots of frames of nodes, one part after the other, or null. */
+function ofParts(results, numbers) {
+  const found = [];
+  for (let at = 0; at < numbers.length; at += 3) {
+    const [node, first, count] = numbers.slice(at, at + 3);
+    const part = slice(results[node], first, Math.min(first + count, lengthOf(results[node])));
+    if (!part) return null;
+    found.push(...part);
+  }
+  return found;
+}
+
+function unfaded(shots) {
+  return shots.map((one) => ({ ...one, fadeIn: 0, fadeOut: 0 }));
+}
+
 /** The shots of a script, and whether they are all of it: a crop, or a fade in the middle, is not in them. `frames` has the number of frames of each source. */
 export function shotsOf(script, frames) {
   let isAll = true;
@@ -68,13 +84,19 @@ export function shotsOf(script, frames) {
       results.push([shot(node, 0, frames[node])]);
       continue;
     }
+    if (word === "parts") {
+      const shots = ofParts(results, [node, ...numbers]);
+      isAll = isAll && shots !== null;
+      results.push(shots || ofParts(results.map(unfaded), [node, ...numbers]));
+      continue;
+    }
     let found = results[node];
     if (word === "splice") found = [...results[node], ...results[numbers[0]]];
     else if (word === "trim") {
       const end = Math.min(numbers[0] + numbers[1], lengthOf(results[node]));
       const part = slice(results[node], numbers[0], end);
       isAll = isAll && part !== null;
-      found = part || slice(results[node].map((one) => ({ ...one, fadeIn: 0, fadeOut: 0 })), numbers[0], end);
+      found = part || slice(unfaded(results[node]), numbers[0], end);
     } else {
       const part = word === "fade" ? faded(results[node], numbers) : null;
       isAll = isAll && part !== null;
@@ -96,18 +118,27 @@ export function nodesFor(shots, frames) {
     }
     return known.get(text);
   };
-  let last = null;
+  const parts = [];
   for (const { source, first, count, fadeIn, fadeOut } of shots) {
     let here = node(`source ${source}`);
-    if (first > 0 || count < frames[source]) here = node(`trim ${here} ${first} ${count}`);
-    if (fadeIn) here = node(`fade ${here} 0 ${fadeIn} 0 256`);
-    if (fadeOut) here = node(`fade ${here} ${count - fadeOut} ${fadeOut} 256 0`);
-    last = last === null ? here : node(`splice ${last} ${here}`);
+    const isWhole = first === 0 && count === frames[source];
+    if (fadeIn || fadeOut) {
+      if (!isWhole) here = node(`trim ${here} ${first} ${count}`);
+      if (fadeIn) here = node(`fade ${here} 0 ${fadeIn} 0 256`);
+      if (fadeOut) here = node(`fade ${here} ${count - fadeOut} ${fadeOut} 256 0`);
+      parts.push({ here, first: 0, count, isWhole: true });
+    } else parts.push({ here, first, count, isWhole });
   }
-  if (last === null) return ["trim 0 0 0"];
+  if (!parts.length) return ["trim 0 0 0"];
+  const [one] = parts;
   // The last node is the one that is shown.
-  if (nodes.length && last !== nodes.length) nodes.push(`trim ${last} 0 ${lengthOf(shots)}`);
-  return nodes;
+  if (parts.length === 1 && one.isWhole && one.here === nodes.length) return nodes;
+  return [...nodes, partsText(parts.map(({ here, first, count }) => [here, first, count]))];
+}
+
+/** The node of frames of nodes, one part after the other: of each the node, its first frame and how many. One part is a trim. */
+export function partsText(parts) {
+  return `${parts.length === 1 ? "trim" : "parts"} ${parts.flat().join(" ")}`;
 }
 
 /** The shots with frames `first` to `end` - 1 only; with all others; with these before frame `at`. Null if a boundary is inside a fade. */

@@ -51,6 +51,10 @@ class Script:
         """The frames of a node, then those of another one."""
         return self._add("splice", self._node(node), self._node(other))
 
+    def parts(self, *parts: tuple[int, int, int]) -> Script:
+        """Any number of trims, one after the other: of each a node, the first frame and at most so many frames."""
+        return self._add("parts", *(number for node, first, count in parts for number in (self._node(node), first, count)))
+
     def crop(self, node: int, x: int, y: int, width: int, height: int) -> Script:
         """Each frame's `width` x `height` luma samples starting at column `x` and row `y`, both even."""
         return self._add("crop", self._node(node), x, y, width, height)

@@ -15,8 +15,8 @@ from ..session.errors import Ended, Unexported
 from ..session.lines import is_refusal
 from ..session.origins import joined, runs_of
 
-# A script has 16 nodes: a part is a trim, and all but the first one are spliced.
-MOST_PARTS, MOST_STREAMS = 8, 8
+# Streams that the programs read at a time, and frames that a stream has at most.
+MOST_STREAMS, MOST_FRAMES = 8, 1 << 20
 # Nodes of a script.
 MOST_NODES = 16
 MOST_TIME = 3600
@@ -138,17 +138,16 @@ def seconds_text(words):
 
 def cut_script(frames, parts):
     """The script of parts of source 0, pairs of texts of the first frame and of the end, or None for the beginning or the end of the stream."""
-    if not 1 <= len(parts) <= MOST_PARTS:
-        raise Failed(f"1 to {MOST_PARTS} parts are cut at a time, and these are {len(parts)}: join several cuts")
-    nodes, pieces = [], []
+    if not parts:
+        raise Failed("there is no part to cut")
+    pieces = []
     for start, stop in parts:
         first = 0 if start is None else frames.place(start, False)
         end = len(frames.shown[0]) if stop is None else frames.place(stop, True)
         if first >= end:
             raise Failed(f"there is no frame from {start or 'the beginning'} to {stop or 'the end'}: the stream has {frames.length_text()}")
-        nodes.append(f"trim 0 {first} {end - first}")
-        pieces.append(len(nodes))
-    return spliced(nodes, pieces)
+        pieces.append(f"0 {first} {end - first}")
+    return f"parts {' '.join(pieces)}"
 
 
 @functools.lru_cache
@@ -204,16 +203,9 @@ def join_script(count):
     """The script of so many sources, one after the other."""
     if count == 1:
         return "-"
-    return spliced([f"source {source}" for source in range(1, count)], list(range(count)))
-
-
-def spliced(nodes, pieces):
-    """The text of a script that serves these nodes one after the other."""
-    nodes, last = list(nodes), pieces[0]
-    for piece in pieces[1:]:
-        nodes.append(f"splice {last} {piece}")
-        last = len(nodes)
-    return "; ".join(nodes)
+    nodes = [f"source {source}" for source in range(1, count)]
+    pieces = " ".join(f"{source} 0 {MOST_FRAMES}" for source in range(count))
+    return "; ".join([*nodes, f"parts {pieces}"])
 
 
 class Output(NamedTuple):

@@ -1,6 +1,6 @@
 use Rattle.std.proofs.Common.{◌≡◌, ◌+◌, ◌≤◌, length}
 use Rattle.script_nodes.specs.Reading.{parts_left}
-use Rattle.script_nodes.proofs.PartsRead.{left_length}
+use Rattle.script_nodes.proofs.NodesRead.{left_length}
 use Rattle.explanations.specs.Nodes.{parts_reason, syntax_reason}
 use Rattle.explanations.proofs.nodes.wrong_node.Given as goal
 

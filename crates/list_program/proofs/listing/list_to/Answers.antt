@@ -3,7 +3,9 @@ use Rattle.list_program.proofs.listing.list_to.Goals as goal
 
 pub returns-clause-listed : goal.returns-clause-listed
 returns-clause-listed g c = record {
-  file = c.in-Ok.file;
+  source = c.in-Ok.source;
   read = c.in-Ok.ensures;
-  listed = Appends-kept _ _ _ _ (rw c.as_slice.ensures.value at c.in-Ok-write_listing.ensures) c.in-Ok-flush.ensures.bytes;
+  places = c.in-Ok-places_of.places;
+  are = rw (c.as_slice.ensures.value) at c.in-Ok-places_of.ensures;
+  listed = Appends-kept _ _ _ _ (rw (c.as_slice-2.ensures) at c.in-Ok-write_form.ensures) c.in-Ok-flush.ensures.bytes;
 }

@@ -1,6 +1,8 @@
-use Rattle.std.proofs.Common.{lit<, refl, sym, arith}
-use Rattle.script_nodes.specs.declared.nodes.Node.TheVariants.{Source, Trim, Splice, Crop, Fade}
-use Rattle.script_nodes.proofs.Follows.{IsNode, given_long, given_first, source_inside, trim_inside, splice_inside, crop_inside, fade_inside, first_frame, source_frame, trim_frame, front_frame, back_frame, crop_frame, fade_frame, numbers_here, step_more, cut_allowed}
+use Rattle.std.specs.Prelude.{slice_index}
+use Rattle.std.proofs.Common.{◌≡◌, ◌<◌, ℕ, lit<, refl, sym, ap, subst, arith}
+use Rattle.script_nodes.specs.declared.nodes.Node.TheVariants.{Source, Trim, Splice, Crop, Fade, Parts}
+use Rattle.script_nodes.specs.Lengths.{place_in}
+use Rattle.script_nodes.proofs.Follows.{IsNode, given_long, given_first, source_inside, trim_inside, parts_frame_at, parts_inside, splice_inside, crop_inside, fade_inside, first_frame, source_frame, trim_frame, front_frame, back_frame, crop_frame, fade_frame, numbers_here, step_more, cut_allowed}
 use Rattle.script_nodes.proofs.scripts.+found_in.Goals as goal
 
 pub returns-then-clip-eq0-clause-value : goal.returns-then-clip-eq0-clause-value
@@ -138,3 +140,50 @@ returns-in-Fade-clause-few t c =
 pub returns-in-Fade-clause-steps : goal.returns-in-Fade-clause-steps
 returns-in-Fade-clause-steps t c =
     step_more _ _ _ c.found_in-found-in-Fade.ensures.steps c.weight.ensures.small c.push-in-Fade.ensures.items
+
+pub place-clip-requires-clause-few : goal.place-clip-requires-clause-few
+place-clip-requires-clause-few t c =
+    let n : IsNode c.requires.given.0 c.args.nodes.now c.args.lengths.now c.args.clip _ (Parts _) = record { given = c.requires.given.1; some = omega arith; within = c.requires.clip; is = c.in-Parts.is } in
+    let at = parts_inside _ _ _ c.args.clip c.args.frame _ _ n c.requires.inside in
+    at.few
+
+pub place-clip-requires-clause-uses : goal.place-clip-requires-clause-uses
+place-clip-requires-clause-uses t c =
+    let n : IsNode c.requires.given.0 c.args.nodes.now c.args.lengths.now c.args.clip _ (Parts _) = record { given = c.requires.given.1; some = omega arith; within = c.requires.clip; is = c.in-Parts.is } in
+    let at = parts_inside _ _ _ c.args.clip c.args.frame _ _ n c.requires.inside in
+    rw c.in-Parts.parts-is at.uses
+
+pub place-clip-requires-clause-within : goal.place-clip-requires-clause-within
+place-clip-requires-clause-within t c =
+    let n : IsNode c.requires.given.0 c.args.nodes.now c.args.lengths.now c.args.clip _ (Parts _) = record { given = c.requires.given.1; some = omega arith; within = c.requires.clip; is = c.in-Parts.is } in
+    let at = parts_inside _ _ _ c.args.clip c.args.frame _ _ n c.requires.inside in
+    rw c.in-Parts.parts-is at.within
+
+pub place-clip-requires-clause-inside : goal.place-clip-requires-clause-inside
+place-clip-requires-clause-inside t c =
+    let n : IsNode c.requires.given.0 c.args.nodes.now c.args.lengths.now c.args.clip _ (Parts _) = record { given = c.requires.given.1; some = omega arith; within = c.requires.clip; is = c.in-Parts.is } in
+    let at = parts_inside _ _ _ c.args.clip c.args.frame _ _ n c.requires.inside in
+    rw c.in-Parts.parts-is at.inside
+
+pub found_in-requires-in-Parts : goal.found_in-requires-in-Parts
+found_in-requires-in-Parts t c =
+    let n : IsNode c.requires.given.0 c.args.nodes.now c.args.lengths.now c.args.clip _ (Parts _) = record { given = c.requires.given.1; some = omega arith; within = c.requires.clip; is = c.in-Parts.is } in
+    let at = parts_inside _ _ _ c.args.clip c.args.frame _ _ n c.requires.inside in
+    let placed : c.place-clip.result ≡ place_in c.args.lengths.now c.in-Parts.parts c.args.frame = rw c.in-Parts.parts-is at c.place-clip.ensures in
+    let clip : c.place-clip.result.0 ≡ (place_in c.args.lengths.now c.in-Parts.parts c.args.frame).0 = ap (λ (p : ℕ × ℕ). p.0) placed in
+    (omega (arith, at.below, clip), (c.requires.given, (omega (arith, at.below, clip, c.requires.clip), subst (λ (p : ℕ × ℕ). p.1 < slice_index c.args.lengths.now p.0) (sym placed) at.frame)))
+
+pub returns-in-Parts-clause-value : goal.returns-in-Parts-clause-value
+returns-in-Parts-clause-value t c =
+    let n : IsNode c.requires.given.0 c.args.nodes.now c.args.lengths.now c.args.clip _ (Parts _) = record { given = c.requires.given.1; some = omega arith; within = c.requires.clip; is = c.in-Parts.is } in
+    let at = parts_inside _ _ _ c.args.clip c.args.frame _ _ n c.requires.inside in
+    let placed : c.place-clip.result ≡ place_in c.args.lengths.now c.in-Parts.parts c.args.frame = rw c.in-Parts.parts-is at c.place-clip.ensures in
+    parts_frame_at _ _ _ c.args.clip c.args.frame _ _ _ n at.inside (rw placed at c.found_in-in-Parts.ensures.value)
+
+pub returns-in-Parts-clause-few : goal.returns-in-Parts-clause-few
+returns-in-Parts-clause-few t c =
+    let n : IsNode c.requires.given.0 c.args.nodes.now c.args.lengths.now c.args.clip _ (Parts _) = record { given = c.requires.given.1; some = omega arith; within = c.requires.clip; is = c.in-Parts.is } in
+    let at = parts_inside _ _ _ c.args.clip c.args.frame _ _ n c.requires.inside in
+    let placed : c.place-clip.result ≡ place_in c.args.lengths.now c.in-Parts.parts c.args.frame = rw c.in-Parts.parts-is at c.place-clip.ensures in
+    let clip : c.place-clip.result.0 ≡ (place_in c.args.lengths.now c.in-Parts.parts c.args.frame).0 = ap (λ (p : ℕ × ℕ). p.0) placed in
+    omega (arith, c.found_in-in-Parts.ensures.few, at.below, clip)

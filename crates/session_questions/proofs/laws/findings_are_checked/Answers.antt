@@ -14,11 +14,11 @@ use Rattle.session_questions.proofs.Found.{each_counted}
 use Rattle.session_questions.proofs.laws.findings_are_checked.Goals as goal
 
 pub returns : goal.returns
-returns c = λ tables list bytes file same.
+returns c = λ tables list bytes source same.
     let packets : List Packet = packets_of list in
-    let head : List Finding = head_findings bytes file in
-    let middle : List Finding = packet_findings tables file.packets in
-    let end : List Finding = end_findings bytes file in
+    let head : List Finding = head_findings bytes source in
+    let middle : List Finding = packet_findings tables source.stream.packets in
+    let end : List Finding = end_findings bytes source in
     let all : List (List Finding) = findings_of_each tables packets in
     let many : length all ≤ length list.entries = omega (arith, each_counted tables (pace_of packets) 0 first_position (Ok None) packets, length-map list.entries packet_of) in
     let whole : middle ≡ findings_from tables list 0 (length list.entries) = ap (packet_findings tables) same ∙ ap joined (sym (take_all (length list.entries) all many)) in
