@@ -1,5 +1,5 @@
--- A file with few elements has few gaps and blocks.
-use Rattle.std.proofs.Common.{◌≡◌, ℕ, ◌+◌, ◌<◌, ◌≤◌, Bool, true, false, List, [], ◌∷◌, ◌++◌, length, Option, Some, None, option_to_list, not, nat_lt, cond, ap, sym, subst, arith, length-append, rules, tests}
+-- A file with few elements has few gaps, blocks and clusters.
+use Rattle.std.proofs.Common.{ℕ, ◌+◌, ◌≤◌, Bool, true, false, List, [], ◌∷◌, length, Option, Some, None, option_to_list, not, nat_lt, cond, ap, sym, subst, arith, length-append}
 use Rattle.std.specs.List.{filter}
 use Rattle.webm_files.specs.declared.blocks.Block.{Block}
 use Rattle.webm_files.specs.declared.elements.Element.{Element}
@@ -10,7 +10,8 @@ use Rattle.webm_files.specs.Files.{IsWebm}
 use Rattle.webm_files.specs.Media.{IsFewKept}
 use Rattle.webm_files.specs.Packets.{is_listed}
 use Rattle.webm_files.specs.Tracks.{numbers_of}
-use Rattle.webm_files.specs.Kept.{gap_between, gaps_before, gaps_of}
+use Rattle.webm_files.specs.Kept.{gap_between, gaps_before}
+use Rattle.webm_files.proofs.ClusterLemmas.{few_timeless}
 
 -- ---- gaps
 
@@ -55,4 +56,5 @@ few_kept bytes file is =
       gaps = omega (arith, ap (λ (gaps : List Gap). length gaps) is.contents.gaps, length-append (gaps_before 0 elements) (gap_between is.walk.end (length bytes)), one_gap is.walk.end (length bytes), few_before 0 elements, is.few.elements);
       blocks = subst (λ (found : List Block). length found ≤ 16777216) (sym is.contents.blocks) (omega (arith, fewer (is_listed numbers) blocks, all, is.few.elements));
       unlisted = subst (λ (found : List Block). length found ≤ 16777216) (sym is.contents.unlisted) (omega (arith, fewer (λ block. not (is_listed numbers block)) blocks, all, is.few.elements));
+      timeless = omega (arith, ap (λ (found : List ℕ). length found) is.contents.timeless, few_timeless elements, is.few.elements);
     }

@@ -14,6 +14,7 @@ use Rattle.webm_files.specs.Blocks.{blocks_of}
 use Rattle.webm_files.specs.Children.{field, number_or}
 use Rattle.webm_files.specs.Tracks.{IsHead, number_of, numbers_of}
 use Rattle.webm_files.specs.Kept.{gaps_of, parts_of, skipped}
+use Rattle.webm_files.specs.Clusters.{timeless_of}
 use Rattle.webm_files.specs.Packets.{HasCount, is_packet, listed_in, packets_in, unlisted_in}
 use Rattle.webm_files.specs.Files.{HasContents, IsFew, IsWebm, WebmRefuses, scale_of}
 use Rattle.webm_files.specs.Starts.{IsRead, IsStart}
@@ -92,6 +93,7 @@ some_webm file tracks entry head start few =
         unlisted = unlisted_in (numbers_of tracks) blocks;
         gaps = gaps_of file walk;
         parts = parts_of walk.elements;
+        timeless = timeless_of walk.elements;
         is_cut = is_cut (drop walk.end file);
       };
     } in (
@@ -110,6 +112,7 @@ some_webm file tracks entry head start few =
           unlisted = refl;
           gaps = refl;
           parts = refl;
+          timeless = refl;
           cut = cut_is (drop walk.end file);
         };
       }),

@@ -1,5 +1,5 @@
 -- The packets of a file are among the blocks that are kept of it.
-use Rattle.std.proofs.Common.{◌≡◌, ℕ, ◌==◌, ◌&&◌, ◌||◌, Bool, true, false, List, [], ◌∷◌, map, Option, Some, None, if◌then◌else◌, cond, refl, sym, ap, ◌∙◌, subst, rules, tests}
+use Rattle.std.proofs.Common.{◌≡◌, ℕ, ◌==◌, Bool, true, false, List, [], ◌∷◌, map, Some, cond, refl, sym, ap, ◌∙◌, rules, tests}
 use Rattle.std.specs.List.{filter, find, list_any}
 use Rattle.webm_files.specs.declared.blocks.Block.{Block}
 use Rattle.webm_files.specs.declared.files.Webm.{Webm}

@@ -4,6 +4,7 @@ pub mod OneAnswer
 pub mod ChildLemmas
 pub mod EntryLemmas
 pub mod SurveyLemmas
+pub mod ClusterLemmas
 pub mod GapLemmas
 pub mod BlockLemmas
 pub mod FileLemmas

@@ -55,15 +55,16 @@ file_fields h h' p p' s s' m m' a b c d = cc
 
 -- what is kept, by its fields
 kept_fields : (one other : Kept) → one.video ≡ other.video → one.default_duration ≡ other.default_duration → one.numbers ≡ other.numbers → one.blocks ≡ other.blocks
-    → one.unlisted ≡ other.unlisted → one.gaps ≡ other.gaps → one.parts ≡ other.parts → one.is_cut ≡ other.is_cut → one ≡ other
-kept_fields one other a b c d e f g h =
+    → one.unlisted ≡ other.unlisted → one.gaps ≡ other.gaps → one.parts ≡ other.parts → one.timeless ≡ other.timeless → one.is_cut ≡ other.is_cut → one ≡ other
+kept_fields one other a b c d e f g i h =
     ap (λ v. record one { video = v }) a
     ∙ ap (λ v. record one { video = other.video; default_duration = v }) b
     ∙ ap (λ v. record one { video = other.video; default_duration = other.default_duration; numbers = v }) c
-    ∙ ap (λ v. record other { blocks = v; unlisted = one.unlisted; gaps = one.gaps; parts = one.parts; is_cut = one.is_cut }) d
-    ∙ ap (λ v. record other { unlisted = v; gaps = one.gaps; parts = one.parts; is_cut = one.is_cut }) e
-    ∙ ap (λ v. record other { gaps = v; parts = one.parts; is_cut = one.is_cut }) f
-    ∙ ap (λ v. record other { parts = v; is_cut = one.is_cut }) g
+    ∙ ap (λ v. record other { blocks = v; unlisted = one.unlisted; gaps = one.gaps; parts = one.parts; timeless = one.timeless; is_cut = one.is_cut }) d
+    ∙ ap (λ v. record other { unlisted = v; gaps = one.gaps; parts = one.parts; timeless = one.timeless; is_cut = one.is_cut }) e
+    ∙ ap (λ v. record other { gaps = v; parts = one.parts; timeless = one.timeless; is_cut = one.is_cut }) f
+    ∙ ap (λ v. record other { parts = v; timeless = one.timeless; is_cut = one.is_cut }) g
+    ∙ ap (λ v. record other { timeless = v; is_cut = one.is_cut }) i
     ∙ ap (λ v. record other { is_cut = v }) h
 
 kept_one : (file : List ℕ) (walk : Walk) (tracks entry : List ℕ) (one other : Webm) → HasContents file walk tracks entry one → HasContents file walk tracks entry other → one.media ≡ other.media
@@ -75,8 +76,9 @@ kept_one file walk tracks entry one other a b =
     let unlisted : one.media.unlisted ≡ other.media.unlisted = a.unlisted ∙ sym b.unlisted in
     let gaps : one.media.gaps ≡ other.media.gaps = a.gaps ∙ sym b.gaps in
     let parts : one.media.parts ≡ other.media.parts = a.parts ∙ sym b.parts in
+    let timeless : one.media.timeless ≡ other.media.timeless = a.timeless ∙ sym b.timeless in
     let cut : one.media.is_cut ≡ other.media.is_cut = test_one (IsCut (drop walk.end file)) one.media.is_cut other.media.is_cut a.cut b.cut in
-    kept_fields one.media other.media video duration numbers blocks unlisted gaps parts cut
+    kept_fields one.media other.media video duration numbers blocks unlisted gaps parts timeless cut
 
 pub one_file : (file : List ℕ) (one other : Webm) → IsWebm file one → IsWebm file other → one ≡ other
 one_file file one other a b =

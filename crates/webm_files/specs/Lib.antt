@@ -5,6 +5,7 @@ pub mod Children
 pub mod Tracks
 pub mod Surveys
 pub mod Kept
+pub mod Clusters
 pub mod Gaps
 pub mod Packets
 pub mod Media

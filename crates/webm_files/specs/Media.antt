@@ -13,10 +13,12 @@ pub record Kept : Type 0 where
   pub unlisted : List Block
   pub gaps : List Gap
   pub parts : List Element
+  pub timeless : List ℕ
   pub is_cut : Bool
 
--- so many gaps and blocks are kept of a file at most
+-- so many gaps, blocks and clusters are kept of a file at most
 pub record IsFewKept (media : Kept) : Type 0 where
   pub gaps : length media.gaps ≤ MAX_ELEMENTS + 1
   pub blocks : length media.blocks ≤ MAX_ELEMENTS
   pub unlisted : length media.unlisted ≤ MAX_ELEMENTS
+  pub timeless : length media.timeless ≤ MAX_ELEMENTS

@@ -195,6 +195,7 @@ fn read_contents<B: FileBytes>(
             unlisted: blocks.unlisted,
             gaps: gaps.gaps,
             parts: gaps.parts,
+            timeless: gaps.timeless,
             is_cut: gaps.is_cut,
         },
     })

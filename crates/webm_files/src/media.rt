@@ -33,6 +33,7 @@ pub struct Media {
     pub(crate) unlisted: Vec<Block>,
     pub(crate) gaps: Vec<Gap>,
     pub(crate) parts: Vec<Element>,
+    pub(crate) timeless: Vec<usize>,
     pub(crate) is_cut: bool,
 }
 
@@ -49,6 +50,7 @@ impl Model for Media {
       unlisted = m.unlisted.items;
       gaps = m.gaps.items;
       parts = m.parts.items;
+      timeless = m.timeless.items;
       is_cut = m.is_cut;
     } };
 }
@@ -108,6 +110,13 @@ impl Media {
         ensures { result.now ≡ self.now.parts }
     {
         self.parts.as_slice()
+    }
+
+    /// The positions of the clusters of which a block comes before their time, so that it has the time of the cluster before.
+    pub fn timeless(&self) -> &[usize]
+        ensures { result.now ≡ self.now.timeless }
+    {
+        self.timeless.as_slice()
     }
 
     /// Whether the end of the file cuts an element.

@@ -3,6 +3,7 @@ use Rattle.webm_files.specs.Walks.{Walk, IsCut}
 use Rattle.webm_files.specs.Blocks.{blocks_of}
 use Rattle.webm_files.specs.Children.{number_or}
 use Rattle.webm_files.specs.Kept.{gaps_of, parts_of, skipped}
+use Rattle.webm_files.specs.Clusters.{timeless_of}
 use Rattle.webm_files.specs.Gaps.{HasGaps}
 use Rattle.webm_files.specs.Packets.{listed_in, packets_in, unlisted_in}
 use Rattle.webm_files.proofs.OneAnswer.{walks_are_one}
@@ -30,6 +31,7 @@ returns g c =
         unlisted = met.unlisted ∙ ap (λ n. unlisted_in n blocks) numbers;
         gaps = gaps.gaps ∙ ap (gaps_of file) same;
         parts = gaps.parts ∙ ap (λ (w : Walk). parts_of w.elements) same;
+        timeless = gaps.timeless ∙ ap (λ (w : Walk). timeless_of w.elements) same;
         cut = subst (λ (w : Walk). IsTrue c.in_ok-gaps.gaps.is_cut ↔ IsCut (drop w.end file)) same gaps.cut;
       };
     }
