@@ -1,10 +1,11 @@
 -- Clusters without a time, when one more element is read.
-use Rattle.std.proofs.Common.{◌≡◌, ℕ, ◌≤◌, Bool, true, false, ◌&&◌, cond, eqb, List, [], ◌∷◌, ◌++◌, length, refl, sym, ap, ◌∙◌, arith, append_assoc, append-nil, length-append, Option, Some, None}
-use Rattle.std.proofs.lemmas.Bool.{eqb-true}
+use Rattle.std.proofs.Common.{◌≡◌, ℕ, ◌≤◌, Bool, true, false, ◌&&◌, ◌||◌, cond, eqb, List, [], ◌∷◌, ◌++◌, length, refl, sym, ap, ◌∙◌, arith, append_assoc, append-nil, length-append, Option, Some, None}
+use Rattle.std.specs.List.{find}
+use Rattle.std.proofs.lemmas.Bool.{eq-eqb, eqb-true}
 use Rattle.webm_files.specs.declared.ids.TheConstants.{CLUSTER, TIMESTAMP}
 use Rattle.webm_files.specs.declared.elements.Element.{Element}
 use Rattle.webm_files.specs.Elements.{is_block}
-use Rattle.webm_files.specs.Clusters.{lacks_time, timeless_at, timeless_of, waits_after}
+use Rattle.webm_files.specs.Clusters.{decides_time, is_some_block, lacks_time, timeless_at, timeless_of, waits_after}
 
 -- what is found in elements if a cluster waits for its time before them
 abbrev pub waiting : Option ℕ → List Element → List ℕ
@@ -72,3 +73,37 @@ pub few_timeless : (elements : List Element) → length (timeless_of elements) �
 few_timeless [] = omega arith
 few_timeless (element ∷ elements) =
     omega (arith, length-append (cond (eqb element.id CLUSTER && lacks_time elements) (element.place ∷ []) []) (timeless_of elements), one_if (eqb element.id CLUSTER && lacks_time elements) element.place, few_timeless elements)
+
+-- a cluster before a block, and one before its time
+either_last : (a b c : Bool) → c ≡ true → (a || (b || c)) ≡ true
+either_last true b c e = refl
+either_last false true c e = refl
+either_last false false c e = e
+
+either_middle : (a b c : Bool) → b ≡ true → (a || (b || c)) ≡ true
+either_middle true b c e = refl
+either_middle false true c e = refl
+either_middle false false c e = let wrong : false ≡ true = e in (cc)
+
+first_if : (is : Bool) (first : Element) (rest : Option Element) → is ≡ true → cond is (Some first) rest ≡ Some first
+first_if true first rest e = refl
+first_if false first rest e = let wrong : false ≡ true = e in (cc)
+
+found_first : (first : Element) (elements : List Element) → decides_time first ≡ true → find decides_time (first ∷ elements) ≡ Some first
+found_first first elements is = first_if (decides_time first) first (find decides_time elements) is
+
+only_if : (cluster lacks : Bool) (place : ℕ) (rest : List ℕ) → cluster ≡ true → lacks ≡ true → cond (cluster && lacks) (place ∷ []) [] ++ rest ≡ place ∷ rest
+only_if cluster lacks place rest a b = rw (a, b) refl
+
+none_if : (cluster lacks : Bool) (place : ℕ) (rest : List ℕ) → cluster ≡ true → lacks ≡ false → cond (cluster && lacks) (place ∷ []) [] ++ rest ≡ rest
+none_if cluster lacks place rest a b = rw (a, b) refl
+
+pub late : (cluster block : Element) (elements : List Element) → cluster.id ≡ CLUSTER → is_block block.id ≡ true → timeless_of (cluster ∷ block ∷ elements) ≡ cluster.place ∷ timeless_of (block ∷ elements)
+late cluster block elements is b =
+    let found = found_first block elements (either_last (eqb block.id CLUSTER) (eqb block.id TIMESTAMP) (is_block block.id) b) in
+    only_if (eqb cluster.id CLUSTER) (lacks_time (block ∷ elements)) cluster.place (timeless_of (block ∷ elements)) (eq-eqb cluster.id CLUSTER is) (ap is_some_block found ∙ b)
+
+pub timed : (cluster time : Element) (elements : List Element) → cluster.id ≡ CLUSTER → time.id ≡ TIMESTAMP → timeless_of (cluster ∷ time ∷ elements) ≡ timeless_of (time ∷ elements)
+timed cluster time elements is t =
+    let found = found_first time elements (either_middle (eqb time.id CLUSTER) (eqb time.id TIMESTAMP) (is_block time.id) (eq-eqb time.id TIMESTAMP t)) in
+    none_if (eqb cluster.id CLUSTER) (lacks_time (time ∷ elements)) cluster.place (timeless_of (time ∷ elements)) (eq-eqb cluster.id CLUSTER is) (ap is_some_block found ∙ (ap is_block t ∙ time_no_block))

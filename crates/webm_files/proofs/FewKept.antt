@@ -5,6 +5,7 @@ use Rattle.webm_files.specs.declared.blocks.Block.{Block}
 use Rattle.webm_files.specs.declared.elements.Element.{Element}
 use Rattle.webm_files.specs.declared.files.Webm.{Webm}
 use Rattle.webm_files.specs.declared.gaps.Gap.{Gap}
+use Rattle.webm_files.specs.declared.lengths.WrongLength.{WrongLength}
 use Rattle.webm_files.specs.Blocks.{Reading, after, after_all, block_of, blocks_of, nothing}
 use Rattle.webm_files.specs.Files.{IsWebm}
 use Rattle.webm_files.specs.Media.{IsFewKept}
@@ -12,6 +13,7 @@ use Rattle.webm_files.specs.Packets.{is_listed}
 use Rattle.webm_files.specs.Tracks.{numbers_of}
 use Rattle.webm_files.specs.Kept.{gap_between, gaps_before}
 use Rattle.webm_files.proofs.ClusterLemmas.{few_timeless}
+use Rattle.webm_files.proofs.LengthLemmas.{few_wrong}
 
 -- ---- gaps
 
@@ -57,4 +59,5 @@ few_kept bytes file is =
       blocks = subst (λ (found : List Block). length found ≤ 16777216) (sym is.contents.blocks) (omega (arith, fewer (is_listed numbers) blocks, all, is.few.elements));
       unlisted = subst (λ (found : List Block). length found ≤ 16777216) (sym is.contents.unlisted) (omega (arith, fewer (λ block. not (is_listed numbers block)) blocks, all, is.few.elements));
       timeless = omega (arith, ap (λ (found : List ℕ). length found) is.contents.timeless, few_timeless elements, is.few.elements);
+      lengths = omega (arith, ap (λ (found : List WrongLength). length found) is.contents.lengths, few_wrong bytes file.media.is_cut elements, is.few.elements);
     }

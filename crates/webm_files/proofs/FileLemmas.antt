@@ -15,6 +15,7 @@ use Rattle.webm_files.specs.Children.{field, number_or}
 use Rattle.webm_files.specs.Tracks.{IsHead, number_of, numbers_of}
 use Rattle.webm_files.specs.Kept.{gaps_of, parts_of, skipped}
 use Rattle.webm_files.specs.Clusters.{timeless_of}
+use Rattle.webm_files.specs.Lengths.{wrong_lengths}
 use Rattle.webm_files.specs.Packets.{HasCount, is_packet, listed_in, packets_in, unlisted_in}
 use Rattle.webm_files.specs.Files.{HasContents, IsFew, IsWebm, WebmRefuses, scale_of}
 use Rattle.webm_files.specs.Starts.{IsRead, IsStart}
@@ -94,6 +95,7 @@ some_webm file tracks entry head start few =
         gaps = gaps_of file walk;
         parts = parts_of walk.elements;
         timeless = timeless_of walk.elements;
+        lengths = wrong_lengths file (is_cut (drop walk.end file)) walk.elements;
         is_cut = is_cut (drop walk.end file);
       };
     } in (
@@ -113,6 +115,7 @@ some_webm file tracks entry head start few =
           gaps = refl;
           parts = refl;
           timeless = refl;
+          lengths = refl;
           cut = cut_is (drop walk.end file);
         };
       }),

@@ -5,6 +5,8 @@ pub mod ChildLemmas
 pub mod EntryLemmas
 pub mod SurveyLemmas
 pub mod ClusterLemmas
+pub mod LengthSteps
+pub mod LengthLemmas
 pub mod GapLemmas
 pub mod BlockLemmas
 pub mod FileLemmas

@@ -8,6 +8,7 @@ use Rattle.webm_files.specs.declared.files.Webm.{Webm}
 use Rattle.webm_files.specs.declared.files.WebmFault.{WebmFault}
 use Rattle.webm_files.specs.declared.files.WebmFault.TheVariants.{Header, DocType, NoTracks, NoVideo, Encoded, Scale, TooMany, NoMemory}
 use Rattle.webm_files.specs.Walks.{Walk, IsCut}
+use Rattle.webm_files.specs.Lengths.{wrong_lengths}
 use Rattle.webm_files.specs.Media.{Kept}
 use Rattle.webm_files.specs.Tracks.{IsHead, IsLowest, video_in}
 use Rattle.webm_files.specs.Files.{HasContents, HasDocType, HasHeader, HasScale, HasStream, HasTracks, HasVideo, IsFew, IsPlain, IsWebm, WebmRefuses, scale_of, tracks_of}
@@ -55,16 +56,17 @@ file_fields h h' p p' s s' m m' a b c d = cc
 
 -- what is kept, by its fields
 kept_fields : (one other : Kept) → one.video ≡ other.video → one.default_duration ≡ other.default_duration → one.numbers ≡ other.numbers → one.blocks ≡ other.blocks
-    → one.unlisted ≡ other.unlisted → one.gaps ≡ other.gaps → one.parts ≡ other.parts → one.timeless ≡ other.timeless → one.is_cut ≡ other.is_cut → one ≡ other
-kept_fields one other a b c d e f g i h =
+    → one.unlisted ≡ other.unlisted → one.gaps ≡ other.gaps → one.parts ≡ other.parts → one.timeless ≡ other.timeless → one.lengths ≡ other.lengths → one.is_cut ≡ other.is_cut → one ≡ other
+kept_fields one other a b c d e f g i j h =
     ap (λ v. record one { video = v }) a
     ∙ ap (λ v. record one { video = other.video; default_duration = v }) b
     ∙ ap (λ v. record one { video = other.video; default_duration = other.default_duration; numbers = v }) c
-    ∙ ap (λ v. record other { blocks = v; unlisted = one.unlisted; gaps = one.gaps; parts = one.parts; timeless = one.timeless; is_cut = one.is_cut }) d
-    ∙ ap (λ v. record other { unlisted = v; gaps = one.gaps; parts = one.parts; timeless = one.timeless; is_cut = one.is_cut }) e
-    ∙ ap (λ v. record other { gaps = v; parts = one.parts; timeless = one.timeless; is_cut = one.is_cut }) f
-    ∙ ap (λ v. record other { parts = v; timeless = one.timeless; is_cut = one.is_cut }) g
-    ∙ ap (λ v. record other { timeless = v; is_cut = one.is_cut }) i
+    ∙ ap (λ v. record other { blocks = v; unlisted = one.unlisted; gaps = one.gaps; parts = one.parts; timeless = one.timeless; lengths = one.lengths; is_cut = one.is_cut }) d
+    ∙ ap (λ v. record other { unlisted = v; gaps = one.gaps; parts = one.parts; timeless = one.timeless; lengths = one.lengths; is_cut = one.is_cut }) e
+    ∙ ap (λ v. record other { gaps = v; parts = one.parts; timeless = one.timeless; lengths = one.lengths; is_cut = one.is_cut }) f
+    ∙ ap (λ v. record other { parts = v; timeless = one.timeless; lengths = one.lengths; is_cut = one.is_cut }) g
+    ∙ ap (λ v. record other { timeless = v; lengths = one.lengths; is_cut = one.is_cut }) i
+    ∙ ap (λ v. record other { lengths = v; is_cut = one.is_cut }) j
     ∙ ap (λ v. record other { is_cut = v }) h
 
 kept_one : (file : List ℕ) (walk : Walk) (tracks entry : List ℕ) (one other : Webm) → HasContents file walk tracks entry one → HasContents file walk tracks entry other → one.media ≡ other.media
@@ -78,7 +80,8 @@ kept_one file walk tracks entry one other a b =
     let parts : one.media.parts ≡ other.media.parts = a.parts ∙ sym b.parts in
     let timeless : one.media.timeless ≡ other.media.timeless = a.timeless ∙ sym b.timeless in
     let cut : one.media.is_cut ≡ other.media.is_cut = test_one (IsCut (drop walk.end file)) one.media.is_cut other.media.is_cut a.cut b.cut in
-    kept_fields one.media other.media video duration numbers blocks unlisted gaps parts timeless cut
+    let lengths : one.media.lengths ≡ other.media.lengths = a.lengths ∙ ap (λ (is : Bool). wrong_lengths file is walk.elements) cut ∙ sym b.lengths in
+    kept_fields one.media other.media video duration numbers blocks unlisted gaps parts timeless lengths cut
 
 pub one_file : (file : List ℕ) (one other : Webm) → IsWebm file one → IsWebm file other → one ≡ other
 one_file file one other a b =

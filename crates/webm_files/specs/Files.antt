@@ -14,6 +14,7 @@ use Rattle.webm_files.specs.Children.{field, number_or}
 use Rattle.webm_files.specs.Tracks.{IsHead, codec_in, entries_of, number_of, numbers_of, video_in}
 use Rattle.webm_files.specs.Kept.{gaps_of, parts_of, skipped}
 use Rattle.webm_files.specs.Clusters.{timeless_of}
+use Rattle.webm_files.specs.Lengths.{wrong_lengths}
 use Rattle.webm_files.specs.Packets.{is_packet, listed_in, packets_in, unlisted_in}
 
 -- the error's name
@@ -103,6 +104,7 @@ pub record HasContents (bytes : List ℕ) (walk : Walk) (tracks entry : List ℕ
   pub gaps : file.media.gaps ≡ gaps_of bytes walk
   pub parts : file.media.parts ≡ parts_of walk.elements
   pub timeless : file.media.timeless ≡ timeless_of walk.elements
+  pub lengths : file.media.lengths ≡ wrong_lengths bytes file.media.is_cut walk.elements
   pub cut : IsTrue file.media.is_cut ↔ IsCut (drop walk.end bytes)
 
 -- the bytes are the text of a file with this stream, and this is kept of it

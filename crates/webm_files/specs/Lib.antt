@@ -6,6 +6,7 @@ pub mod Tracks
 pub mod Surveys
 pub mod Kept
 pub mod Clusters
+pub mod Lengths
 pub mod Gaps
 pub mod Packets
 pub mod Media

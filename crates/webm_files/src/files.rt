@@ -11,6 +11,7 @@ use super::children::{field, number_or};
 use super::elements::{Element, element_at};
 use super::gaps::read_gaps;
 use super::ids::{DEFAULT_DURATION, DOC_TYPE, EBML, ENCODINGS, TIMESTAMP_SCALE};
+use super::lengths::read_lengths;
 use super::media::Media;
 use super::packets::{count_packets, read_blocks};
 use super::surveys::read_survey;
@@ -183,6 +184,7 @@ fn read_contents<B: FileBytes>(
     let video = number_of(entry);
     let blocks = read_blocks(alloc, file, numbers.as_slice(), video, count)?;
     let gaps = read_gaps(alloc, file.whole())?;
+    let lengths = read_lengths(alloc, file.whole(), gaps.is_cut)?;
     Ok(Webm {
         head,
         packets: blocks.packets,
@@ -196,6 +198,7 @@ fn read_contents<B: FileBytes>(
             gaps: gaps.gaps,
             parts: gaps.parts,
             timeless: gaps.timeless,
+            lengths,
             is_cut: gaps.is_cut,
         },
     })

@@ -29,6 +29,11 @@ pub const BLOCK_GROUP: u64 = 0xA0;
 /// A block in a group.
 pub const BLOCK: u64 = 0xA1;
 
+/// Bytes without a meaning, anywhere.
+pub const VOID: u64 = 0xEC;
+/// A checksum of the element that it is in.
+pub const CRC_32: u64 = 0xBF;
+
 /// The kind of file, in the head of the file.
 pub const DOC_TYPE: u64 = 0x4282;
 /// The unit of time in nanoseconds, in Info.
@@ -73,9 +78,8 @@ pub const KNOWN: [u64; 30] = [
     0x1C53_BB6B,
     ATTACHMENTS,
     TAGS,
-    // Void and CRC-32
-    0xEC,
-    0xBF,
+    VOID,
+    CRC_32,
     // of a cluster: SilentTracks, Position, PrevSize, EncryptedBlock
     0x5854,
     0xA7,

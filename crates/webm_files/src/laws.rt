@@ -1,13 +1,17 @@
 //! Laws of what is read. A law is a function that does nothing: its contract is the law.
-ghost use Rattle.std.specs.Prelude.{◌≡◌, ℕ, ◌^◌, ◌<◌, List, [], ◌∷◌, false};
+ghost use Rattle.std.specs.Prelude.{◌≡◌, ℕ, ◌^◌, ◌<◌, List, [], ◌∷◌, false, true};
 ghost use Rattle.webm_files.specs.Blocks.{AreBlocks};
 ghost use Rattle.stream_files.specs.Ivf.{IsIvf};
 ghost use Rattle.stream_files.specs.declared.streams.Stream.{Stream};
 ghost use Rattle.webm_files.specs.Children.{HasChild, after_child, children, first_child};
+ghost use Rattle.webm_files.specs.Clusters.{timeless_of};
+ghost use Rattle.webm_files.specs.Elements.{is_block};
 ghost use Rattle.webm_files.specs.Files.{HasHeader, IsWebm, WebmRefuses, is_marked};
 ghost use Rattle.webm_files.specs.Media.{IsFewKept};
 ghost use Rattle.webm_files.specs.Packets.{packets_in};
 ghost use Rattle.webm_files.specs.declared.blocks.Block.{Block};
+ghost use Rattle.webm_files.specs.declared.elements.Element.{Element};
+ghost use Rattle.webm_files.specs.declared.ids.TheConstants.{CLUSTER, TIMESTAMP};
 ghost use Rattle.webm_files.specs.declared.files.Webm.{Webm};
 ghost use Rattle.webm_files.specs.declared.files.WebmFault.{WebmFault};
 ghost use Rattle.webm_files.specs.Texts.{Frame, FramesFit, all_placed, cluster_text};
@@ -27,9 +31,15 @@ pub fn packets_are_kept()
     ensures { (bytes : List ℕ) (file : Webm) → IsWebm bytes file → file.packets ≡ packets_in bytes file.media.video file.media.blocks }
 {}
 
-/// A file with few elements has few gaps and blocks.
+/// A file with few elements has few gaps, blocks, clusters without a time and wrong lengths.
 pub fn kept_are_few()
     ensures { (bytes : List ℕ) (file : Webm) → IsWebm bytes file → IsFewKept file.media }
+{}
+
+/// A cluster that begins with a block has no time; one that begins with its time has one.
+pub fn timeless_are()
+    ensures late { (cluster block : Element) (elements : List Element) → cluster.id ≡ CLUSTER → is_block block.id ≡ true → timeless_of (cluster ∷ block ∷ elements) ≡ cluster.place ∷ timeless_of (block ∷ elements) }
+    ensures timed { (cluster time : Element) (elements : List Element) → cluster.id ≡ CLUSTER → time.id ≡ TIMESTAMP → timeless_of (cluster ∷ time ∷ elements) ≡ timeless_of (time ∷ elements) }
 {}
 
 /// Bytes are the text of at most one file.

@@ -9,6 +9,7 @@ mod gaps;
 mod heads;
 mod ids;
 pub mod laws;
+mod lengths;
 mod media;
 mod numbers;
 mod packets;
@@ -23,6 +24,8 @@ pub use files::{
     MAX_ELEMENTS, MAX_TRACKS, Webm, WebmFault, codec_there, is_marked, webm_read_from, webm_share,
 };
 pub use gaps::Gap;
+pub use ids::{CLUSTER, SEGMENT};
+pub use lengths::WrongLength;
 pub use media::Media;
 pub use packets::{is_listed, is_packet};
 pub use rates::frame_rate;

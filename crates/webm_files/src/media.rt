@@ -5,6 +5,7 @@ ghost use Rattle.webm_files.specs.Packets.{places_in};
 use super::blocks::Block;
 use super::elements::Element;
 use super::gaps::Gap;
+use super::lengths::WrongLength;
 use super::packets::is_packet;
 use std::alloc::{AllocError, Global};
 use std::marker::Model;
@@ -34,6 +35,7 @@ pub struct Media {
     pub(crate) gaps: Vec<Gap>,
     pub(crate) parts: Vec<Element>,
     pub(crate) timeless: Vec<usize>,
+    pub(crate) lengths: Vec<WrongLength>,
     pub(crate) is_cut: bool,
 }
 
@@ -51,6 +53,7 @@ impl Model for Media {
       gaps = m.gaps.items;
       parts = m.parts.items;
       timeless = m.timeless.items;
+      lengths = m.lengths.items;
       is_cut = m.is_cut;
     } };
 }
@@ -117,6 +120,14 @@ impl Media {
         ensures { result.now ≡ self.now.timeless }
     {
         self.timeless.as_slice()
+    }
+
+    /// The lengths of Segments and of Clusters that are wrong. Of a file whose end cuts an element, those that reach its end are not
+    /// among them.
+    pub fn lengths(&self) -> &[WrongLength]
+        ensures { result.now ≡ self.now.lengths }
+    {
+        self.lengths.as_slice()
     }
 
     /// Whether the end of the file cuts an element.
