@@ -10,6 +10,7 @@ mod help;
 mod in_line;
 mod inputs;
 mod messages;
+mod stack;
 mod webm_faults;
 
 pub use arguments::{VERSION, flag, given};
@@ -20,4 +21,5 @@ pub use help::help_or_mistake;
 pub use in_line::InLine;
 pub use inputs::{NO_FILE, NamedFiles, read_file, read_input, read_tables};
 pub use messages::{MessageWriter, control_length, plain_length};
+pub use stack::touch_stack;
 pub use webm_faults::write_webm_fault;

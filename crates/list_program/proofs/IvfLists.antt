@@ -35,7 +35,8 @@ ivf_lines bytes output output' not listed =
     let begins = header_length bytes in
     let at : listed.places ≡ Records begins = in_records bytes listed.places (subst (λ (media : Option Kept). ArePlaces bytes media listed.places) is.1 listed.are) in
     let written = subst (λ (places : Places). Appends output output' (listed_text Lines places packets)) at listed.listed in
-    (listed.source.stream, is.0, subst (λ (facts : List Facts). Appends output output' (head_line ++ flat_map line_of facts)) (all_in_records begins (facts_in begins packets)) written)
+    let lines = subst (λ (facts : List Facts). Appends output output' (head_line ++ flat_map line_of facts)) (all_in_records begins (facts_in begins packets)) written in
+    (is.0.0, is.0.1, subst (λ (own : List Packet). Appends output output' (head_line ++ flat_map line_of (facts_in begins own))) is.0.2.packets lines)
 
 pub ivf_objects : (bytes : List ℕ) (output output' : Option (List ℕ)) → is_marked bytes ≡ false → IsListed Objects bytes output output'
     → (file : Stream) × IsIvf bytes file × Appends output output' (flat_map object_of (facts_in (header_length bytes) file.packets))
@@ -45,4 +46,5 @@ ivf_objects bytes output output' not listed =
     let begins = header_length bytes in
     let at : listed.places ≡ Records begins = in_records bytes listed.places (subst (λ (media : Option Kept). ArePlaces bytes media listed.places) is.1 listed.are) in
     let written = subst (λ (places : Places). Appends output output' (listed_text Objects places packets)) at listed.listed in
-    (listed.source.stream, is.0, subst (λ (facts : List Facts). Appends output output' (flat_map object_of facts)) (all_in_records begins (facts_in begins packets)) written)
+    let objects = subst (λ (facts : List Facts). Appends output output' (flat_map object_of facts)) (all_in_records begins (facts_in begins packets)) written in
+    (is.0.0, is.0.1, subst (λ (own : List Packet). Appends output output' (flat_map object_of (facts_in begins own))) is.0.2.packets objects)

@@ -11,7 +11,7 @@ use Rattle.stream_files.specs.Ivf.{HasFields, HasMagic, HasFourCc, HasLength, Ha
 use Rattle.stream_files.specs.Streams.{rate_of}
 use Rattle.stream_files.proofs.Walks.{records-longest, records-one}
 
-same_file : (h h' : Head) (f f' : FrameRate) (p p' : List Packet) (s s' : ℕ) → h ≡ h' → f ≡ f' → p ≡ p' → s ≡ s'
+pub same_file : (h h' : Head) (f f' : FrameRate) (p p' : List Packet) (s s' : ℕ) → h ≡ h' → f ≡ f' → p ≡ p' → s ≡ s'
     → (let file : Stream = record { head = h; frame_rate = f; packets = p; spare = s } in let other : Stream = record { head = h'; frame_rate = f'; packets = p'; spare = s' } in file ≡ other)
 same_file h h' f f' p p' s s' a r b c = cc
 

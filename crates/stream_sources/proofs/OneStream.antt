@@ -24,15 +24,33 @@ use Rattle.stream_sources.specs.declared.faults.StreamFault.{StreamFault}
 use Rattle.stream_sources.specs.declared.faults.StreamFault.TheVariants.{NoMemory}
 use Rattle.stream_sources.specs.Faults.{RefusedBy, StreamRefuses, of_ivf, of_webm}
 use Rattle.stream_sources.specs.declared.sources.Source.{Source}
-use Rattle.stream_sources.specs.Sources.{IsIvfSource, IsSource, IsSourceBy, IsStream, IsStreamBy}
+use Rattle.stream_sources.specs.Sources.{IsIvfSource, IsIvfStream, IsPlausible, IsRated, IsSource, IsSourceBy, IsStream, IsStreamBy}
 
 -- ---- IVF files
 
-pub ivf_is_stream : (bytes : List ℕ) (file : Stream) → IsIvf bytes file → IsStream bytes file
-ivf_is_stream bytes file is = subst (λ (marked : Bool). IsStreamBy marked bytes file) (sym (not_marked bytes file is)) is
+pub ivf_is_stream : (bytes : List ℕ) (file stream : Stream) → IsIvf bytes file → IsRated file stream → IsStream bytes stream
+ivf_is_stream bytes file stream is rated = subst (λ (marked : Bool). IsStreamBy marked bytes stream) (sym (not_marked bytes file is)) (file, is, rated)
 
-pub stream_is_ivf : (bytes : List ℕ) (file : Stream) → is_marked bytes ≡ false → IsStream bytes file ↔ IsIvf bytes file
-stream_is_ivf bytes file not = (λ is. subst (λ (marked : Bool). IsStreamBy marked bytes file) not is, λ is. subst (λ (marked : Bool). IsStreamBy marked bytes file) (sym not) is)
+-- with a time base that can be a frame rate it is read as it is
+rated_as_it_is : (bytes : List ℕ) (file : Stream) → IsIvf bytes file → IsPlausible file.head → IsRated file file
+rated_as_it_is bytes file is plausible = record { head = refl; packets = refl; spare = refl; frame_rate = record { by_base = λ p. is.frame_rate; by_step = λ not. absurd (not plausible) } }
+
+pub plausible_is_stream : (bytes : List ℕ) (file : Stream) → IsIvf bytes file → IsPlausible file.head → IsStream bytes file
+plausible_is_stream bytes file is plausible = ivf_is_stream bytes file file is (rated_as_it_is bytes file is plausible)
+
+pub stream_is_ivf : (bytes : List ℕ) (stream : Stream) → is_marked bytes ≡ false → IsStream bytes stream ↔ IsIvfStream bytes stream
+stream_is_ivf bytes stream not = (λ is. subst (λ (marked : Bool). IsStreamBy marked bytes stream) not is, λ is. subst (λ (marked : Bool). IsStreamBy marked bytes stream) (sym not) is)
+
+-- the same stream, if its frame rate is the same
+same_rate : (file stream : Stream) → IsRated file stream → stream.frame_rate ≡ file.frame_rate → file ≡ stream
+same_rate file stream rated same =
+    ivf_answers.same_file file.head stream.head file.frame_rate stream.frame_rate file.packets stream.packets file.spare stream.spare (sym rated.head) (sym same) (sym rated.packets) (sym rated.spare)
+
+pub plausible_is_ivf : (bytes : List ℕ) (stream : Stream) → is_marked bytes ≡ false → IsStream bytes stream → IsPlausible stream.head → IsIvf bytes stream
+plausible_is_ivf bytes stream not is plausible =
+    let found = (stream_is_ivf bytes stream not).0 is in
+    let of_file : IsPlausible found.0.head = subst IsPlausible found.2.head plausible in
+    subst (IsIvf bytes) (same_rate found.0 stream found.2 (found.2.frame_rate.by_base of_file ∙ sym found.1.frame_rate)) found.1
 
 pub refused_as_ivf : (bytes : List ℕ) (fault : IvfFault) → is_marked bytes ≡ false → IvfRefuses bytes fault → StreamRefuses bytes (of_ivf fault)
 refused_as_ivf bytes fault not refuses = subst (λ (marked : Bool). RefusedBy marked bytes (of_ivf fault)) (sym not) (fault, refl, refuses)
@@ -46,16 +64,16 @@ stream_by false bytes source is = is.0
 pub source_is_stream : (bytes : List ℕ) (source : Source) → IsSource bytes source → IsStream bytes source.stream
 source_is_stream bytes source is = stream_by (is_marked bytes) bytes source is
 
-ivf_by : (marked : Bool) (bytes : List ℕ) (source : Source) → IsSourceBy marked bytes source → source.media ≡ None → IsIvf bytes source.stream
+ivf_by : (marked : Bool) (bytes : List ℕ) (source : Source) → IsSourceBy marked bytes source → source.media ≡ None → IsIvfStream bytes source.stream
 ivf_by true bytes source is none = cc
 ivf_by false bytes source is none = is.0
 
-pub source_is_ivf : (bytes : List ℕ) (source : Source) → IsSource bytes source → source.media ≡ None → IsIvf bytes source.stream
+pub source_is_ivf : (bytes : List ℕ) (source : Source) → IsSource bytes source → source.media ≡ None → IsIvfStream bytes source.stream
 source_is_ivf bytes source is none = ivf_by (is_marked bytes) bytes source is none
 
 -- and they have a header of 32 bytes
 pub ivf_has_fields : (bytes : List ℕ) (source : Source) → IsSource bytes source → source.media ≡ None → 32 ≤ length bytes
-ivf_has_fields bytes source is none = (source_is_ivf bytes source is none).header.0
+ivf_has_fields bytes source is none = (source_is_ivf bytes source is none).1.header.0
 
 pub other_source_is_ivf : (bytes : List ℕ) (source : Source) → is_marked bytes ≡ false → IsSource bytes source ↔ IsIvfSource bytes source
 other_source_is_ivf bytes source not = (λ is. subst (λ (marked : Bool). IsSourceBy marked bytes source) not is, λ is. subst (λ (marked : Bool). IsSourceBy marked bytes source) (sym not) is)
@@ -66,7 +84,7 @@ few_by : (marked : Bool) (bytes : List ℕ) (stream : Stream) → IsStreamBy mar
 few_by true bytes stream is =
     let few : length (filter (is_packet (number_of is.1.entry)) (blocks_of bytes is.1.walk.elements)) ≤ 1048576 = is.1.few.packets in
     subst (λ (n : ℕ). n ≤ 1048576) (sym (ap length (is.2.packets ∙ is.1.contents.packets) ∙ length-map (filter (is_packet (number_of is.1.entry)) (blocks_of bytes is.1.walk.elements)) (packet_of bytes))) few
-few_by false bytes stream is = is.few
+few_by false bytes stream is = subst (λ (packets : List Packet). length packets ≤ 1048576) (sym is.2.packets) is.1.few
 
 pub few : (bytes : List ℕ) (stream : Stream) → IsStream bytes stream → length stream.packets ≤ 1048576
 few bytes stream is = few_by (is_marked bytes) bytes stream is
@@ -91,8 +109,8 @@ agree_by true bytes stream other a b =
     let same : a.0 ≡ b.0 = one_file bytes a.0 b.0 a.1 b.1 in
     (a.2.head ∙ ap (λ (file : Webm). file.head) same ∙ sym b.2.head, a.2.packets ∙ ap (λ (file : Webm). file.packets) same ∙ sym b.2.packets, a.2.spare ∙ ap (λ (file : Webm). file.spare) same ∙ sym b.2.spare)
 agree_by false bytes stream other a b =
-    let same : stream ≡ other = ivf_answers.one_file bytes stream other a b in
-    (ap (λ (file : Stream). file.head) same, ap (λ (file : Stream). file.packets) same, ap (λ (file : Stream). file.spare) same)
+    let same : a.0 ≡ b.0 = ivf_answers.one_file bytes a.0 b.0 a.1 b.1 in
+    (a.2.head ∙ ap (λ (file : Stream). file.head) same ∙ sym b.2.head, a.2.packets ∙ ap (λ (file : Stream). file.packets) same ∙ sym b.2.packets, a.2.spare ∙ ap (λ (file : Stream). file.spare) same ∙ sym b.2.spare)
 
 pub agree : (bytes : List ℕ) (stream other : Stream) → IsStream bytes stream → IsStream bytes other → (stream.head ≡ other.head) × (stream.packets ≡ other.packets) × (stream.spare ≡ other.spare)
 agree bytes stream other a b = agree_by (is_marked bytes) bytes stream other a b
@@ -108,7 +126,7 @@ one_stream_fault bytes fault other a b = one_by (is_marked bytes) bytes fault ot
 
 no_memory_by : (marked : Bool) (bytes : List ℕ) (stream : Stream) → IsStreamBy marked bytes stream → RefusedBy marked bytes NoMemory
 no_memory_by true bytes stream is = (webm.NoMemory, refl, (is.0, is.1))
-no_memory_by false bytes stream is = (ivf.NoMemory, refl, (stream, is))
+no_memory_by false bytes stream is = (ivf.NoMemory, refl, (is.0, is.1))
 
 -- a stream can be refused as out of memory
 pub no_memory : (bytes : List ℕ) (stream : Stream) → IsStream bytes stream → StreamRefuses bytes NoMemory

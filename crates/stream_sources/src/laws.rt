@@ -7,18 +7,21 @@ ghost use Rattle.std.specs.Option.{ForSome};
 ghost use Rattle.webm_files.specs.Files.{is_marked};
 ghost use Rattle.webm_files.specs.Media.{IsFewKept};
 ghost use Rattle.stream_sources.specs.Faults.{StreamRefuses, of_ivf};
-ghost use Rattle.stream_sources.specs.Sources.{IsIvfSource, IsSource, IsStream};
+ghost use Rattle.stream_sources.specs.Sources.{IsIvfSource, IsIvfStream, IsPlausible, IsRated, IsSource, IsStream};
 ghost use Rattle.stream_sources.specs.declared.faults.StreamFault.{StreamFault};
 ghost use Rattle.stream_sources.specs.declared.sources.Source.{Source};
 
-/// An IVF file is read as such: it does not begin with EBML's mark.
+/// An IVF file is read as such: it does not begin with EBML's mark. If its time base can be a frame rate, it is read as it is.
 pub fn ivf_files_are_streams()
-    ensures { (bytes : List ℕ) (file : Stream) → IsIvf bytes file → IsStream bytes file }
+    ensures rated { (bytes : List ℕ) (file stream : Stream) → IsIvf bytes file → IsRated file stream → IsStream bytes stream }
+    ensures plausible { (bytes : List ℕ) (file : Stream) → IsIvf bytes file → IsPlausible file.head → IsStream bytes file }
 {}
 
-/// Bytes that do not begin with EBML's mark are a stream exactly if they are an IVF file, and are refused as one.
+/// Bytes that do not begin with EBML's mark are a stream exactly if they are an IVF file of it, and are refused as one. Only its frame rate can be
+/// another than that of its head, if the time base cannot be a frame rate.
 pub fn other_bytes_are_ivf()
-    ensures read { (bytes : List ℕ) (file : Stream) → is_marked bytes ≡ false → IsStream bytes file ↔ IsIvf bytes file }
+    ensures read { (bytes : List ℕ) (stream : Stream) → is_marked bytes ≡ false → IsStream bytes stream ↔ IsIvfStream bytes stream }
+    ensures plausible { (bytes : List ℕ) (stream : Stream) → is_marked bytes ≡ false → IsStream bytes stream → IsPlausible stream.head → IsIvf bytes stream }
     ensures refused { (bytes : List ℕ) (fault : IvfFault) → is_marked bytes ≡ false → IvfRefuses bytes fault → StreamRefuses bytes (of_ivf fault) }
 {}
 
@@ -26,7 +29,7 @@ pub fn other_bytes_are_ivf()
 /// mark are a source exactly if they are an IVF file.
 pub fn sources_are_streams()
     ensures stream { (bytes : List ℕ) (source : Source) → IsSource bytes source → IsStream bytes source.stream }
-    ensures ivf { (bytes : List ℕ) (source : Source) → IsSource bytes source → source.media ≡ None → IsIvf bytes source.stream }
+    ensures ivf { (bytes : List ℕ) (source : Source) → IsSource bytes source → source.media ≡ None → IsIvfStream bytes source.stream }
     ensures others { (bytes : List ℕ) (source : Source) → is_marked bytes ≡ false → IsSource bytes source ↔ IsIvfSource bytes source }
 {}
 

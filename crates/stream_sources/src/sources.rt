@@ -1,8 +1,8 @@
 // Reads the files of sources.
-ghost use Rattle.std.specs.Prelude.{◌≡◌, IfOk, IfErr, Some, false, true};
+ghost use Rattle.std.specs.Prelude.{◌≡◌, ◌↔◌, IfOk, IfErr, IsTrue, None, Some, false, true};
 ghost use Rattle.std.specs.Rc.{rc_slice_items};
 ghost use Rattle.webm_files.specs.Files.{is_marked};
-ghost use Rattle.stream_sources.specs.Sources.{IsIvfSource, IsVideo, IsWebmSource, SourceAnswers, StreamAnswers};
+ghost use Rattle.stream_sources.specs.Sources.{IsIvfRate, IsIvfSource, IsPlausible, IsRated, IsVideo, IsWebmSource, SourceAnswers, StreamAnswers};
 ghost use Rattle.stream_sources.specs.Faults.{RefusedAsIvf, RefusedAsWebm};
 
 use crate::faults::StreamFault;
@@ -10,8 +10,11 @@ use packet_times::median_step;
 use pixel_planes::NoMemory;
 use std::alloc::Global;
 use std::rc::RcSlice;
-use stream_files::{FileBytes, Stream, ivf_read_from};
+use stream_files::{FileBytes, FrameRate, Head, Packet, Stream, ivf_read_from};
 use webm_files::{Media, Webm, frame_rate, is_marked, webm_read_from};
+
+/// The most units per second of a time base that is taken for a frame rate.
+pub const MAX_FRAME_RATE: u64 = 240;
 
 /// A stream, and what is kept of its file if that is a WebM or Matroska file.
 #[derive(Debug, Drop)]
@@ -59,17 +62,59 @@ fn read_webm<B: FileBytes>(alloc: Global, file: &B) -> Result<Source, StreamFaul
     }
 }
 
+/// Whether the time base of an IVF file can be its frame rate.
+fn is_plausible(head: &Head) -> bool
+    ensures { IsTrue result ↔ IsPlausible head.now }
+{
+    u64::from(head.rate) <= MAX_FRAME_RATE * u64::from(head.scale)
+}
+
+/// The frame rate of an IVF file: its time base if that can be one, or else that of the median step between the time stamps of shown packets.
+fn ivf_rate(alloc: Global, head: &Head, packets: &[Packet]) -> Result<FrameRate, NoMemory>
+    ensures { IfOk result (IsIvfRate head.now packets.now) }
+{
+    if is_plausible(head) {
+        return Ok(head.frame_rate());
+    }
+    let step = median_step(alloc, packets)?;
+    Ok(frame_rate(head, 0, step))
+}
+
+/// An IVF file as a stream, with the rate of its frames.
+fn rated(alloc: Global, file: Stream) -> Result<Source, NoMemory>
+    ensures rated { IfOk result (λ source. IsRated file source.stream) }
+    ensures media { IfOk result (λ source. source.media ≡ None) }
+{
+    let Stream {
+        head,
+        frame_rate: _,
+        packets,
+        spare,
+    } = file;
+    let frame_rate = ivf_rate(alloc, &head, packets.as_slice())?;
+    Ok(Source {
+        stream: Stream {
+            head,
+            frame_rate,
+            packets,
+            spare,
+        },
+        media: None,
+    })
+}
+
 /// Reads an IVF file.
 fn read_ivf<B: FileBytes>(alloc: Global, file: &B) -> Result<Source, StreamFault>
     ensures read { IfOk result (IsIvfSource (B.bytes file.now)) }
     ensures refused { IfErr result (RefusedAsIvf (B.bytes file.now)) }
 {
-    match ivf_read_from(alloc, file) {
-        Ok(stream) => Ok(Source {
-            stream,
-            media: None,
-        }),
-        Err(fault) => Err(StreamFault::of_ivf(fault)),
+    let stream = match ivf_read_from(alloc, file) {
+        Ok(stream) => stream,
+        Err(fault) => return Err(StreamFault::of_ivf(fault)),
+    };
+    match rated(alloc, stream) {
+        Ok(source) => Ok(source),
+        Err(_) => Err(StreamFault::NoMemory),
     }
 }
 

@@ -1,7 +1,7 @@
 //! Lists the packets of a VP8 stream: an IVF file in, a line a packet out.
 #![tactic(auto)]
 
-use command_lines::{MessageWriter, exit_status, given};
+use command_lines::{MessageWriter, exit_status, given, touch_stack};
 use list_program::{BYTES_AT_ONCE, Fault, ProgressLine, answer};
 use std::io::{BufWriter, Write};
 use std::process::ExitCode;
@@ -24,6 +24,7 @@ fn start<E: Write>(rt: &HostRuntime, errors: &mut E) -> Result<u8, Fault<'static
 }
 
 fn main(rt: HostRuntime) -> ExitCode {
+    touch_stack(&rt);
     let mut errors = MessageWriter::new(rt.stderr());
     let ended = start(&rt, &mut errors);
     ExitCode::from(exit_status(ended, &mut errors))

@@ -2,7 +2,7 @@
 //! replies out.
 #![tactic(auto)]
 
-use command_lines::{MessageWriter, exit_status, given};
+use command_lines::{MessageWriter, exit_status, given, touch_stack};
 use serve_program::{Fault, name_explain, name_help, parse, serve};
 use std::fs::File;
 use std::io::{BufWriter, IsTerminal, Write};
@@ -46,6 +46,7 @@ fn start<E: Write>(
 }
 
 fn main(rt: HostRuntime) -> ExitCode {
+    touch_stack(&rt);
     let _standard = (standard_file(&rt), standard_file(&rt), standard_file(&rt));
     let is_terminal = rt.stderr().is_terminal();
     let mut errors = MessageWriter::new(rt.stderr());
