@@ -108,8 +108,11 @@ abbrev pub says_text : ℕ → List ℕ
 says_text says = codes "its length says that it ends at byte " ++ decimal says
 
 -- an element in it ends after that, or it ends before that
+abbrev pub what_text : Bool → List ℕ
+what_text is_within = if is_within then codes ", and an element in it" else codes ", and it"
+
 abbrev pub ends_text : Bool → ℕ → List ℕ
-ends_text is_within ends = (if is_within then codes ", and an element in it" else codes ", and it") ++ codes " ends at byte " ++ decimal ends
+ends_text is_within ends = what_text is_within ++ codes " ends at byte " ++ decimal ends
 
 abbrev pub wrong_length_text : Bool → ℕ → ℕ → ℕ → List ℕ
 wrong_length_text is_cluster begins says ends = length_start is_cluster begins ++ says_text says ++ ends_text (nat_lt says ends) ends

@@ -98,11 +98,7 @@ fn write_gaps<W: Write>(
 }
 
 /// Writes the findings at clusters without a time, and returns their tally.
-fn write_clusters<W: Write>(
-    w: &mut W,
-    form: Form,
-    places: &[usize],
-) -> Result<Tally, WriteFault>
+fn write_clusters<W: Write>(w: &mut W, form: Form, places: &[usize]) -> Result<Tally, WriteFault>
     requires { length places.now ≤ 16777216 }
     ensures written { OnOk result (Appends (W.contents w.old) (W.contents w.new) (texts_of form (cluster_findings places.now))) }
     ensures counted { IfOk result (λ tally. tally ≡ tally_of (cluster_findings places.now)) }
@@ -183,5 +179,10 @@ pub(crate) fn write_media<W: Write>(
     let lengths = write_lengths(w, form, media.lengths())?;
     let listed = write_blocks(w, form, video, numbers, media.blocks())?;
     let unlisted = write_blocks(w, form, video, numbers, media.unlisted())?;
-    Ok(gaps.plus(clusters).plus(lengths).plus(listed).plus(unlisted))
+    Ok(
+        gaps.plus(clusters)
+            .plus(lengths)
+            .plus(listed)
+            .plus(unlisted),
+    )
 }

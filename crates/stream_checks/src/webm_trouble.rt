@@ -2,7 +2,7 @@
 
 ghost use Rattle.std.specs.Prelude.{◌≡◌, OnOk};
 ghost use Rattle.std.specs.Io.KnownBytes.{Appends};
-ghost use Rattle.stream_checks.specs.Lines.{block_start, cut_element_text, ends_text, laced_text, length_start, no_time_text, says_text, skipped_text, track_text, unlisted_text, webm_text, wrong_length_text};
+ghost use Rattle.stream_checks.specs.Lines.{block_start, cut_element_text, ends_text, laced_text, length_start, no_time_text, says_text, skipped_text, track_text, unlisted_text, webm_text, what_text, wrong_length_text};
 ghost use Rattle.stream_checks.specs.Severity.{is_webm_damage};
 
 use std::io::Write;
@@ -13,11 +13,19 @@ use stream_files::WriteFault;
 #[derive(Clone, Copy, Debug)]
 pub enum WebmTrouble {
     /// The end of the file cuts an element, and so many of its bytes are there.
-    CutElement { begins: usize, left: usize },
+    CutElement {
+        begins: usize,
+        left: usize,
+    },
     /// So many bytes are read as no element.
-    Skipped { begins: usize, bytes: usize },
+    Skipped {
+        begins: usize,
+        bytes: usize,
+    },
     /// Of a cluster a block comes before its time, so the block has that of the cluster before.
-    NoTime { begins: usize },
+    NoTime {
+        begins: usize,
+    },
     /// By the length of a cluster or Segment it ends at byte `says`; an element in it ends at a later byte `ends`, or the next one that
     /// is not in it, or the end of the file, is at an earlier byte `ends`.
     WrongLength {
@@ -27,9 +35,14 @@ pub enum WebmTrouble {
         ends: usize,
     },
     /// A block has several packets of the video.
-    LacedBlock { begins: usize },
+    LacedBlock {
+        begins: usize,
+    },
     /// A block is of a track that the file does not list.
-    UnlistedBlock { begins: usize, track: u64 },
+    UnlistedBlock {
+        begins: usize,
+        track: u64,
+    },
 }
 
 impl WebmTrouble {
@@ -88,10 +101,20 @@ fn write_says<W: Write>(w: &mut W, says: usize) -> Result<(), WriteFault>
     write!(w, "its length says that it ends at byte {says}").map_err(|_| WriteFault::Write)
 }
 
+fn write_what<W: Write>(w: &mut W, is_within: bool) -> Result<(), WriteFault>
+    ensures { OnOk result (Appends (W.contents w.old) (W.contents w.new) (what_text is_within)) }
+{
+    if is_within {
+        write_text(w, ", and an element in it")
+    } else {
+        write_text(w, ", and it")
+    }
+}
+
 fn write_ends<W: Write>(w: &mut W, is_within: bool, ends: usize) -> Result<(), WriteFault>
     ensures { OnOk result (Appends (W.contents w.old) (W.contents w.new) (ends_text is_within ends)) }
 {
-    write_text(w, if is_within { ", and an element in it" } else { ", and it" })?;
+    write_what(w, is_within)?;
     write!(w, " ends at byte {ends}").map_err(|_| WriteFault::Write)
 }
 
