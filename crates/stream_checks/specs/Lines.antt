@@ -111,8 +111,11 @@ says_text says = codes "its length says that it ends at byte " ++ decimal says
 abbrev pub what_text : Bool → List ℕ
 what_text is_within = if is_within then codes ", and an element in it" else codes ", and it"
 
+abbrev pub end_text : ℕ → List ℕ
+end_text ends = codes " ends at byte " ++ decimal ends
+
 abbrev pub ends_text : Bool → ℕ → List ℕ
-ends_text is_within ends = what_text is_within ++ codes " ends at byte " ++ decimal ends
+ends_text is_within ends = what_text is_within ++ end_text ends
 
 abbrev pub wrong_length_text : Bool → ℕ → ℕ → ℕ → List ℕ
 wrong_length_text is_cluster begins says ends = length_start is_cluster begins ++ says_text says ++ ends_text (nat_lt says ends) ends

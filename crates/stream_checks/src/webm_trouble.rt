@@ -2,7 +2,7 @@
 
 ghost use Rattle.std.specs.Prelude.{◌≡◌, OnOk};
 ghost use Rattle.std.specs.Io.KnownBytes.{Appends};
-ghost use Rattle.stream_checks.specs.Lines.{block_start, cut_element_text, ends_text, laced_text, length_start, no_time_text, says_text, skipped_text, track_text, unlisted_text, webm_text, what_text, wrong_length_text};
+ghost use Rattle.stream_checks.specs.Lines.{block_start, cut_element_text, end_text, ends_text, laced_text, length_start, no_time_text, says_text, skipped_text, track_text, unlisted_text, webm_text, what_text, wrong_length_text};
 ghost use Rattle.stream_checks.specs.Severity.{is_webm_damage};
 
 use std::io::Write;
@@ -111,11 +111,17 @@ fn write_what<W: Write>(w: &mut W, is_within: bool) -> Result<(), WriteFault>
     }
 }
 
+fn write_end<W: Write>(w: &mut W, ends: usize) -> Result<(), WriteFault>
+    ensures { OnOk result (Appends (W.contents w.old) (W.contents w.new) (end_text ends)) }
+{
+    write!(w, " ends at byte {ends}").map_err(|_| WriteFault::Write)
+}
+
 fn write_ends<W: Write>(w: &mut W, is_within: bool, ends: usize) -> Result<(), WriteFault>
     ensures { OnOk result (Appends (W.contents w.old) (W.contents w.new) (ends_text is_within ends)) }
 {
     write_what(w, is_within)?;
-    write!(w, " ends at byte {ends}").map_err(|_| WriteFault::Write)
+    write_end(w, ends)
 }
 
 fn write_wrong_length<W: Write>(
