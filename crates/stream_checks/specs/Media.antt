@@ -4,7 +4,7 @@ use Rattle.std.specs.List.{flat_map}
 use Rattle.webm_files.specs.declared.blocks.Block.{Block}
 use Rattle.webm_files.specs.declared.gaps.Gap.{Gap}
 use Rattle.webm_files.specs.declared.ids.TheConstants.{CLUSTER}
-use Rattle.webm_files.specs.declared.lengths.WrongLength as length
+use Rattle.webm_files.specs.declared.lengths.WrongLength as stated
 use Rattle.webm_files.specs.Media.{Kept}
 use Rattle.webm_files.specs.Packets.{is_listed, is_packet}
 use Rattle.stream_checks.specs.declared.finding.Finding.{Finding}
@@ -27,10 +27,10 @@ abbrev pub cluster_findings : List ℕ → List Finding
 cluster_findings places = flat_map (λ place. listed (found_around (Some (InWebm (NoTime place))))) places
 
 -- a length that is wrong
-abbrev pub length_trouble : length.WrongLength → WebmTrouble
+abbrev pub length_trouble : stated.WrongLength → WebmTrouble
 length_trouble wrong = WrongLength (wrong.id == CLUSTER) wrong.place wrong.says wrong.ends
 
-abbrev pub length_findings : List length.WrongLength → List Finding
+abbrev pub length_findings : List stated.WrongLength → List Finding
 length_findings lengths = flat_map (λ wrong. listed (found_around (Some (InWebm (length_trouble wrong))))) lengths
 
 -- a block of the video that has several packets, or a block of a track that the file does not list
