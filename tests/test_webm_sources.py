@@ -203,6 +203,11 @@ def wrong_length(name, begins, says, ends):
     return line, {"kind": "wrong_length", "byte": begins, "element": name, "says": says, "ends": ends, "severity": "damage"}
 
 
+def skipped(begins, count):
+    """The line and the object of bytes that are skipped."""
+    return f"damage: byte {begins}: {count} bytes are no element, and are skipped", {"kind": "skipped", "byte": begins, "bytes": count, "severity": "damage"}
+
+
 def findings(folder, packets):
     """What is wrong with a file besides its packets: bytes that are no element, an end that is cut, a cluster without a time, lengths that are wrong, laced blocks, tracks that
     are not listed."""
@@ -231,8 +236,9 @@ def findings(folder, packets):
         (text[:begins], *wrong_length("cluster", opened, len(text), begins)),
         (text[:begins], *wrong_length("segment", segment, len(text), begins)),
         (text[:-1], f"damage: element at byte {begins}: the file ends within it, {len(last) - 1} bytes are there", {"kind": "cut_element", "byte": begins, "left": len(last) - 1, "severity": "damage"}),
-        (text + bytes(9), f"damage: byte {len(text)}: 9 bytes are no element, and are skipped", {"kind": "skipped", "byte": len(text), "bytes": 9, "severity": "damage"}),
-        (text[:begins] + bytes(7) + text[begins:], f"damage: byte {begins}: 7 bytes are no element, and are skipped", {"kind": "skipped", "byte": begins, "bytes": 7, "severity": "damage"}),
+        # A block that no element follows is not trusted.
+        (text + bytes(9), *skipped(begins, len(last) + 9)),
+        (text[:begins] + bytes(7) + text[begins:], *skipped(begins - len(block(3, 120, few[3])), len(block(3, 120, few[3])) + 7)),
         (text[: begins + head - 1] + b"\2" + text[begins + head :], f"damage: block at byte {begins}: laced packets of the video, which are left out", {"kind": "laced_block", "byte": begins, "severity": "damage"}),
         (text[: begins + head - 4] + b"\x87" + text[begins + head - 3 :], f"note: block at byte {begins}: track 7, which the file does not list", {"kind": "unlisted_block", "byte": begins, "track": 7, "severity": "note"}),
     ):
