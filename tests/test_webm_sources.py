@@ -22,7 +22,7 @@ sys.dont_write_bytecode = True
 sys.path.insert(0, str(TOP / "compare"))
 from library.ivf import HEAD, RECORD, packets_of, records  # noqa: E402
 from library.programs import real_streams  # noqa: E402
-from library.webm import block, webm  # noqa: E402
+from library.webm import CLUSTER, SEGMENT, TIME, block, element, number, webm  # noqa: E402
 
 SERVE, LIST = (pathlib.Path(os.environ[name]).resolve() for name in ("VP8SERVE", "VP8LIST"))
 LISTS, SEED = 40, 1
@@ -190,19 +190,55 @@ def places_of_others(folder, path):
             yield f"{file.name}: other bytes than mkvinfo's"
 
 
+def longer(text, place, more):
+    """A file with a greater length of the element at a place, whose name has four bytes and whose length has eight."""
+    at = place + 4
+    return text[:at] + (int.from_bytes(text[at : at + 8], "big") + more).to_bytes(8, "big") + text[at + 8 :]
+
+
+def wrong_length(name, begins, says, ends):
+    """The line and the object of a length that is wrong."""
+    what = "an element in it" if says < ends else "it"
+    line = f"damage: {name} at byte {begins}: its length says that it ends at byte {says}, and {what} ends at byte {ends}"
+    return line, {"kind": "wrong_length", "byte": begins, "element": name, "says": says, "ends": ends, "severity": "damage"}
+
+
+def skipped(begins, count):
+    """The line and the object of bytes that are skipped."""
+    return f"damage: byte {begins}: {count} bytes are no element, and are skipped", {"kind": "skipped", "byte": begins, "bytes": count, "severity": "damage"}
+
+
 def findings(folder, packets):
-    """What is wrong with a file besides its packets: bytes that are no element, an end that is cut, laced blocks, tracks that are not listed."""
+    """What is wrong with a file besides its packets: bytes that are no element, an end that is cut, a cluster without a time, lengths that are wrong, laced blocks, tracks that
+    are not listed."""
     few = packets[:5]
     text = webm(few, [40 * at for at in range(5)])
     last = block(3, 160, few[-1])
     begins, head = text.index(last), 13
+    opened, segment = text.index(number(CLUSTER)), text.index(number(SEGMENT))
+    timed = opened + 12
+    first = timed + len(element(TIME, b"\0"))
+    following = first + len(block(3, 0, few[0]))
+    two = webm(packets[:11], [40 * at for at in range(11)])
+    second = two.rindex(number(CLUSTER))
     status, said, _ = listed(folder / "good.webm", "--check")
     if status or "damage: 0" not in said:
         yield f"a good file: status {status}, {said!r}"
     for changed, line, found in (
+        (
+            text[:timed] + text[first:following] + text[timed:first] + text[following:],
+            f"damage: cluster at byte {opened}: it has no time, so its blocks have that of the cluster before",
+            {"kind": "cluster_without_time", "byte": opened, "severity": "damage"},
+        ),
+        (longer(text, opened, -1), *wrong_length("cluster", opened, len(text) - 1, len(text))),
+        (longer(text, segment, 1), *wrong_length("segment", segment, len(text) + 1, len(text))),
+        (longer(two, opened, 3), *wrong_length("cluster", opened, second + 3, second)),
+        (text[:begins], *wrong_length("cluster", opened, len(text), begins)),
+        (text[:begins], *wrong_length("segment", segment, len(text), begins)),
         (text[:-1], f"damage: element at byte {begins}: the file ends within it, {len(last) - 1} bytes are there", {"kind": "cut_element", "byte": begins, "left": len(last) - 1, "severity": "damage"}),
-        (text + bytes(9), f"damage: byte {len(text)}: 9 bytes are no element, and are skipped", {"kind": "skipped", "byte": len(text), "bytes": 9, "severity": "damage"}),
-        (text[:begins] + bytes(7) + text[begins:], f"damage: byte {begins}: 7 bytes are no element, and are skipped", {"kind": "skipped", "byte": begins, "bytes": 7, "severity": "damage"}),
+        # A block that no element follows is not trusted.
+        (text + bytes(9), *skipped(begins, len(last) + 9)),
+        (text[:begins] + bytes(7) + text[begins:], *skipped(begins - len(block(3, 120, few[3])), len(block(3, 120, few[3])) + 7)),
         (text[: begins + head - 1] + b"\2" + text[begins + head :], f"damage: block at byte {begins}: laced packets of the video, which are left out", {"kind": "laced_block", "byte": begins, "severity": "damage"}),
         (text[: begins + head - 4] + b"\x87" + text[begins + head - 3 :], f"note: block at byte {begins}: track 7, which the file does not list", {"kind": "unlisted_block", "byte": begins, "track": 7, "severity": "note"}),
     ):

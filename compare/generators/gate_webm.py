@@ -28,13 +28,15 @@ def element(name, content):
     return bytes.fromhex(name) + (2**56 + len(content)).to_bytes(8, "big") + content
 
 
-def by_hand():
-    """A file of which each part is seldom written: times before 0, a group, two clusters, lacing of the video, and a track that is not listed."""
+def by_hand(is_late=False):
+    """A file of which each part is seldom written: times before 0, a group, two clusters, lacing of the video, a track that is not listed, and a length that is wrong. The
+    time of the second cluster may come after its block."""
     entry = element("D7", b"\x01") + element("83", b"\x01") + element("86", b"V_VP8") + element("E0", element("B0", b"\x10") + element("BA", b"\x00\x20"))
     sound = element("D7", b"\x00\x02") + element("83", b"\x02") + element("86", b"A_OPUS")
     blocks = [b"\x81\xff\xfe\x80\x10", b"\x82\x00\x00\x00ss", b"\x81\x00\x05\x02\x01\x01ab", b"\x83\x00\x06\x00x", b"\x40\x01\x00\x07\x00\x11"]
     first = element("E7", b"\x01") + b"".join(element("A3", block) for block in blocks)
-    second = element("E7", (2**64 - 3).to_bytes(8, "big")) + element("A0", element("A1", b"\x81\x00\x64\x00\x11") + element("9B", b"\x28"))
+    time, group = element("E7", (2**64 - 3).to_bytes(8, "big")), element("A0", element("A1", b"\x81\x00\x64\x00\x11") + element("9B", b"\x28"))
+    second = group + time if is_late else time + group
     return (
         element("1A45DFA3", element("4282", b"matroska"))
         + b"\x18\x53\x80\x67\xff"
@@ -72,6 +74,8 @@ def main():
     (data / "empty.webm").write_bytes(b"")
     (data / "tracks.webm").write_bytes(whole.replace(b"\x16\x54\xae\x6b", b"\x16\x54\xae\x6c"))
     (data / "hand.mkv").write_bytes(by_hand())
+    (data / "late.mkv").write_bytes(by_hand(is_late=True))
+    (data / "early.webm").write_bytes(whole[: next(found[1] for found in reversed(matroska.walk(whole)[0]) if found[0] == matroska.SIMPLE_BLOCK)])
     (data / "scale.mkv").write_bytes(by_hand().replace(element("2AD7B1", (41667).to_bytes(3, "big")), element("2AD7B1", b"\x00\x00\x00")))
     names = sorted(path.name for path in data.iterdir())
     (CRATE / "stdin").write_text("".join(f"{name}\n" for name in names))

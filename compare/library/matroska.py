@@ -9,7 +9,8 @@ OPENED = {SEGMENT, CLUSTER, BLOCK_GROUP}
 BLOCKS = {SIMPLE_BLOCK, BLOCK}
 RESUMED = {SIMPLE_BLOCK, BLOCK_GROUP, BLOCK}
 KEPT = {INFO, TRACKS, CHAPTERS, ATTACHMENTS, TAGS}
-OTHERS = {0x114D9B74, 0x1C53BB6B, 0xEC, 0xBF, 0x5854, 0xA7, 0xAB, 0xAF, 0xA2, 0x75A1, 0x9B, 0xFA, 0xFB, 0xFD, 0xA4, 0x75A2, 0x8E, 0xC8}
+VOID, CRC_32 = 0xEC, 0xBF
+OTHERS = {0x114D9B74, 0x1C53BB6B, VOID, CRC_32, 0x5854, 0xA7, 0xAB, 0xAF, 0xA2, 0x75A1, 0x9B, 0xFA, 0xFB, 0xFD, 0xA4, 0x75A2, 0x8E, 0xC8}
 KNOWN = OPENED | BLOCKS | KEPT | OTHERS | {EBML, TIMESTAMP}
 MOST_PACKETS, MOST_ELEMENTS, MOST_TRACKS = 1_048_576, 16_777_216, 127
 
@@ -107,6 +108,40 @@ def blocks(text, elements):
     return found
 
 
+def timeless(elements):
+    """Where the clusters begin of which a block comes before their time."""
+    decide = {CLUSTER, TIMESTAMP} | BLOCKS
+    for at, found in enumerate(elements):
+        if found[0] == CLUSTER and next((name for name, *_ in elements[at + 1 :] if name in decide), None) in BLOCKS:
+            yield found[1]
+
+
+def closes(level, name):
+    """Whether an element is not in the Segment or Cluster before it."""
+    return name in (EBML, SEGMENT) if level == SEGMENT else name >= 1 << 28
+
+
+def lengths(text, elements, end):
+    """The lengths that are wrong, of Segments and then of Clusters: name, position, where it ends by its length, and by what was read."""
+    for level in (SEGMENT, CLUSTER):
+        for at, (name, place, start, _) in enumerate(elements):
+            _, length, is_sized, _ = head(text, place)
+            if name != level or not is_sized:
+                continue
+            says = start + length
+            # a file whose end cuts an element decides nothing at its end
+            ends = None if is_cut(text, end) or says <= len(text) else len(text)
+            for other, begins, _, following in elements[at + 1 :]:
+                if closes(level, other):
+                    ends = begins if begins < says else None
+                    break
+                if other not in (VOID, CRC_32) and says < following:
+                    ends = following
+                    break
+            if ends is not None:
+                yield level, place, says, ends
+
+
 def children(text):
     """The elements in the content of an element that is whole: names and contents."""
     at, found = 0, []
@@ -164,6 +199,8 @@ def reading(text):
             spare += place - at
         at = following
     yield from (f"part {name} {place} {following}" for name, place, _, following in elements if name in KEPT)
+    yield from (f"timeless {place}" for place in timeless(elements))
+    yield from ("length " + " ".join(map(str, wrong)) for wrong in lengths(text, elements, end))
     yield f"spare {spare}"
     if is_cut(text, end):
         yield "cut"

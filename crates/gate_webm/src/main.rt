@@ -7,7 +7,7 @@ use std::process::ExitCode;
 use std::str::Utf8Error;
 use stream_files::{Packet, ReadFault, read_all};
 use thiserror::Error;
-use webm_files::{Block, Media, Webm, webm_read_from};
+use webm_files::{Block, Media, Webm, WrongLength, webm_read_from};
 
 /// The most bytes that a file, or the list of their names, may have.
 const LIMIT: usize = 1_073_741_824;
@@ -87,6 +87,23 @@ fn print_places<O: Write>(output: &mut O, media: &Media) -> io::Result<()> {
     Ok(())
 }
 
+/// Prints clusters without a time and lengths that are wrong.
+fn print_troubles<O: Write>(output: &mut O, media: &Media) -> io::Result<()> {
+    for place in media.timeless() {
+        writeln!(output, "timeless {place}")?;
+    }
+    for wrong in media.lengths() {
+        let WrongLength {
+            id,
+            place,
+            says,
+            ends,
+        } = *wrong;
+        writeln!(output, "length {id} {place} {says} {ends}")?;
+    }
+    Ok(())
+}
+
 /// Prints what was read of a file.
 fn print_file<O: Write>(output: &mut O, file: &Webm) -> io::Result<()> {
     let head = file.head;
@@ -104,6 +121,7 @@ fn print_file<O: Write>(output: &mut O, file: &Webm) -> io::Result<()> {
     print_blocks(output, "block", file.media.blocks())?;
     print_blocks(output, "unlisted", file.media.unlisted())?;
     print_places(output, &file.media)?;
+    print_troubles(output, &file.media)?;
     writeln!(output, "spare {spare}")?;
     if file.media.is_cut() {
         writeln!(output, "cut")?;

@@ -1,5 +1,5 @@
 -- The text of findings: a line each.
-use Rattle.std.specs.Prelude.{ℕ, if◌then◌else◌, List, [], ◌++◌, codes, count_by, Option, Some, None}
+use Rattle.std.specs.Prelude.{ℕ, Bool, nat_lt, if◌then◌else◌, List, [], ◌++◌, codes, count_by, Option, Some, None}
 use Rattle.std.specs.Fmt.{decimal}
 use Rattle.frame_header.specs.Tags.{is_shown}
 use Rattle.stream_files.specs.declared.packets.Packet.{Packet}
@@ -10,7 +10,7 @@ use Rattle.stream_checks.specs.declared.finding.Tally.{Tally}
 use Rattle.stream_checks.specs.declared.finding.Trouble.{Trouble}
 use Rattle.stream_checks.specs.declared.finding.Trouble.TheVariants.{FrameCount, FrameSize, NoRate, Refused, PastFirst, PastToken, UnreadFirst, UnreadToken, EmptyToken, NoBytes, GoldenCopiesNone, AltrefCopiesNone, ComesTwice, StampRepeats, StampGoesBack, StampSkips, BreaksStep, SizeChanges, NeverShown, CutRecord, InWebm}
 use Rattle.stream_checks.specs.declared.webm_trouble.WebmTrouble.{WebmTrouble}
-use Rattle.stream_checks.specs.declared.webm_trouble.WebmTrouble.TheVariants.{CutElement, Skipped, LacedBlock, UnlistedBlock}
+use Rattle.stream_checks.specs.declared.webm_trouble.WebmTrouble.TheVariants.{CutElement, Skipped, NoTime, WrongLength, LacedBlock, UnlistedBlock}
 use Rattle.stream_checks.specs.Severity.{is_damage}
 
 -- what is at the front of a line
@@ -97,6 +97,29 @@ cut_element_text begins left = codes "element at byte " ++ decimal begins ++ cod
 abbrev pub skipped_text : ℕ → ℕ → List ℕ
 skipped_text begins bytes = codes "byte " ++ decimal begins ++ codes ": " ++ decimal bytes ++ codes " bytes are no element, and are skipped"
 
+-- of a cluster or Segment of a WebM file
+abbrev pub no_time_text : ℕ → List ℕ
+no_time_text begins = codes "cluster at byte " ++ decimal begins ++ codes ": it has no time, so its blocks have that of the cluster before"
+
+abbrev pub length_start : Bool → ℕ → List ℕ
+length_start is_cluster begins = (if is_cluster then codes "cluster" else codes "segment") ++ codes " at byte " ++ decimal begins ++ codes ": "
+
+abbrev pub says_text : ℕ → List ℕ
+says_text says = codes "its length says that it ends at byte " ++ decimal says
+
+-- an element in it ends after that, or it ends before that
+abbrev pub what_text : Bool → List ℕ
+what_text is_within = if is_within then codes ", and an element in it" else codes ", and it"
+
+abbrev pub end_text : ℕ → List ℕ
+end_text ends = codes " ends at byte " ++ decimal ends
+
+abbrev pub ends_text : Bool → ℕ → List ℕ
+ends_text is_within ends = what_text is_within ++ end_text ends
+
+abbrev pub wrong_length_text : Bool → ℕ → ℕ → ℕ → List ℕ
+wrong_length_text is_cluster begins says ends = length_start is_cluster begins ++ says_text says ++ ends_text (nat_lt says ends) ends
+
 -- of a block of a WebM file
 abbrev pub block_start : ℕ → List ℕ
 block_start begins = codes "block at byte " ++ decimal begins ++ codes ": "
@@ -113,6 +136,8 @@ unlisted_text begins track = block_start begins ++ track_text track
 abbrev pub webm_text : WebmTrouble → List ℕ
 webm_text (CutElement begins left) = cut_element_text begins left
 webm_text (Skipped begins bytes) = skipped_text begins bytes
+webm_text (NoTime begins) = no_time_text begins
+webm_text (WrongLength is_cluster begins says ends) = wrong_length_text is_cluster begins says ends
 webm_text (LacedBlock begins) = laced_text begins
 webm_text (UnlistedBlock begins track) = unlisted_text begins track
 

@@ -1,5 +1,5 @@
 -- A finding as a JSON object (RFC 8259).
-use Rattle.std.specs.Prelude.{ℕ, if◌then◌else◌, List, ◌++◌, codes, Option, Some, None}
+use Rattle.std.specs.Prelude.{ℕ, Bool, if◌then◌else◌, List, ◌++◌, codes, Option, Some, None}
 use Rattle.std.specs.Fmt.{decimal}
 use Rattle.stream_facts.specs.Json.{member, number_member, optional_member}
 use Rattle.stream_facts.specs.Lines.{cause_text}
@@ -9,7 +9,7 @@ use Rattle.stream_checks.specs.declared.finding.Tally.{Tally}
 use Rattle.stream_checks.specs.declared.finding.Trouble.{Trouble}
 use Rattle.stream_checks.specs.declared.finding.Trouble.TheVariants.{FrameCount, FrameSize, NoRate, Refused, PastFirst, PastToken, UnreadFirst, UnreadToken, EmptyToken, NoBytes, GoldenCopiesNone, AltrefCopiesNone, ComesTwice, StampRepeats, StampGoesBack, StampSkips, BreaksStep, SizeChanges, NeverShown, CutRecord, InWebm}
 use Rattle.stream_checks.specs.declared.webm_trouble.WebmTrouble.{WebmTrouble}
-use Rattle.stream_checks.specs.declared.webm_trouble.WebmTrouble.TheVariants.{CutElement, Skipped, LacedBlock, UnlistedBlock}
+use Rattle.stream_checks.specs.declared.webm_trouble.WebmTrouble.TheVariants.{CutElement, Skipped, NoTime, WrongLength, LacedBlock, UnlistedBlock}
 use Rattle.stream_checks.specs.Lines.{size_text}
 use Rattle.stream_checks.specs.Severity.{is_damage}
 
@@ -78,6 +78,16 @@ cut_element_members begins left = byte_members (codes "cut_element") begins ++ n
 abbrev pub skipped_members : ℕ → ℕ → List ℕ
 skipped_members begins bytes = byte_members (codes "skipped") begins ++ number_member (codes "bytes") bytes
 
+abbrev pub no_time_members : ℕ → List ℕ
+no_time_members begins = byte_members (codes "cluster_without_time") begins
+
+abbrev pub element_member : Bool → List ℕ
+element_member is_cluster = if is_cluster then member (codes "element") (codes "\"cluster\"") else member (codes "element") (codes "\"segment\"")
+
+abbrev pub wrong_length_members : Bool → ℕ → ℕ → ℕ → List ℕ
+wrong_length_members is_cluster begins says ends =
+    byte_members (codes "wrong_length") begins ++ element_member is_cluster ++ number_member (codes "says") says ++ number_member (codes "ends") ends
+
 abbrev pub laced_members : ℕ → List ℕ
 laced_members begins = byte_members (codes "laced_block") begins
 
@@ -87,6 +97,8 @@ unlisted_members begins track = byte_members (codes "unlisted_block") begins ++ 
 abbrev pub webm_members : WebmTrouble → List ℕ
 webm_members (CutElement begins left) = cut_element_members begins left
 webm_members (Skipped begins bytes) = skipped_members begins bytes
+webm_members (NoTime begins) = no_time_members begins
+webm_members (WrongLength is_cluster begins says ends) = wrong_length_members is_cluster begins says ends
 webm_members (LacedBlock begins) = laced_members begins
 webm_members (UnlistedBlock begins track) = unlisted_members begins track
 

@@ -149,7 +149,7 @@ pub(crate) fn write_tail<W: Write>(
     requires { ForSome source.now.media IsFewKept }
     ensures written { OnOk result (Appends (W.contents w.old) (W.contents w.new) (texts_of form (end_findings bytes.now source.now))) }
     ensures counted { IfOk result (λ tally. tally ≡ tally_of (end_findings bytes.now source.now)) }
-    ensures few { IfOk result (λ tally. tally.damage + tally.notes ≤ 50331649) }
+    ensures few { IfOk result (λ tally. tally.damage + tally.notes ≤ 100663297) }
 {
     let Source { stream, media } = source;
     match media {

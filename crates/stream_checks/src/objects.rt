@@ -4,7 +4,7 @@ ghost use Rattle.std.specs.Prelude.{◌≡◌, ◌++◌, OnOk, codes};
 ghost use Rattle.std.specs.Io.KnownBytes.{Appends};
 ghost use Rattle.stream_facts.specs.Lines.{cause_text};
 ghost use Rattle.stream_facts.specs.Json.{number_member};
-ghost use Rattle.stream_checks.specs.Objects.{breaks_members, byte_members, cause_member, copy_members, cut_element_members, cut_members, field_member, kind_member, laced_members, object_of, partition_members, past_members, refused_members, severity_member, size_member, size_members, skipped_members, spot_members, stamp_members, tally_object, trouble_members, unlisted_members, unread_members, webm_members};
+ghost use Rattle.stream_checks.specs.Objects.{breaks_members, byte_members, cause_member, copy_members, cut_element_members, cut_members, element_member, field_member, kind_member, laced_members, no_time_members, object_of, partition_members, past_members, refused_members, severity_member, size_member, size_members, skipped_members, spot_members, stamp_members, tally_object, trouble_members, unlisted_members, unread_members, webm_members, wrong_length_members};
 
 use crate::finding::{Finding, Spot, Tally, Trouble};
 use crate::webm_trouble::WebmTrouble;
@@ -219,6 +219,37 @@ fn write_skipped<W: Write>(w: &mut W, begins: usize, bytes: usize) -> Result<(),
     write_number(w, "bytes", bytes as u64)
 }
 
+fn write_no_time<W: Write>(w: &mut W, begins: usize) -> Result<(), WriteFault>
+    ensures { OnOk result (Appends (W.contents w.old) (W.contents w.new) (no_time_members begins)) }
+{
+    write_byte(w, "cluster_without_time", begins)
+}
+
+fn write_element<W: Write>(w: &mut W, is_cluster: bool) -> Result<(), WriteFault>
+    ensures { OnOk result (Appends (W.contents w.old) (W.contents w.new) (element_member is_cluster)) }
+{
+    if is_cluster {
+        write_member(w, "element", "\"cluster\"")
+    } else {
+        write_member(w, "element", "\"segment\"")
+    }
+}
+
+fn write_wrong_length<W: Write>(
+    w: &mut W,
+    is_cluster: bool,
+    begins: usize,
+    says: usize,
+    ends: usize,
+) -> Result<(), WriteFault>
+    ensures { OnOk result (Appends (W.contents w.old) (W.contents w.new) (wrong_length_members is_cluster begins says ends)) }
+{
+    write_byte(w, "wrong_length", begins)?;
+    write_element(w, is_cluster)?;
+    write_number(w, "says", says as u64)?;
+    write_number(w, "ends", ends as u64)
+}
+
 fn write_laced<W: Write>(w: &mut W, begins: usize) -> Result<(), WriteFault>
     ensures { OnOk result (Appends (W.contents w.old) (W.contents w.new) (laced_members begins)) }
 {
@@ -238,6 +269,13 @@ fn write_webm<W: Write>(w: &mut W, trouble: WebmTrouble) -> Result<(), WriteFaul
     match trouble {
         WebmTrouble::CutElement { begins, left } => write_cut_element(w, begins, left),
         WebmTrouble::Skipped { begins, bytes } => write_skipped(w, begins, bytes),
+        WebmTrouble::NoTime { begins } => write_no_time(w, begins),
+        WebmTrouble::WrongLength {
+            is_cluster,
+            begins,
+            says,
+            ends,
+        } => write_wrong_length(w, is_cluster, begins, says, ends),
         WebmTrouble::LacedBlock { begins } => write_laced(w, begins),
         WebmTrouble::UnlistedBlock { begins, track } => write_unlisted(w, begins, track),
     }
