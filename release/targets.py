@@ -87,9 +87,9 @@ X86_64 = Target(
 )
 ARM = Target(
     name="Linux on ARM",
-    installed="`./build.py --arm`, with the kit; the next version has a wheel",
+    installed="the wheel",
     proof=VERDICT,
-    tested="under `qemu-aarch64`: conformance, findings and options of `vp8list`; of `vp8serve` only an unproved build of the same sources was run: rows, clips, saving",
+    tested="under `qemu-aarch64`: rows, clips, conformance, findings, options, saving, and the library by its tests in C",
     caution="run by us under an emulator only",
     tags=("manylinux_2_17_aarch64", "musllinux_1_1_aarch64"),
     builds=("aarch64",),
@@ -99,7 +99,7 @@ ARM = Target(
 )
 WINDOWS = Target(
     name="Windows on x86-64 (preview)",
-    installed="`./build.py --windows`, with the kit; the next version has a wheel",
+    installed="the wheel",
     proof="not proved: the same LLVM module, compiled for another system",
     tested="under `wine64` on Linux: rows, clips, saving; the client by a test that takes away what Python lacks there",
     caution="tested under wine; never installed on Windows by us; preview",
@@ -112,7 +112,7 @@ WINDOWS = Target(
 )
 PAGE = Target(
     name="any system with a browser",
-    installed="the page in one file: `./build.py --web` makes `bin/wokureti.html`, and the next version has it in `dist/`. Open it, and drop a file on it",
+    installed="`dist/wokureti.html`, the page in one file: open it, and drop a file on it",
     proof="not proved: the same LLVM module, rewritten for pointers of 4 bytes and compiled for WebAssembly",
     tested="in Node, Chromium and Firefox; never in Safari",
     builds=("wasm32",),
