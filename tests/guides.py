@@ -8,10 +8,10 @@ TOP = pathlib.Path(__file__).resolve().parent.parent
 
 
 def blocks(title):
-    """The texts that are indented in the section with this title, in order: each without its indentation."""
+    """The texts that are indented in the section with this title, in order: each without its indentation. It ends at the next heading, of whichever level."""
     lines = (TOP / "clients/README.md").read_text(encoding="utf-8").splitlines()
-    start = lines.index(f"## {title}") + 1
-    end = next((place for place in range(start, len(lines)) if lines[place].startswith("## ")), len(lines))
+    start = next(place for place, line in enumerate(lines) if line in (f"## {title}", f"### {title}")) + 1
+    end = next((place for place in range(start, len(lines)) if lines[place].startswith("#")), len(lines))
     found = [[]]
     for line in lines[start:end]:
         if line.startswith("    "):
