@@ -11,6 +11,7 @@ import ctypes
 import os
 import pathlib
 import random
+import re
 import shutil
 import statistics
 import subprocess
@@ -181,6 +182,25 @@ def limits(folder):
             yield f"{words}: status {status}, {lines}, opened with {opened.read_text()!r}"
 
 
+# The functions of VSAPI up to the last one that the plugin calls, in the order of VapourSynth's API 4.
+ORDER = """createVideoFilter createVideoFilter2 createAudioFilter createAudioFilter2 setLinearFilter setCacheMode setCacheOptions freeNode addNodeRef getNodeType getVideoInfo getAudioInfo
+newVideoFrame newVideoFrame2 newAudioFrame newAudioFrame2 freeFrame addFrameRef copyFrame getFramePropertiesRO getFramePropertiesRW getStride getReadPtr getWritePtr getVideoFrameFormat
+getAudioFrameFormat getFrameType getFrameWidth getFrameHeight getFrameLength getVideoFormatName getAudioFormatName queryVideoFormat queryAudioFormat queryVideoFormatID getVideoFormatByID getFrame
+getFrameAsync getFrameFilter requestFrameFilter releaseFrameEarly cacheFrame setFilterError createFunction freeFunction addFunctionRef callFunction createMap freeMap clearMap copyMap mapSetError
+mapGetError mapNumKeys mapGetKey mapDeleteKey mapNumElements mapGetType mapSetEmpty mapGetInt mapGetIntSaturated mapGetIntArray mapSetInt mapSetIntArray mapGetFloat mapGetFloatSaturated
+mapGetFloatArray mapSetFloat mapSetFloatArray mapGetData mapGetDataSize mapGetDataTypeHint mapSetData""".split()
+
+
+def order():
+    """Each function that the plugin calls has its number in that order, which the compiler compares with its place in the struct."""
+    header = (TOP / "clients/vapoursynth/vapoursynth4.h").read_text()
+    numbers = {name: int(number) for name, number in re.findall(r"^WOKURETI_IS_AT\((\w+), (\d+)\);", header, re.MULTILINE)}
+    called = set(re.findall(r"\bapi->(\w+)\(", (TOP / "clients/vapoursynth/wokureti.c").read_text())) - {"configPlugin", "registerFunction"}
+    for name in sorted(called | set(numbers)):
+        if name not in ORDER or numbers.get(name) != ORDER.index(name):
+            yield f"{name} has the number {numbers.get(name)} in vapoursynth4.h"
+
+
 def reads_webm():
     """Whether the library reads WebM files: 0.15.0 and later."""
     return ctypes.CDLL(str(LIBRARY)).wk_version() >= 1500
@@ -265,7 +285,7 @@ def main():
         if not host.has_header:
             print("skipped: VapourSynth is not there: the plugin is compiled with the declarations of clients/vapoursynth/vapoursynth4.h, and loaded by tests/vapoursynth_host.c")
         clip, other, key = DATA / "hidden-altref.ivf", DATA / "scene-cuts.ivf", ivf.read_packets(DATA / "scene-cuts.ivf")[1][0][1]
-        wrong = [*frames(host, clip, chance), *frames(host, other, chance, cache=["cache=2"]), *refusals(host, folder), *limits(folder / "limits")]
+        wrong = [*order(), *frames(host, clip, chance), *frames(host, other, chance, cache=["cache=2"]), *refusals(host, folder), *limits(folder / "limits")]
         wrong += frames(host, other, chance, cache=["cache_bytes=1"])
         wrong += frames(host, clip, chance, script="crop 0 2 2 16 8; trim 1 3 4")
         wrong += frames(host, clip, chance, script="source 1; trim 1 0 4; splice 2 1; fade 3 0 4 256 0", sources=[clip])

@@ -101,9 +101,11 @@ struct VSAPI {
 
 /* The number of each function in the documented order. */
 #define WOKURETI_IS_AT(member, number) _Static_assert(offsetof(VSAPI, member) == (number) * sizeof(VSUnused), #member " is another function")
+WOKURETI_IS_AT(createVideoFilter, 0);
 WOKURETI_IS_AT(newVideoFrame, 12);
 WOKURETI_IS_AT(freeFrame, 16);
 WOKURETI_IS_AT(getFramePropertiesRW, 20);
+WOKURETI_IS_AT(getStride, 21);
 WOKURETI_IS_AT(getWritePtr, 23);
 WOKURETI_IS_AT(queryVideoFormat, 32);
 WOKURETI_IS_AT(setFilterError, 42);

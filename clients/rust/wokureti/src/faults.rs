@@ -10,18 +10,42 @@ use std::path::PathBuf;
 pub enum Fault {
     /// There are no files or more than eight, or the number of cached states is not 1 to 4,096.
     Argument,
-    /// A file cannot be read: its path, the kind of the error and the system's reason.
-    Read { path: PathBuf, kind: io::ErrorKind, reason: String },
-    /// The bytes of this source, counted from 0, are not an IVF, WebM or Matroska file of VP8. The path is that of the file, if it was opened by one.
-    File { source: usize, path: Option<PathBuf>, cause: FileCause },
+    /// A file cannot be read.
+    Read {
+        /// Its path.
+        path: PathBuf,
+        /// The kind of the error.
+        kind: io::ErrorKind,
+        /// The system's reason.
+        reason: String,
+    },
+    /// The bytes of a source are not an IVF, WebM or Matroska file of VP8.
+    File {
+        /// The source, counted from 0.
+        source: usize,
+        /// The path of the file, if it was opened by one.
+        path: Option<PathBuf>,
+        /// Why.
+        cause: FileCause,
+    },
     /// Out of memory.
     Memory,
     /// The request was refused.
     Refused(Refused),
-    /// The frames are not exported: this node of the script, counted from 1, is the first that changes samples of this frame.
-    Changed { frame: u64, node: u64 },
-    /// The frames are not exported: a request for this frame is refused.
-    Unserved { frame: u64, refused: Refused },
+    /// The frames are not exported: the script changes samples of a frame.
+    Changed {
+        /// The first such frame, counted from 0.
+        frame: u64,
+        /// The first node of the script that changes it, counted from 1.
+        node: u64,
+    },
+    /// The frames are not exported: a request for a frame is refused.
+    Unserved {
+        /// The first such frame, counted from 0.
+        frame: u64,
+        /// Why it is refused.
+        refused: Refused,
+    },
     /// The frames are not exported: there would be more than 1,048,576 packets or 1,073,741,824 bytes.
     Full,
     /// The frames are not exported: no packet repeats a frame of this size.
@@ -77,6 +101,7 @@ impl From<Refused> for Fault {
 #[derive(Clone, Debug, PartialEq, Eq)]
 #[non_exhaustive]
 pub struct Refused {
+    /// Why.
     pub cause: Cause,
     /// The source that a refused packet is of, counted from 0, if `cause` is [`Cause::Packet`].
     pub source: Option<usize>,

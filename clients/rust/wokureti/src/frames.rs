@@ -4,13 +4,18 @@ use std::ops::Range;
 
 use crate::{Fault, Session};
 
-/// A frame: its size in luma samples, and its planes by rows. Those of chroma have half of each side, rounded up.
+/// A frame: its size, and its planes by rows. The samples are BT.601's, luma of 16 to 235.
 #[derive(Clone, Default, PartialEq, Eq)]
 pub struct Frame {
+    /// Luma samples in a row.
     pub width: u32,
+    /// Rows of luma samples.
     pub height: u32,
+    /// Luma: `width` x `height` samples.
     pub y: Vec<u8>,
+    /// Blue chroma: half of each side, rounded up.
     pub cb: Vec<u8>,
+    /// Red chroma, of the same size.
     pub cr: Vec<u8>,
 }
 

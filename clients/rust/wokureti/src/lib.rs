@@ -22,6 +22,7 @@
 //! fn is_send<T: Send>() {}
 //! is_send::<wokureti::Session>();
 //! ```
+#![warn(missing_docs)]
 mod faults;
 mod frames;
 mod scripts;
@@ -68,17 +69,21 @@ impl From<u16> for Cache {
     }
 }
 
-/// The number of packets of the current source, and of frames that the script serves.
+/// How many packets and frames there are, made by [`Session::count`].
 #[derive(Clone, Copy, Debug, PartialEq, Eq)]
 pub struct Counts {
+    /// Packets of the current source.
     pub packets: u64,
+    /// Frames that the script serves.
     pub frames: u64,
 }
 
-/// A packet: its time stamp in units of its file, and its bytes.
+/// A packet, made by [`Session::packet`].
 #[derive(Clone, PartialEq, Eq)]
 pub struct Packet {
+    /// The time stamp, in units of the file.
     pub stamp: u64,
+    /// The bytes; none in a packet that repeats the picture before it.
     pub bytes: Vec<u8>,
 }
 
