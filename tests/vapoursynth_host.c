@@ -39,7 +39,8 @@ static void *room_of(size_t size) {
 typedef struct {
     char *key, *data;
     int64_t number;
-    bool is_number;
+    double real;
+    bool is_number, is_real;
 } Value;
 
 struct VSMap {
@@ -102,6 +103,13 @@ static int VS_CC set_int(VSMap *map, const char *key, int64_t number, int append
     Value *made = fresh_value(map, key, append);
     made->number = number;
     made->is_number = true;
+    return 0;
+}
+
+static int VS_CC set_float(VSMap *map, const char *key, double number, int append) {
+    Value *made = fresh_value(map, key, append);
+    made->real = number;
+    made->is_real = true;
     return 0;
 }
 
@@ -198,7 +206,7 @@ static void VS_CC new_filter(VSMap *out, const char *name, const VSVideoInfo *in
 static const VSAPI API = {
     .createVideoFilter = new_filter, .newVideoFrame = new_frame, .freeFrame = free_frame, .getFramePropertiesRW = properties_of, .getStride = stride_of, .getWritePtr = plane_of,
     .queryVideoFormat = query_format, .setFilterError = set_filter_error, .mapSetError = set_error, .mapGetError = get_error, .mapNumElements = count_of, .mapGetInt = get_int,
-    .mapSetInt = set_int, .mapGetData = get_data, .mapSetData = set_data,
+    .mapSetInt = set_int, .mapGetData = get_data, .mapSetFloat = set_float, .mapSetData = set_data,
 };
 
 static int VS_CC version(void) {
@@ -278,7 +286,8 @@ static void report(const Asked *one, FILE *out) {
     if (one->frame) {
         for (int k = 0; k < one->frame->properties.count; k++) {
             const Value *value = &one->frame->properties.values[k];
-            if (value->is_number) printf(" %s=%lld", value->key, (long long)value->number);
+            if (value->is_real) printf(" %s=%.17g", value->key, value->real);
+            else if (value->is_number) printf(" %s=%lld", value->key, (long long)value->number);
             else printf(" %s=%s", value->key, value->data);
         }
         write_frame(one->frame, out);

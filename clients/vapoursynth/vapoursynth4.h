@@ -30,18 +30,19 @@ typedef struct VSFrameContext VSFrameContext;
 typedef struct VSFilterDependency VSFilterDependency;
 typedef struct VSAPI VSAPI;
 
-enum { cfYUV = 3 };                  /* a colour family */
-enum { stInteger = 0 };              /* a type of samples */
-enum { fmUnordered = 2 };            /* a filter whose frames are asked for one at a time, in any order */
-enum { arInitial = 0, arError = -1 }; /* why a filter is called */
-enum { maReplace = 0, maAppend = 1 };
-enum { dtBinary = 0, dtUtf8 = 1 };
+typedef enum VSColorFamily { cfUndefined = 0, cfGray = 1, cfRGB = 2, cfYUV = 3 } VSColorFamily;
+typedef enum VSSampleType { stInteger = 0, stFloat = 1 } VSSampleType;
+/* How many frames of a filter are asked for at a time: with fmUnordered one, in any order. */
+typedef enum VSFilterMode { fmParallel = 0, fmParallelRequests = 1, fmUnordered = 2, fmFrameState = 3 } VSFilterMode;
+typedef enum VSActivationReason { arInitial = 0, arAllFramesReady = 1, arError = -1 } VSActivationReason;
+typedef enum VSMapAppendMode { maReplace = 0, maAppend = 1 } VSMapAppendMode;
+typedef enum VSDataTypeHint { dtUnknown = -1, dtBinary = 0, dtUtf8 = 1 } VSDataTypeHint;
 
-typedef struct {
+typedef struct VSVideoFormat {
     int colorFamily, sampleType, bitsPerSample, bytesPerSample, subSamplingW, subSamplingH, numPlanes;
 } VSVideoFormat;
 
-typedef struct {
+typedef struct VSVideoInfo {
     VSVideoFormat format;
     int64_t fpsNum, fpsDen;
     int width, height, numFrames;
@@ -51,7 +52,7 @@ typedef const VSFrame *(VS_CC *VSFilterGetFrame)(int n, int activationReason, vo
 typedef void(VS_CC *VSFilterFree)(void *instanceData, VSCore *core, const VSAPI *vsapi);
 typedef void(VS_CC *VSPublicFunction)(const VSMap *in, VSMap *out, void *userData, VSCore *core, const VSAPI *vsapi);
 
-typedef struct {
+typedef struct VSPLUGINAPI {
     int(VS_CC *getAPIVersion)(void);
     int(VS_CC *configPlugin)(const char *identifier, const char *pluginNamespace, const char *name, int pluginVersion, int apiVersion, int flags, VSPlugin *plugin);
     int(VS_CC *registerFunction)(const char *name, const char *args, const char *returnType, VSPublicFunction argsFunc, void *functionData, VSPlugin *plugin);
@@ -89,7 +90,9 @@ struct VSAPI {
     int64_t(VS_CC *mapGetInt)(const VSMap *map, const char *key, int index, int *error);
     VSUnused integers[2];
     int(VS_CC *mapSetInt)(VSMap *map, const char *key, int64_t i, int append);
-    VSUnused floats[6];
+    VSUnused numbers[4];
+    int(VS_CC *mapSetFloat)(VSMap *map, const char *key, double d, int append);
+    VSUnused floats;
     const char *(VS_CC *mapGetData)(const VSMap *map, const char *key, int index, int *error);
     VSUnused hints[2];
     int(VS_CC *mapSetData)(VSMap *map, const char *key, const char *data, int size, int type, int append);
@@ -98,9 +101,11 @@ struct VSAPI {
 
 /* The number of each function in the documented order. */
 #define WOKURETI_IS_AT(member, number) _Static_assert(offsetof(VSAPI, member) == (number) * sizeof(VSUnused), #member " is another function")
+WOKURETI_IS_AT(createVideoFilter, 0);
 WOKURETI_IS_AT(newVideoFrame, 12);
 WOKURETI_IS_AT(freeFrame, 16);
 WOKURETI_IS_AT(getFramePropertiesRW, 20);
+WOKURETI_IS_AT(getStride, 21);
 WOKURETI_IS_AT(getWritePtr, 23);
 WOKURETI_IS_AT(queryVideoFormat, 32);
 WOKURETI_IS_AT(setFilterError, 42);
@@ -108,6 +113,7 @@ WOKURETI_IS_AT(mapSetError, 51);
 WOKURETI_IS_AT(mapNumElements, 56);
 WOKURETI_IS_AT(mapGetInt, 59);
 WOKURETI_IS_AT(mapSetInt, 62);
+WOKURETI_IS_AT(mapSetFloat, 67);
 WOKURETI_IS_AT(mapGetData, 69);
 WOKURETI_IS_AT(mapSetData, 72);
 

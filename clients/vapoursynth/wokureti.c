@@ -2,8 +2,8 @@
  *
  *     clip = core.wokureti.Source("a.ivf", sources=["b.ivf"], script="source 1; splice 0 1", cache=64)
  *
- * Each clip holds a session of libwokureti, whose calls are all made on one thread of the clip's own. A frame that the session refuses is an
- * error of that frame, with its number, the packet and the cause; the others are served. */
+ * Each clip has a session of libwokureti, whose calls are all made on one thread of the clip's own. A frame that the session refuses is an
+ * error of that frame, with its path, its number, the packet and the cause; the others are served. */
 #include <limits.h>
 #include <pthread.h>
 #include <stdarg.h>
@@ -11,10 +11,11 @@
 #include <stdlib.h>
 #include <string.h>
 
+#include "../c/clip_facts.h"
 #include "vapoursynth4.h"
 #include "wokureti.h"
 
-enum { SOURCES = 8, MOST_STATES = 4096, TEXT = 512 };
+enum { MOST_STATES = 4096, TEXT = 1024 };
 /* The most bytes of cached states where nothing is said. */
 static const int64_t CACHE_BYTES = 512 << 20;
 
@@ -37,7 +38,7 @@ struct Source {
     wk_handle handle;
     /* What is known once the session is open. `kinds` has I or P for each frame, and is NULL with a script. */
     VSVideoInfo info;
-    char *kinds;
+    char *kinds, *paths[CLIP_SOURCES];
 };
 
 static void *work(void *given) {
@@ -87,6 +88,7 @@ static void end_source(Source *source) {
     pthread_cond_destroy(&source->changed);
     pthread_mutex_destroy(&source->lock);
     free(source->kinds);
+    for (int k = 0; k < CLIP_SOURCES; k++) free(source->paths[k]);
     free(source);
 }
 
@@ -102,25 +104,10 @@ static Source *new_source(void) {
     return NULL;
 }
 
-/* The reply to a line without its newline, cut off where the room ends. */
-static void ask(Source *source, const char *line, char reply[TEXT]) {
-    size_t length = 0, copied = 0;
-    char *whole = NULL;
-    snprintf(reply, TEXT, "out of memory");
-    if (wk_request(&source->handle, (const uint8_t *)line, strlen(line), &length) || !(whole = malloc(length + 1))) return;
-    if (!wk_text(&source->handle, (uint8_t *)whole, length, &copied)) {
-        whole[length] = 0;
-        whole[strcspn(whole, "\n")] = 0;
-        snprintf(reply, TEXT, "%s", whole);
-    }
-    free(whole);
-}
-
 /* What opening needs, and why it failed: nothing if it did not. */
 typedef struct {
-    uint8_t *files;
-    size_t ends[SOURCES], count;
-    const char *path, *script;
+    clip_files files;
+    const char *paths[CLIP_SOURCES], *script;
     /* The most cached states, or 0: then the most bytes that they take. */
     uint16_t states;
     uint64_t bytes;
@@ -135,176 +122,83 @@ static bool fails(Opening *opening, const char *form, ...) {
     return false;
 }
 
-static uint64_t number_at(const uint8_t *bytes, size_t size) {
-    uint64_t number = 0;
-    while (size--) number = number << 8 | bytes[size];
-    return number;
+/* Fails with why a request line is refused, after the path of source 0; true if it is not. */
+static bool is_answered(Source *source, Opening *opening, const char *line, const char *before) {
+    char *why = clip_refusal(&source->handle, line);
+    bool is = !why || fails(opening, "%.400s: %s%s", opening->paths[0], before, why);
+    free(why);
+    return is;
 }
 
-/* A record of an IVF file: the packet's bytes, and the place of the next record. */
-typedef struct {
-    const uint8_t *bytes;
-    uint64_t size, stamp;
-    size_t next;
-} Record;
-
-/* The record at a place of the first file; false at its end, and where the record is cut off. */
-static bool record_at(const Opening *opening, size_t at, Record *found) {
-    size_t end = opening->ends[0];
-    if (at > end || end - at < 12) return false;
-    found->size = number_at(opening->files + at, 4);
-    found->stamp = number_at(opening->files + at + 4, 8);
-    found->bytes = opening->files + at + 12;
-    if (found->size > end - at - 12) return false;
-    found->next = at + 12 + (size_t)found->size;
-    return true;
-}
-
-static bool is_shown(const Record *record) {
-    return record->size < 3 || record->bytes[0] & 16;
-}
-
-static size_t first_record(const Opening *opening) {
-    return (size_t)number_at(opening->files + 6, 2);
-}
-
-static int by_step(const void *a, const void *b) {
-    uint64_t x = *(const uint64_t *)a, y = *(const uint64_t *)b;
-    return (x > y) - (x < y);
-}
-
-/* The time of a frame in units of the file: the median step of the time stamps of its shown packets, 1 if there is none. */
-static uint64_t frame_step(const Opening *opening, size_t frames) {
-    uint64_t *steps = malloc((frames + 1) * sizeof *steps), before = 0, step = 1;
-    size_t count = 0;
-    bool is_first = true;
-    Record record;
-    if (!steps) return 1;
-    for (size_t at = first_record(opening); record_at(opening, at, &record); at = record.next) {
-        if (!is_shown(&record)) continue;
-        if (!is_first && record.stamp > before && count < frames) steps[count++] = record.stamp - before;
-        before = record.stamp;
-        is_first = false;
-    }
-    if (count) {
-        qsort(steps, count, sizeof *steps, by_step);
-        step = steps[count / 2];
-    }
-    free(steps);
-    return step;
-}
-
-static int64_t common_divisor(int64_t a, int64_t b) {
-    while (b) {
-        int64_t left = a % b;
-        a = b;
-        b = left;
-    }
-    return a;
-}
-
-/* Frames a second, as a fraction: rate and scale of the file, or 30 and 1 if either is 0, over the time of a frame. */
-static void set_rate(Source *source, const Opening *opening, size_t shown) {
-    uint64_t rate = number_at(opening->files + 16, 4), scale = number_at(opening->files + 20, 4), step = frame_step(opening, shown);
-    if (!rate || !scale) rate = 30, scale = 1;
-    if (step > INT64_MAX / scale) step = 1;
-    int64_t most = (int64_t)(scale * step), common = common_divisor((int64_t)rate, most);
-    source->info.fpsNum = (int64_t)rate / common;
-    source->info.fpsDen = most / common;
-}
-
-/* The number of shown packets of source 0; if `kinds` is not NULL, it gets the kind of each. */
-static size_t shown_packets(const Opening *opening, char *kinds) {
-    size_t shown = 0;
-    Record record;
-    for (size_t at = first_record(opening); record_at(opening, at, &record); at = record.next) {
-        if (!is_shown(&record)) continue;
-        if (kinds) kinds[shown] = record.size >= 3 && !(record.bytes[0] & 1) ? 'I' : 'P';
-        shown++;
-    }
-    return shown;
+static bool set_script(Source *source, Opening *opening) {
+    size_t size = strlen(opening->script) + sizeof "script ";
+    char *line = malloc(size);
+    if (!line) return fails(opening, "out of memory");
+    snprintf(line, size, "script %s", opening->script);
+    bool is_set = is_answered(source, opening, line, "script: ");
+    free(line);
+    return is_set;
 }
 
 /* The number of frames of the script, and the size of the first one that is served: the session then refuses frames of another size. */
 static bool find_frames(Source *source, Opening *opening) {
-    char reply[TEXT];
     unsigned long long frames = 0;
     wk_shown shown = {0};
-    ask(source, "count", reply);
-    if (sscanf(reply, "packets %*u frames %llu", &frames) != 1) return fails(opening, "%s", reply);
-    if (!frames) return fails(opening, "there are no frames");
+    char *counts = clip_ask(&source->handle, "count");
+    bool is_counted = counts && sscanf(counts, "packets %*u frames %llu", &frames) == 1;
+    free(counts);
+    if (!is_counted) return fails(opening, "out of memory");
+    if (!frames) return fails(opening, "%.400s: there are no frames", opening->paths[0]);
     if (frames > INT_MAX) return fails(opening, "there are %llu frames, more than VapourSynth numbers", frames);
     for (unsigned long long n = 0; n < frames && !shown.width; n++) wk_frame(&source->handle, n, NULL, 0, NULL, 0, NULL, 0, &shown);
-    if (!shown.width) {
-        ask(source, "frame 0", reply);
-        return fails(opening, "no frame is served; frame 0: %s", reply);
-    }
+    if (!shown.width) return is_answered(source, opening, "frame 0", "no frame is served; frame 0: ") && fails(opening, "no frame is served");
     if (shown.width % 2 || shown.height % 2)
-        return fails(opening, "the frames have %ux%u samples: VapourSynth's YUV420P8 needs even sides", shown.width, shown.height);
+        return fails(opening, "%.400s: the frames have %ux%u samples: VapourSynth's YUV420P8 needs even sides", opening->paths[0], shown.width, shown.height);
     source->info.numFrames = (int)frames;
     source->info.width = (int)shown.width;
     source->info.height = (int)shown.height;
     return true;
 }
 
-static bool set_script(Source *source, Opening *opening) {
-    char reply[TEXT];
-    size_t size = strlen(opening->script) + sizeof "script ";
-    char *line = malloc(size);
-    if (!line) return fails(opening, "out of memory");
-    snprintf(line, size, "script %s", opening->script);
-    ask(source, line, reply);
-    free(line);
-    return strncmp(reply, "ok ", 3) ? fails(opening, "script: %s", reply) : true;
-}
-
-static bool find_kinds(Source *source, Opening *opening) {
-    char reply[TEXT];
-    ask(source, "script", reply);
-    if (strcmp(reply, "script -")) return true;
-    source->kinds = malloc((size_t)source->info.numFrames + 1);
-    if (!source->kinds) return fails(opening, "out of memory");
-    if (shown_packets(opening, NULL) != (size_t)source->info.numFrames) return fails(opening, "the file has other packets than the session");
-    shown_packets(opening, source->kinds);
+/* The frame rate, and without a script the kinds of the frames. */
+static bool find_facts(Source *source, Opening *opening) {
+    clip_facts facts;
+    if (!clip_look(&source->handle, &opening->files, &facts)) return fails(opening, "out of memory");
+    source->info.fpsNum = facts.rate.many;
+    source->info.fpsDen = facts.rate.one;
+    char *script = clip_ask(&source->handle, "script");
+    bool has_kinds = script && !strcmp(script, "script -") && facts.shown == (size_t)source->info.numFrames;
+    free(script);
+    if (has_kinds) source->kinds = facts.kinds;
+    else free(facts.kinds);
     return true;
 }
 
 static uint32_t open_handle(wk_handle *handle, const Opening *opening, wk_fault *fault) {
-    size_t size = opening->ends[opening->count - 1];
-    if (opening->states) return wk_open(handle, opening->files, size, opening->ends, opening->count, opening->states, NULL, 0, fault);
-    return wk_open_bytes(handle, opening->files, size, opening->ends, opening->count, opening->bytes, NULL, 0, fault);
+    const clip_files *files = &opening->files;
+    size_t size = files->ends[files->count - 1];
+    if (opening->states) return wk_open(handle, files->bytes, size, files->ends, files->count, opening->states, NULL, 0, fault);
+    return wk_open_bytes(handle, files->bytes, size, files->ends, files->count, opening->bytes, NULL, 0, fault);
 }
 
 static void open_session(Source *source, void *given) {
-    static const char *causes[] = {"", "Header", "Magic", "FourCc", "HeaderLength", "TooMany", "NoMemory", "DocType", "NoTracks", "NoVideo", "Encoded", "Scale"};
     Opening *opening = given;
     wk_fault fault = {0};
     uint32_t status = open_handle(&source->handle, opening, &fault);
     if (status == WK_FILE) {
-        fails(opening, "source %llu is no IVF or WebM file of VP8: %s", (unsigned long long)fault.source, causes[fault.cause]);
+        fails(opening, "%.400s is not an IVF, WebM or Matroska file of VP8: %s", opening->paths[fault.source], clip_file_cause(fault.cause));
     } else if (status) {
         fails(opening, status == WK_MEMORY ? "out of memory" : "the session is not opened (%u)", status);
-    } else if ((!opening->script[0] || set_script(source, opening)) && find_frames(source, opening) && find_kinds(source, opening)) {
-        set_rate(source, opening, shown_packets(opening, NULL));
+    } else if ((!opening->script[0] || set_script(source, opening)) && find_frames(source, opening)) {
+        find_facts(source, opening);
     }
 }
 
 /* Adds the bytes of a file. */
 static bool read_file(Opening *opening, const char *path) {
-    size_t size = opening->count ? opening->ends[opening->count - 1] : 0;
-    FILE *file = fopen(path, "rb");
-    if (!file || fseek(file, 0, SEEK_END)) {
-        if (file) fclose(file);
-        return fails(opening, "cannot read %s", path);
-    }
-    long more = ftell(file);
-    uint8_t *files = more < 0 || more == LONG_MAX ? NULL : realloc(opening->files, size + (size_t)more + 1);
-    if (files) opening->files = files;
-    rewind(file);
-    bool is_read = files && fread(files + size, 1, (size_t)more, file) == (size_t)more;
-    fclose(file);
-    opening->ends[opening->count++] = size + (size_t)more;
-    return is_read ? true : fails(opening, "cannot read %s", path);
+    opening->paths[opening->files.count] = path;
+    const char *why = clip_add_file(&opening->files, path);
+    return why ? fails(opening, "cannot read %.400s: %s", path, why) : true;
 }
 
 /* Takes `cache`, a number of states, or `cache_bytes`. */
@@ -322,13 +216,13 @@ static bool take_cache(Opening *opening, const VSMap *in, const VSAPI *api) {
 /* Takes the arguments of Source. */
 static bool take_arguments(Opening *opening, const VSMap *in, const VSAPI *api) {
     int error = 0, sources = api->mapNumElements(in, "sources");
-    opening->path = api->mapGetData(in, "path", 0, &error);
+    const char *first = api->mapGetData(in, "path", 0, &error);
     if (error) return fails(opening, "path is missing");
     opening->script = api->mapGetData(in, "script", 0, &error);
     if (error) opening->script = "";
     if (!take_cache(opening, in, api)) return false;
-    if (sources >= SOURCES) return fails(opening, "there are more than seven sources");
-    if (!read_file(opening, opening->path)) return false;
+    if (sources >= CLIP_SOURCES) return fails(opening, "there are more than seven sources");
+    if (!read_file(opening, first)) return false;
     for (int k = 0; k < sources; k++) {
         const char *path = api->mapGetData(in, "sources", k, &error);
         if (error || !read_file(opening, path)) return false;
@@ -357,10 +251,13 @@ static void serve(Source *source, void *given) {
     wk_shown shown = {.luma_stride = stride[0], .chroma_stride = stride[1]};
     uint32_t status = wk_frame(&source->handle, (uint64_t)wanted->number, at[0], size[0], at[1], size[1], at[2], size[2], &shown);
     if (!status) return;
-    char line[32], reply[TEXT] = "refused NoMemory";
+    char line[32];
     snprintf(line, sizeof line, "frame %d", wanted->number);
-    if (status != WK_NO_MEMORY) ask(source, line, reply);
-    snprintf(wanted->wrong, TEXT, "wokureti: %s: %.400s", line, reply);
+    char *why = clip_refusal(&source->handle, line);
+    /* Of the source that the packet is of. */
+    const char *path = status == WK_PACKET && shown.source < CLIP_SOURCES ? source->paths[shown.source] : source->paths[0];
+    snprintf(wanted->wrong, TEXT, "wokureti: %.400s: %s: %s", path, line, why ? why : "refused NoMemory");
+    free(why);
 }
 
 /* BT.601, limited range, chroma samples in the middle of four (as in JPEG), frames that are not interlaced: what VP8 is. */
@@ -371,6 +268,7 @@ static void set_properties(const Source *source, int number, VSMap *properties, 
     api->mapSetInt(properties, "_FieldBased", 0, maReplace);
     api->mapSetInt(properties, "_DurationNum", source->info.fpsDen, maReplace);
     api->mapSetInt(properties, "_DurationDen", source->info.fpsNum, maReplace);
+    api->mapSetFloat(properties, "_AbsoluteTime", (double)number * (double)source->info.fpsDen / (double)source->info.fpsNum, maReplace);
     if (source->kinds) api->mapSetData(properties, "_PictType", source->kinds + number, 1, dtUtf8, maReplace);
 }
 
@@ -396,16 +294,22 @@ static void VS_CC free_source(void *instance, VSCore *core, const VSAPI *api) {
     end_source(instance);
 }
 
+static bool keep_paths(Source *source, Opening *opening) {
+    for (size_t k = 0; k < opening->files.count; k++)
+        if (!(source->paths[k] = strdup(opening->paths[k]))) return fails(opening, "out of memory");
+    return true;
+}
+
 static void VS_CC create(const VSMap *in, VSMap *out, void *given, VSCore *core, const VSAPI *api) {
     (void)given;
     Opening opening = {0};
     Source *source = NULL;
     if (take_arguments(&opening, in, api)) {
         source = new_source();
-        if (source) on_worker(source, open_session, &opening);
-        else fails(&opening, "no thread for the session");
+        if (source && keep_paths(source, &opening)) on_worker(source, open_session, &opening);
+        else if (!source) fails(&opening, "no thread for the session");
     }
-    free(opening.files);
+    free(opening.files.bytes);
     if (opening.wrong[0]) {
         char text[TEXT + 32];
         snprintf(text, sizeof text, "wokureti.Source: %s", opening.wrong);

@@ -56,7 +56,8 @@ def source(stream, script=None, **options):
     VapourSynth caches frames: make a new clip after an edit.
 
     The sides of the frames must be even. A frame that is refused raises an error with the reply when it is asked for. Each frame has the
-    properties `_Matrix`, `_ColorRange`, `_ChromaLocation` and `_FieldBased`, and `_PictType` if there is no script.
+    properties `_Matrix`, `_ColorRange`, `_ChromaLocation`, `_FieldBased`, `_DurationNum`, `_DurationDen` and `_AbsoluteTime`, and `_PictType` if there
+    is no script.
     """
     session = stream if isinstance(stream, Session) else Session(stream, **options)
     try:
@@ -85,7 +86,8 @@ def _clip(session, script):
         frame = f.copy()
         for index, plane in enumerate((served.y, served.u, served.v)):
             _write(frame, index, plane)
-        for name, value in PROPERTIES.items():
+        times = {"_DurationNum": rate.denominator, "_DurationDen": rate.numerator, "_AbsoluteTime": float(n / rate)}
+        for name, value in {**PROPERTIES, **times}.items():
             frame.props[name] = value
         if kinds is not None:
             frame.props["_PictType"] = "I" if kinds[n] == "key" else "P"

@@ -126,6 +126,8 @@ class Source(Case):
             props = clip.get_frame(number).props
             self.assertEqual(props["_PictType"], "I" if kinds[number] == "key" else "P")
             self.assertEqual((props["_Matrix"], props["_ColorRange"], props["_ChromaLocation"], props["_FieldBased"]), (6, 1, 1, 0))
+            self.assertEqual((props["_DurationDen"], props["_DurationNum"]), session.rate)
+            self.assertEqual(props["_AbsoluteTime"], number * session.rate[1] / session.rate[0])
 
     def test_an_empty_stream_and_its_edits(self):
         with self.assertRaisesRegex(ValueError, "no frames"):
