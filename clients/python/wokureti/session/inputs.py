@@ -124,12 +124,13 @@ class Input:
     def read_index(self):
         if self.descriptor is None:
             return ivf.Index()
-        if self.facts is not None:
-            index = webm.index_of(self.tools[1], *self.readable(), self.signature)
-        else:
+        try:
+            if self.facts is not None:
+                return webm.index_of(self.tools[1], *self.readable(), self.signature)
             self.head, index = ivf.read_index(self.descriptor)
-        self.check()
-        return index
+            return index
+        finally:
+            self.check()
 
     def step(self):
         """The median of the steps between the time stamps of shown packets: the time of a frame. 1 if there is none."""
