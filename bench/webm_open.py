@@ -9,6 +9,7 @@ checkout of another version, whose client is measured too. The programs are thos
 """
 
 import argparse
+import contextlib
 import json
 import os
 import pathlib
@@ -58,9 +59,11 @@ def finished(words, **more):
 def processes(pid):
     """A process, and all that it started and that run."""
     found = [pid]
-    for task in pathlib.Path(f"/proc/{pid}/task").iterdir():
-        for child in (task / "children").read_text().split():
-            found += processes(int(child))
+    for task in os.listdir(f"/proc/{pid}/task"):
+        # A thread may have ended.
+        with contextlib.suppress(FileNotFoundError):
+            for child in pathlib.Path(f"/proc/{pid}/task/{task}/children").read_text().split():
+                found += processes(int(child))
     return found
 
 

@@ -132,7 +132,7 @@ def searched(path, folder, watch=None, second=None):
         # It ends between two blocks, and before its end.
         found.gaps.append((len(data), len(data), len(found.blocks)))
     out = new_name(folder, "ivf")
-    sought = blocks.as_file(found, given, out)
+    sought = blocks.as_file(found, given, out, webm.blocks_of(given, data))
     lost = "" if found.tracks else "; what it says of its tracks is lost"
     say(f"{name} is a damaged WebM or Matroska file: its packets were searched{sound_text(containers.media_of(out))}{lost}")
     return out, (*sought, len(data))

@@ -15,6 +15,7 @@ from typing import NamedTuple
 
 from .. import system
 from . import blocks, containers, ivf, programs
+from ..session import checks
 
 MARK = b"\x1a\x45\xdf\xa3"
 EBML, ENCODINGS, DURATION = 0x1A45DFA3, 0x6D80, 0x23E383
@@ -166,6 +167,20 @@ def parsed(file):
     for place in [place for place, length in enumerate(index.sizes) if not length]:
         index.tags[place] |= ivf.NO_BYTES
     return index
+
+
+def blocks_of(path, data):
+    """The packets of a file with these bytes, as `blocks.Block` has them, as vp8list reads them; None if it reads none. In a damaged file it finds more of them than
+    `blocks.find`, unless the beginning is damaged: then it reads nothing."""
+    if not is_read(path):
+        return None
+    with open(path, "rb") as file:
+        head = facts_of(file.fileno()).head
+    try:
+        index = read_index(programs.find("vp8list"), checks.path(path), ())
+    except OSError:
+        return None
+    return [blocks.Block(0, stamp * head.scale * 1000 // head.rate, start, data[start : start + size]) for start, size, stamp in zip(index.starts, index.sizes, index.stamps)]
 
 
 # Damage
