@@ -42,19 +42,15 @@ def run(folder, source, lines, *words):
     return done.returncode, done.stdout, first, frames, done.stderr.decode()
 
 
-def random_lines(dice, count):
-    """Edits, scripts, questions and frames of a stream of so many packets."""
-    lines = []
+def random_lines(dice, packets):
+    """Requests of every kind for a stream of these packets, and frames."""
+    lines, count = [], len(packets)
     for _ in range(dice.randint(5, 25)):
-        at = dice.randint(0, count)
-        lines.append(
-            dice.choice(
-                [
-                    f"frame {at}", f"frame {at}", f"frame {at}", f"delete {at}", f"hide {at}", f"show {at}", f"move {at} {dice.randint(0, count)}", f"copy 0 {at} {dice.randint(0, count)}", f"hold {at}",
-                    f"script trim 0 {at} 9", "script -", f"list {at} 5", f"check {at} 4", f"header {at} 2", "count", "stats", f"origins {at} 3", "shown",
-                ]
-            )
-        )
+        at, to, data = dice.randint(0, count), dice.randint(0, count), dice.choice(packets).hex()
+        edits = [f"delete {at}", f"hide {at}", f"show {at}", f"move {at} {to}", f"copy 0 {at} {to}", f"hold {at}", f"blank {at} 176 144", f"insert {at} {to} {data}", f"replace {at} {data}", "use 0", "use 1"]
+        scripts = [f"script trim 0 {at} 9", f"script parts 0 {at} 2 0 {to} 3", f"script source 0; splice 0 1; trim 2 {at} 9", f"script fade 0 {at} 4 0 256", f"script crop 0 16 16 64 48; trim 1 {at} 5", "script -", "script"]
+        asked = [f"list {at} 5", f"check {at} 4", f"header {at}", f"macroblocks {at}", f"packet {at}", "count", "stats", f"origins {at} 3", "shown"]
+        lines.append(dice.choice([f"frame {at}", *dice.choice([edits, scripts, asked])]))
     return "\n".join(lines) + "\n"
 
 
@@ -66,7 +62,7 @@ def same_answers(folder, dice, packets):
     duration = dice.choice([None, 40_000_000, 33_366_667])
     (folder / "a.ivf").write_bytes(ivf(packets, stamps))
     (folder / "a.webm").write_bytes(webm(packets, stamps, duration=duration))
-    lines = random_lines(dice, len(packets))
+    lines = random_lines(dice, packets)
     one, other = (run(folder, folder / name, lines) for name in ("a.ivf", "a.webm"))
     for part, of_ivf, of_webm in zip(("status", "replies", "frames"), (one[0], one[1], one[3]), (other[0], other[1], other[3])):
         if of_ivf != of_webm:
@@ -157,7 +153,9 @@ def same_lists(folder, dice, packets):
     text = webm(packets, stamps)
     (folder / "a.ivf").write_bytes(ivf(packets, stamps))
     (folder / "a.webm").write_bytes(text)
-    for words in (["--header", "all"], ["--header", "0", "--json"], ["--macroblocks", "all"], ["--macroblocks", "0", "--json"], ["--hash"], ["--check"], ["--check", "--json", "--strict"]):
+    details = [[option, which, *form] for option in ("--header", "--macroblocks") for which in ("0", "all", f"0-{len(packets) - 1}", f"{len(packets)}") for form in ([], ["--json"])]
+    checks = [["--check", *form, *strict] for form in ([], ["--json"]) for strict in ([], ["--strict"])]
+    for words in (*details, ["--hash"], *checks):
         one, other = (listed(folder / name, *words) for name in ("a.ivf", "a.webm"))
         if one != other:
             yield f"vp8list {words} of IVF and WebM differ: {one[0]} {one[2]!r}, {other[0]} {other[2]!r}"
@@ -213,7 +211,7 @@ def findings(folder, packets):
     are not listed."""
     few = packets[:5]
     text = webm(few, [40 * at for at in range(5)])
-    last = block(3, 160, few[-1])
+    before, last = block(3, 120, few[3]), block(3, 160, few[4])
     begins, head = text.index(last), 13
     opened, segment = text.index(number(CLUSTER)), text.index(number(SEGMENT))
     timed = opened + 12
@@ -238,7 +236,7 @@ def findings(folder, packets):
         (text[:-1], f"damage: element at byte {begins}: the file ends within it, {len(last) - 1} bytes are there", {"kind": "cut_element", "byte": begins, "left": len(last) - 1, "severity": "damage"}),
         # A block that no element follows is not trusted.
         (text + bytes(9), *skipped(begins, len(last) + 9)),
-        (text[:begins] + bytes(7) + text[begins:], *skipped(begins - len(block(3, 120, few[3])), len(block(3, 120, few[3])) + 7)),
+        (text[:begins] + bytes(7) + text[begins:], *skipped(begins - len(before), len(before) + 7)),
         (text[: begins + head - 1] + b"\2" + text[begins + head :], f"damage: block at byte {begins}: laced packets of the video, which are left out", {"kind": "laced_block", "byte": begins, "severity": "damage"}),
         (text[: begins + head - 4] + b"\x87" + text[begins + head - 3 :], f"note: block at byte {begins}: track 7, which the file does not list", {"kind": "unlisted_block", "byte": begins, "track": 7, "severity": "note"}),
     ):

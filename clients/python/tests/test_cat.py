@@ -17,7 +17,7 @@ from unittest import mock
 
 from support import DATA, ODD, SLOW, SMALL, Case, command, packets_of, start, start_python, start_unwaking, whole_text, write_packets
 from wokureti import Session, commands, system
-from wokureti.tools import cat, machines, parts, programs, rooms
+from wokureti.tools import cat, machines, parts, programs, rooms, webm
 
 SCENES = DATA / "scene-cuts.ivf"
 HIDDEN = DATA / "hidden-altref.ivf"
@@ -210,10 +210,12 @@ class Containers(Case):
         self.packets = packets_of(SCENES)
 
     def test_each_command_reads_them(self):
+        # Earlier programs read no WebM files.
+        is_copied = not webm.is_read(self.webm)
         status, text, errors = command("cat", self.webm)
-        self.assertEqual((status, b"".join(text.split(b"\n", 1)[1:]) == whole_text(SCENES).split(b"\n", 1)[1], "took its packets out" in errors), (0, True, True))
+        self.assertEqual((status, b"".join(text.split(b"\n", 1)[1:]) == whole_text(SCENES).split(b"\n", 1)[1], "took its packets out" in errors), (0, True, is_copied))
         status, piped, errors = command("cat", "-", given=self.webm.read_bytes())
-        self.assertEqual((status, piped == text, "standard input is a WebM" in errors), (0, True, True))
+        self.assertEqual((status, piped == text, "standard input is a WebM" in errors), (0, True, is_copied))
         self.assertEqual(command("compare", "-", SCENES, given=self.webm.read_bytes())[0], 0)
         status, _, _ = command("repair", "-", self.room / "out.ivf", given=self.webm.read_bytes())
         self.assertEqual((status, packets_of(self.room / "out.ivf")), (0, self.packets))
@@ -232,8 +234,8 @@ class Containers(Case):
             with self.assertRaisesRegex(ValueError, "a file of the session"):
                 stream.save(self.webm)
         self.assertEqual(packets_of(self.room / "saved.ivf"), [self.packets[3], *self.packets])
-        # The folder with the packets is gone.
-        self.assertFalse(os.path.exists(stream._inputs.room.name))
+        # There is no folder with the packets, or with earlier programs it is gone.
+        self.assertFalse(stream._inputs.room is not None and os.path.exists(stream._inputs.room.name))
 
 
 class Bounded(Case):

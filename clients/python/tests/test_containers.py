@@ -475,7 +475,9 @@ class HowFar(Case):
 
     def test_a_terminal_shows_it(self):
         """Of each command: one that has a line of its own, and one that has none."""
-        path, room = clip("talk.webm"), self.folder()
+        room = self.folder()
+        path = room / "talk.avi"
+        ffmpeg("-i", clip("talk.webm"), "-an", "-c", "copy", path)
         for words in (("cut", path, room / "out.ivf", "--from", "f2"), ("cat", path, "/dev/null"), ("repair", path, room / "repaired.ivf")):
             ours, theirs = pty.openpty()
             process = start(*words, stdout=subprocess.DEVNULL, stderr=theirs, env=self.slow("ffmpeg"))
@@ -488,7 +490,7 @@ class HowFar(Case):
                 pass
             os.close(ours)
             process.wait(20 * SLOW)
-            self.assertRegex(said.decode(), r"taking the packets out of .*talk\.webm: \d+ %, \d+ s", words[0])
+            self.assertRegex(said.decode(), r"taking the packets out of .*talk\.avi: \d+ %, \d+ s", words[0])
 
     def test_a_terminal_shows_how_far_a_large_file_is_read(self):
         """Each step of it has per cent, once it takes a second."""
@@ -512,7 +514,9 @@ class HowFar(Case):
         self.assertRegex(said.getvalue(), r"searching: \d+ %, \d+ s")
 
     def test_what_is_no_terminal_is_told_once(self):
-        status, _, errors = command("cat", clip("silent.webm"), "/dev/null", env=self.slow("ffmpeg"))
+        path = self.folder() / "silent.avi"
+        ffmpeg("-i", clip("silent.webm"), "-c", "copy", path)
+        status, _, errors = command("cat", path, "/dev/null", env=self.slow("ffmpeg"))
         self.assertEqual((status, len(errors.splitlines())), (0, 1), errors)
 
 

@@ -20,7 +20,7 @@ from support import DATA, SLOW, SMALL, Case, command, packets_of, serve, start, 
 from test_containers import clip, frames, media, needs_ffmpeg, setUpModule, sound_packets  # noqa: F401
 from wokureti.page import opened
 from test_serve import TOKEN
-from wokureti.tools import containers, convert, cut_lists, exports, ivf, opus, programs, progress
+from wokureti.tools import containers, convert, cut_lists, exports, ivf, opus, programs, progress, webm
 
 MS = 10**6
 SCENES = DATA / "scene-cuts.ivf"
@@ -444,7 +444,8 @@ class OnThePage(test_page.PageCase, EndlessCase):
             heard.append(self.members("/progress")["opening"])
             return real(path, out, watch)
 
-        with mock.patch.object(containers, "read_by_core", return_value=False), mock.patch.object(containers, "read", read):
+        # As with earlier programs, which read no WebM files.
+        with mock.patch.object(webm, "is_read", return_value=False), mock.patch.object(containers, "read_by_core", return_value=False), mock.patch.object(containers, "read", read):
             self.assertEqual(self.post_to("/sources", file=str(other))[0], 200)
         self.assertEqual([(found["what"], found["done"], found["total"]) for found in heard], [(f"taking the packets out of {other}", 300, 1000)])
         self.assertIsNone(self.members("/progress")["opening"])

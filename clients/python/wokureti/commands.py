@@ -14,7 +14,7 @@ import traceback
 from . import __version__, system
 from .calls import recordings
 from .session import checks, named
-from .tools import cat, containers, convert, excerpts, files, ivf, muxing, programs, rooms, sounds, versions
+from .tools import cat, containers, convert, excerpts, files, ivf, muxing, programs, rooms, sounds, versions, webm
 from .session.errors import Ended, Lost, Refused, sentence
 from .tools.progress import say
 
@@ -112,7 +112,7 @@ def opener(given, folder):
     """A function that opens such a session."""
     add_named(given)
     cat.check_output(given.out, [given.stream, *given.source, given.edits, given.tables])
-    stream, *sources = (convert.as_ivf(path, folder) for path in [given.stream, *given.source])
+    stream, *sources = (convert.readable(path, folder) for path in [given.stream, *given.source])
     return lambda: cat.open_session(stream, sources, given.edits, given.script, given.tables, programs.find("vp8serve"), given.anyway)
 
 
@@ -120,10 +120,9 @@ def status_of(session, is_anyway):
     """The exit status of a command that read the streams of a session: 1 if the file of one of them ends in the middle or is damaged, which is said."""
     found = 0
     for item in session.edits.contents().inputs.all:
-        for text in item.damage():
-            if text not in containers.damage_of(item.path):
-                say(text)
-            found = 1
+        texts = item.damage()
+        found = max(found, int(bool(texts)))
+        convert.say_damage([text for text in texts if text not in containers.damage_of(item.path)], "" if item.facts is None else convert.SEARCHES)
     return 0 if is_anyway else found
 
 
@@ -214,7 +213,7 @@ def add_sound(parser):
 
 def served(given, folder):
     """The options of a session."""
-    stream, *sources = (convert.as_ivf(path, folder) for path in [given.stream, *given.source])
+    stream, *sources = (convert.readable(path, folder) for path in [given.stream, *given.source])
     return {"stream": stream, "sources": sources, "cache": given.cache, "tables": given.tables}
 
 
@@ -487,7 +486,7 @@ def run_script(given, streams, script_of, inputs=()):
     exports.check_program(program)
     with rooms.Room() as room, progress.Stages() as stages:
         stages.stage("reading the packets")
-        paths = [convert.as_ivf(path, room, watch=stages) for path in streams]
+        paths = [convert.readable(path, room, watch=stages) for path in streams]
         stages.stage("opening the streams" if len(streams) > 1 else f"opening {os.fsdecode(streams[0])}")
         with cat.open_session(paths[0], paths[1:], edits, script, given.tables, program, given.anyway) as session:
             if script_of is not None:
@@ -568,11 +567,15 @@ def add_check(commands):
 def run_lister(given, words):
     """Runs vp8list on the packets of IN. What is said of the file is on standard error, and what is missing of a capture is among the findings."""
     with rooms.Room() as folder:
-        path = convert.as_ivf(given.stream, folder)
+        path = convert.readable(given.stream, folder)
         for one in recordings.missing.get(path, ()) if words else ():
             print(one.json() if "--json" in given.options else f"damage: {one.text()}", flush=True)
         done = subprocess.run([programs.find("vp8list"), path, *words, *given.options], stdin=subprocess.DEVNULL, check=False)
-        return max(done.returncode, int(bool(containers.damage_of(path))))
+        damage = containers.damage_of(path)
+        if not damage and webm.media_of(path) is not None:
+            damage = webm.damage_of(programs.find("vp8serve"), path, (), given.stream)
+            convert.say_damage(damage)
+        return max(done.returncode, int(bool(damage)))
 
 
 def add_repair(commands):

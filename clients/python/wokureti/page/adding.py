@@ -5,7 +5,7 @@ import os
 
 from .. import system
 from ..tools import convert, muxing
-from ..tools.containers import media_of
+from ..tools.webm import media_of
 from ..session.errors import Ended
 
 ENDINGS = (".ivf", ".webm", ".mkv")
@@ -60,7 +60,7 @@ def add(live, path, stem):
         raise Cannot(f"a session has at most {MOST_SOURCES} streams")
     try:
         with live.opening(os.path.basename(path)) as watch:
-            taken = convert.as_ivf(path, live.room.name, watch=watch)
+            taken = convert.readable(path, live.room.name, watch=watch)
         live.add_source(taken, stem, muxing.ending_for(media_of(taken)))
     except (Ended, OSError, ValueError) as error:
         raise Cannot(f"{os.path.basename(path)} was not added: {error}") from None

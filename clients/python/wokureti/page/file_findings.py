@@ -4,7 +4,7 @@ packets too: so they are found here a second time."""
 import os
 
 from .. import system
-from ..tools import containers, ivf
+from ..tools import ivf
 
 
 def finding(severity, kind, **numbers):
@@ -18,7 +18,7 @@ def sides(size):
 def at_header(contents, stream, size):
     """Those at the header of the file, or of that of a save if the packets were edited. `size` is the one of the first key packet, or None."""
     item, found = contents.inputs.all[0], []
-    if is_whole(contents, stream):
+    if is_whole(contents, stream) and item.facts is None:
         claimed = int.from_bytes(system.pread(item.opened(), ivf.HEAD.size, 0)[24:28], "little")
         if claimed != len(stream):
             found.append(finding("note", "frame_count", claimed=claimed, packets=len(stream)))
@@ -33,7 +33,7 @@ def at_header(contents, stream, size):
 def at_end(contents, stream):
     """Those of the container, which no packet has, and those at the end of the file, if the packets are all of its whole records."""
     item = contents.inputs.all[0]
-    found = [finding("damage", "container", text=text) for text in containers.damage_of(item.path)]
+    found = [finding("damage", "container", text=text) for text in item.damage_around()]
     if not is_whole(contents, stream) or not item.left():
         return found
     begins = os.fstat(item.opened()).st_size - item.left()

@@ -10,7 +10,7 @@ from ..tools.exports import Frames
 
 def has_sound(contents):
     """Whether a stream was opened with sound."""
-    return any(item.media is not None and item.media.sounds for item in contents.inputs.all)
+    return any(item.media is not None and item.media.has_sound for item in contents.inputs.all)
 
 
 class Sounding:

@@ -6,7 +6,7 @@ import re
 import secrets
 import threading
 
-from ..tools import containers, facts, muxing, rooms
+from ..tools import containers, facts, muxing, rooms, webm
 from ..session.edit_files import NotWritten
 from ..session.errors import Ended, Lost, Refused
 from ..session.outcomes import Outcomes
@@ -29,7 +29,7 @@ class Changed(Exception):
 def with_damage(lines, contents):
     """The lines of `vp8list --check` of the packets of source 0, with the damage of its file, which these packets do not have."""
     item = contents.inputs.all[0]
-    texts = containers.damage_of(item.path) if contents.is_edited(0, contents.streams[0]) else item.damage()
+    texts = item.damage_around() if contents.is_edited(0, contents.streams[0]) else item.damage()
     if not texts or not lines:
         return lines
     summary = re.sub(r"damage: (\d+)", lambda found: f"damage: {int(found.group(1)) + len(texts)}", lines[-1])
@@ -70,7 +70,7 @@ class Live:
         self.changed = threading.Condition(self.lock)
         self.instance, self.revision = secrets.token_hex(4), 1
         paths = [self.options.get("stream", "-"), *self.options.get("sources", ())]
-        self.saves = Saves(save, stems, [muxing.ending_for(containers.media_of(path)) for path in paths])
+        self.saves = Saves(save, stems, [muxing.ending_for(webm.media_of(path)) for path in paths])
         self.room = rooms.Room()
         self.viewers, self.log = [], []
         self.known, self.found = (None, None), (None, None)

@@ -86,7 +86,7 @@ def packet_of(text):
 
 
 class Kept:
-    """The records of packets of files, in a file without a name: those that follow each other are one part of it."""
+    """The records of packets of files, in a file without a name: those that follow each other are one part of it, which has the place of each record and its end."""
 
     def __init__(self, contents):
         self.contents, self.file, self.firsts, self.parts = contents, None, [], []
@@ -104,24 +104,23 @@ class Kept:
                     self.file.writelines(item.read_records(index, index + stop - first))
                     self.file.flush()
                     place = bisect.bisect(self.firsts, first)
+                    sizes = item.index.sizes[index : index + stop - first]
                     self.firsts.insert(place, first)
-                    self.parts.insert(place, (stop, start))
+                    self.parts.insert(place, array("Q", itertools.accumulate((ivf.RECORD.size + size for size in sizes), initial=start)))
                 first = stop
 
     def place(self, number):
         """The part that has a packet, or None."""
         place = bisect.bisect(self.firsts, number) - 1
-        return place if place >= 0 and number < self.parts[place][0] else None
+        return place if place >= 0 and number < self.firsts[place] + len(self.parts[place]) - 1 else None
 
     def data(self, number):
         """The bytes of a packet, or None."""
         place = self.place(number)
         if place is None:
             return None
-        item, index = self.contents.where(number)
-        first = index - (number - self.firsts[place])
-        start = self.parts[place][1] + item.index.starts[index] - (item.index.starts[first] - ivf.RECORD.size)
-        return system.pread_all(self.file.fileno(), item.index.sizes[index], start)
+        start, end = self.parts[place][number - self.firsts[place] :][:2]
+        return system.pread_all(self.file.fileno(), end - start - ivf.RECORD.size, start + ivf.RECORD.size)
 
 
 def parts_of(numbers):

@@ -1,6 +1,7 @@
 """The files that a session was opened with, kept open so that the bytes of their packets can be read later."""
 
 import errno
+import functools
 import hashlib
 import os
 import shutil
@@ -11,7 +12,7 @@ import weakref
 
 from . import checks
 from .. import system
-from ..tools import containers, convert, ivf, looks, rooms, times
+from ..tools import containers, convert, ivf, looks, programs, rooms, times, webm
 from .errors import NotVideo
 
 # Bytes that are read at a time.
@@ -19,18 +20,19 @@ WINDOW = 1 << 20
 
 
 class Input:
-    """A stream of a session: the word that the program gets for it, and its packets. Both read the same file. It is closed when it is collected."""
+    """A stream of a session: the word that the program gets for it, and its packets. Both read the same file: IVF, or WebM, of which `facts` are those of its
+    beginning. It is closed when it is collected. `tools` are vp8serve and vp8list."""
 
-    def __init__(self, path):
+    def __init__(self, path, tools=None):
         self.path = self.word = path
+        self.tools = tools or (programs.find("vp8serve"), programs.find("vp8list"))
         self.descriptor, self.closing = None, None
-        self.signature = None
+        self.signature, self.facts = None, None
         self.head = ivf.EMPTY
         self.index = None
         self.lock = threading.Lock()
         self.found_digest, self.digesting, self.found_step, self.found_durations, self.found_left = None, threading.Lock(), None, None, None
-        self.found_rate = None
-        self.media = containers.media_of(path)
+        self.found_rate, self.found_damage, self.damaging = None, None, threading.Lock()
         self.is_shared, self.room = False, None
         if path == "-":
             return
@@ -43,6 +45,27 @@ class Input:
             # Another process cannot open a pipe again, and /dev/stdin is another file there.
             self.share(stat.S_ISREG(kind))
         self.signature = self.sign(os.fstat(self.descriptor))
+        if webm.is_marked(self.descriptor):
+            self.facts = webm.facts_of(self.descriptor) or webm.PLAIN
+            self.head = self.facts.head
+
+    @functools.cached_property
+    def media(self):
+        """What the container has, or had, besides the packets of the video; None if there is none."""
+        return containers.media_of(self.path) if self.facts is None else webm.Around(self.path, self.facts, self)
+
+    def folder(self):
+        """A folder for files that are made of this one, which goes when it is closed."""
+        with self.lock:
+            self.room = self.room or rooms.Room()
+        return self.room.name
+
+    def readable(self):
+        """The path by which a program that is started reads the file that is open here, and the descriptors that it has to get for that."""
+        if system.HAS_DESCRIPTOR_PATHS:
+            return system.descriptor_path(self.opened()), (self.opened(),)
+        self.check_opened()
+        return checks.path(self.word), ()
 
     def hold(self, descriptor):
         """Keeps a file open, and no other."""
@@ -101,9 +124,13 @@ class Input:
     def read_index(self):
         if self.descriptor is None:
             return ivf.Index()
-        self.head, index = ivf.read_index(self.descriptor)
-        self.check()
-        return index
+        try:
+            if self.facts is not None:
+                return webm.index_of(self.tools[1], *self.readable(), self.signature)
+            self.head, index = ivf.read_index(self.descriptor)
+            return index
+        finally:
+            self.check()
 
     def step(self):
         """The median of the steps between the time stamps of shown packets: the time of a frame. 1 if there is none."""
@@ -118,6 +145,12 @@ class Input:
             index = self.records()
             self.found_rate = times.rate_of(index.stamps, index.tags, times.base_of(self.head))
         return self.found_rate
+
+    def frame_rate(self):
+        """The frames a second in the first line of the frames, as a pair: those of the header of an IVF file."""
+        if self.facts is None:
+            return self.head.rate, self.head.scale
+        return self.facts.served(self.step())
 
     def durations(self):
         """The duration of each packet, in the time base of the file."""
@@ -135,10 +168,21 @@ class Input:
         """Sentences about a file that ends in the middle, or whose container is damaged."""
         if self.descriptor is None:
             return []
-        return [*containers.damage_of(self.path), *ivf.damage_text(self.path, self.records(), self.left())]
+        return [*self.damage_around(), *ivf.damage_text(self.path, self.records(), self.left())]
+
+    def damage_around(self):
+        """Sentences about the damage of the container, in which the packets are, or were."""
+        if self.facts is None or self.descriptor is None:
+            return containers.damage_of(self.path)
+        with self.damaging:
+            if self.found_damage is None:
+                self.found_damage = webm.damage_of(self.tools[0], *self.readable(), os.fsdecode(self.path))
+            return self.found_damage
 
     def left(self):
-        """The number of bytes after the last whole record."""
+        """The number of bytes after the last whole record of an IVF file."""
+        if self.facts is not None:
+            return 0
         if self.found_left is None:
             self.found_left = ivf.left_after(self.opened(), self.records())
         return self.found_left
@@ -151,13 +195,10 @@ class Input:
             return self.found_digest
 
     def read_digest(self):
-        index, found = self.records(), hashlib.sha256()
-        window, base, end = b"", 0, index.starts[-1] + index.sizes[-1] if len(index) else 0
-        for start, size in zip(index.starts, index.sizes):
-            if start < base or start + size > base + len(window):
-                window, base = self.bytes_at(min(max(size, WINDOW), end - start), start), start
-            found.update(size.to_bytes(4, "little"))
-            found.update(memoryview(window)[start - base : start - base + size])
+        found = hashlib.sha256()
+        for data in self.contents_of(range(len(self.records()))):
+            found.update(len(data).to_bytes(4, "little"))
+            found.update(data)
         return found.hexdigest()
 
     def opened(self):
@@ -180,14 +221,38 @@ class Input:
         return self.bytes_at(count if size is None else min(size, count), index.starts[number])
 
     def read_records(self, first, end):
-        """The bytes of the records of packets, piece by piece."""
+        """The bytes of packets as the records of an IVF file, piece by piece."""
         index = self.records()
+        if self.facts is not None:
+            yield from self.made_records(range(first, end))
+            return
         place = index.starts[first] - ivf.RECORD.size
         stop = index.starts[end - 1] + index.sizes[end - 1]
         while place < stop:
             data = self.bytes_at(min(stop - place, ivf.WINDOW), place)
             place += len(data)
             yield data
+
+    def made_records(self, numbers):
+        """The same of packets that are no records in their file."""
+        index, records, size = self.records(), [], 0
+        for number, data in zip(numbers, self.contents_of(numbers)):
+            records += [ivf.RECORD.pack(len(data), index.stamps[number]), data]
+            size += len(data)
+            if size >= ivf.WINDOW:
+                yield b"".join(records)
+                records, size = [], 0
+        yield b"".join(records)
+
+    def contents_of(self, numbers):
+        """The bytes of packets that follow each other. What is between them is read too."""
+        index = self.records()
+        window, base, end = b"", 0, index.starts[numbers[-1]] + index.sizes[numbers[-1]] if numbers else 0
+        for number in numbers:
+            start, size = index.starts[number], index.sizes[number]
+            if start < base or start + size > base + len(window):
+                window, base = memoryview(self.bytes_at(min(max(size, WINDOW), end - start), start)), start
+            yield window[start - base : start - base + size]
 
     def whole(self, most):
         """The bytes of the whole file, at most so many; those of an empty stream if there is none."""
@@ -204,14 +269,15 @@ class Input:
 
 
 class Inputs:
-    """The streams of a session, source 0 first."""
+    """The streams of a session, source 0 first. `tools` are vp8serve and vp8list; `reads_webm` returns whether the engine reads WebM files."""
 
-    def __init__(self, paths):
+    def __init__(self, paths, tools, reads_webm):
         self.all, self.room, self.paths = [], None, []
         try:
             for path in paths:
                 self.paths.append(path if isinstance(path, str) else self.written(path))
-                self.all.append(Input(self.taken_out(self.paths[-1])))
+                is_read = os.path.isfile(self.paths[-1]) and webm.is_read(self.paths[-1], *tools) and reads_webm()
+                self.all.append(Input(self.paths[-1] if is_read else self.taken_out(self.paths[-1]), tools))
         except BaseException:
             self.close()
             raise

@@ -4,6 +4,7 @@ A session of the library stays on the thread that opened it, so each has a worke
 """
 
 import ctypes
+import functools
 import os
 import pathlib
 import queue
@@ -184,6 +185,15 @@ def load(path=None):
     return found
 
 
+@functools.lru_cache
+def reads_webm():
+    """Whether the library reads WebM files: one of version 0.14 or earlier takes them for IVF files of another kind."""
+    handle, fault, text = (ctypes.c_void_p * 1)(), Fault(), b"\x1a\x45\xdf\xa3" + bytes(60)
+    library, ends = load(), (ctypes.c_size_t * 1)(len(text))
+    library.wk_open(handle, text, len(text), ends, 1, 1, b"", 0, ctypes.byref(fault))
+    return CAUSES[fault.cause] != "Magic"
+
+
 class Engine:
     """A session of the library. All its calls are made on one thread."""
 
@@ -283,13 +293,16 @@ class Engine:
 class Header:
     """The line before the frames, and the size of a frame, as a reader of them knows them."""
 
-    def __init__(self, rate, scale):
-        self.rate = f"{rate}:{scale}" if rate and scale else "30:1"
-        self.size = None
+    def __init__(self, rate):
+        self.rate_of, self.rate, self.size = rate, None, None
 
     @property
     def header(self):
-        return b"" if self.size is None else f"YUV4MPEG2 W{self.size[0]} H{self.size[1]} F{self.rate} Ip C420jpeg\n".encode()
+        if self.size is None:
+            return b""
+        self.rate = self.rate or self.rate_of()
+        rate = ":".join(map(str, self.rate)) if all(self.rate) else "30:1"
+        return f"YUV4MPEG2 W{self.size[0]} H{self.size[1]} F{rate} Ip C420jpeg\n".encode()
 
     @property
     def frame_size(self):
@@ -324,11 +337,17 @@ def start_worker(asked):
                 threading.stack_size(given)
 
 
+def rate_in(text):
+    """The rate in the header of an IVF file."""
+    head, _ = ivf.parse_head(text)
+    return head.rate, head.scale
+
+
 class Library:
     """A running session. `files` are the bytes of its sources; `save` gets the packets of source 0 when it is finished. So many states are cached, or as
-    many as have pictures of `most_bytes`."""
+    many as have pictures of `most_bytes`. `rate` returns the frames a second in the first line of the frames; else they are those of an IVF file's header."""
 
-    def __init__(self, files, states=CACHE, most_bytes=None, tables=b"", save=None, pad=False, explains=False):
+    def __init__(self, files, states=CACHE, most_bytes=None, tables=b"", save=None, pad=False, explains=False, rate=None):
         library = load()
         self.owner = os.getpid()
         self.asked = queue.SimpleQueue()
@@ -343,8 +362,7 @@ class Library:
         # The worker closes the session, whatever ends first.
         self.finalizer.detach()
         self.finalizer = weakref.finalize(self, end, self.asked, self.engine)
-        head, _ = ivf.parse_head(files[0])
-        self.reader = Header(head.rate, head.scale)
+        self.reader = Header(rate or functools.partial(rate_in, files[0][: ivf.HEAD.size]))
 
     def call(self, function, deadline=None):
         """What a call returns that the worker makes. `Late` after the deadline: the worker is left to it, and the session is over."""

@@ -18,7 +18,7 @@ from .edits import EditList
 from .errors import Ended, NotVideo, Refused, Unexported
 from .frames import Frame, frame_of
 from .inputs import Inputs
-from .library import MOST_FILE, Library, NotExported, engine_of
+from .library import MOST_FILE, Library, NotExported, engine_of, reads_webm
 from .lines import EDITS, begins_reply, first_word, is_edit, is_refusal, objects_of, plain, rest_of, words_of
 from .pipes import Gone, Late, Pipes, Strange
 from .scripts import Script
@@ -105,7 +105,7 @@ class Session:
         if edits is not None and resume is None:
             sources = named.with_named(sources, edits)
         self._settings = (program or programs.find("vp8serve"), lister or programs.find("vp8list"), tables)
-        self._inputs = Inputs([checks.stream(stream), *checks.sources(sources)])
+        self._inputs = Inputs([checks.stream(stream), *checks.sources(sources)], self._settings[:2], lambda: self.engine == "program" or reads_webm())
         try:
             words = self._words(cache, cache_bytes, tables, save, pad)
             if edits is not None:
@@ -182,7 +182,8 @@ class Session:
                 raise Gone(f"cannot write {os.fsdecode(save)}")
             states = None if cache is None else checks.states(cache)
             most_bytes = checks.number(MOST_CACHED if cache_bytes is None else cache_bytes) if cache is None else None
-            return Library(files, states, most_bytes, long_tables, None if save is None else checks.path(save), pad, self._explain)
+            rate = None if self._inputs.all[0].facts is None else self._inputs.all[0].frame_rate
+            return Library(files, states, most_bytes, long_tables, None if save is None else checks.path(save), pad, self._explain, rate)
         except Gone as error:
             raise Ended(1, f"libwokureti: {error}") from None
 

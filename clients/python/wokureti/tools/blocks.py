@@ -3,6 +3,7 @@
 Elements lead from one to the next: a number, a length, the content. Where one leads to something that is no element, the next place is searched from
 which blocks or clusters follow each other."""
 
+import bisect
 import itertools
 import os
 import struct
@@ -246,13 +247,13 @@ def video_track(found):
     return named or next((block.track for block in found.blocks if ivf.key_size(block.data[:10])), None)
 
 
-def as_file(found, path, out):
-    """Writes the packets of the video as an IVF file, and those of the sound next to it. The head, the packets and the gaps as `salvage.find` has them;
-    `ivf.NotIvf` if no packet is one of VP8. `containers.media_of` has the rest."""
+def as_file(found, path, out, pictures=None):
+    """Writes the packets of the video as an IVF file, and those of the sound next to it. The packets are `pictures`, those that vp8list reads, or else those that were
+    found. The head, the packets and the gaps as `salvage.find` has them; `ivf.NotIvf` if no packet is one of VP8. `containers.media_of` has the rest."""
     track = video_track(found)
     if track is None:
         raise ivf.NotIvf("no packet of VP8 was found in it")
-    pictures = [block for block in found.blocks if block.track == track]
+    pictures = pictures or [block for block in found.blocks if block.track == track]
     size = next(filter(None, (ivf.key_size(block.data[:10]) for block in pictures)), (0, 0))
     head = ivf.Head(*size, 1000, 1)
     with open(out, "wb") as file:
@@ -263,18 +264,9 @@ def as_file(found, path, out):
     tags = {"title": entry.title} if entry and entry.title else {}
     containers.known[out] = containers.Media(path, containers.rate_of(out, None), {}, tags, entry.language if entry else "und", [one for one in sounds if one], "")
     # How many packets of the video come before each gap.
-    before = list(counts(found.blocks, track))
-    gaps = [salvage.Gap(start, end, before[after]) for start, end, after in found.gaps]
+    places = [block.place for block in pictures]
+    gaps = [salvage.Gap(start, end, bisect.bisect_left(places, start)) for start, end, _ in found.gaps]
     return head, [salvage.Found(max(0, block.time), block.data, block.place) for block in pictures], gaps
-
-
-def counts(blocks, track):
-    """How many blocks of a track come before each block, and before the end."""
-    count = 0
-    for block in blocks:
-        yield count
-        count += block.track == track
-    yield count
 
 
 def sound_of(found, number, path):

@@ -9,10 +9,11 @@ import shutil
 import sys
 import urllib.request
 
-from . import containers, convert, facts, files, ivf, looks, png, programs, rooms, y4m
+from . import convert, facts, files, ivf, looks, png, programs, rooms, webm, y4m
 from ..session import checks, records
 from ..session.errors import Ended, Refused
 from ..session.frames import frame_of, sides
+from ..session.inputs import Input
 from ..session.session import Session
 
 try:
@@ -65,19 +66,20 @@ def of_stream(path, tables=None):
 @contextlib.contextmanager
 def opened(name, folder, tables=None):
     """The frames of an IVF file, a Y4M file, a container, a URL, or of standard input, and the path of the IVF file, if it is one."""
+    path = None
     if name.startswith(("http://", "https://")):
         source = urllib.request.urlopen(name, timeout=60)
     elif name == "-":
         source = sys.stdin.buffer
     else:
         # A pipe is read as it comes.
-        path = convert.as_ivf(name, folder, is_checked=False) if os.path.isfile(name) else name
+        path = convert.readable(name, folder, is_checked=False) if os.path.isfile(name) else name
         source = open(path, "rb")
     with contextlib.closing(source) as file:
         head, ivf_path = peek(file), None
         if head.startswith(b"YUV4MPEG2"):
             frames = y4m.read_frames(Joined(head, file))
-        elif head.startswith(b"DKIF"):
+        elif head.startswith(b"DKIF") or (path is not None and os.path.isfile(path) and webm.is_read(path)):
             if file is sys.stdin.buffer or not os.path.isfile(name):
                 # A pipe or a URL is read once, and vp8serve reads files.
                 path = os.path.join(folder, f"{len(os.listdir(folder))}.ivf")
@@ -91,7 +93,7 @@ def opened(name, folder, tables=None):
             with open(copied, "xb") as copy:
                 copy.write(head)
                 shutil.copyfileobj(file, copy, 1 << 20)
-            ivf_path = convert.as_ivf(copied, folder)
+            ivf_path = convert.readable(copied, folder)
             frames = of_stream(ivf_path, tables)
         else:
             look = f": it looks like {looks.of(name)[0]}" if os.path.isfile(name) else ""
@@ -315,10 +317,12 @@ def write_pair(folder, number, one, other):
 
 
 def damage_in(path):
-    """Sentences about the damage of an IVF file, or of the container that its packets are from."""
-    with open(path, "rb") as file:
-        _, index = ivf.read_index(file.fileno())
-        return [*containers.damage_of(path), *ivf.damage_text(path, index, ivf.left_after(file.fileno(), index))]
+    """Sentences about the damage of a stream, or of the container that its packets are from."""
+    item = Input(path)
+    try:
+        return item.damage()
+    finally:
+        item.close()
 
 
 def compare(one, other, pictures=None, tables=None):

@@ -78,6 +78,15 @@ class Media(NamedTuple):
     sounds: list
     said: str
 
+    @property
+    def has_sound(self):
+        return bool(self.sounds)
+
+    @property
+    def source(self):
+        """The path that a program reads, and the descriptors that it has to get for that."""
+        return self.path, ()
+
 
 # What was read in this process, by the path of the IVF file that has the packets of the video; and sentences about the damage of the containers.
 known, damaged = {}, {}
@@ -193,15 +202,16 @@ def read_sounds(path, out):
     return copy_tracks(path, probe(path)["streams"], [], out)[0]
 
 
-def probe(path):
-    """What ffprobe says of a file."""
-    found = json.loads(run(["ffprobe", "-v", "error", "-of", "json", "-show_streams", "-show_format", "-show_data", f"file:{os.fsdecode(path)}"])[0])
+def probe(path, shared=()):
+    """What ffprobe says of a file. It gets the descriptors `shared`."""
+    words = ["ffprobe", "-v", "error", "-of", "json", "-show_streams", "-show_format", "-show_data", f"file:{os.fsdecode(path)}"]
+    found = json.loads(run(words, shared=shared)[0])
     return {"streams": [], **found}
 
 
-def copy_tracks(path, streams, more, out, watch=NOBODY):
-    """Writes the packets of tracks to files, those with the indexes `more` and all of sound. Returns the tracks, and what ffmpeg complains of. (Its IVF
-    files are not used: where two packets have one time, it gives the second one a later one.)"""
+def copy_tracks(path, streams, more, out, watch=NOBODY, shared=()):
+    """Writes the packets of tracks to files, those with the indexes `more` and all of sound. Returns the tracks, and what ffmpeg, which gets the descriptors
+    `shared`, complains of. (Its IVF files are not used: where two packets have one time, it gives the second one a later one.)"""
     wanted = [one for one in streams if one["index"] in more] + [one for one in streams if one.get("codec_type") == "audio"]
     words = ["ffmpeg", "-nostdin", "-y", "-v", "error", "-copyts", "-i", f"file:{os.fsdecode(path)}"]
     for number, one in enumerate(wanted):
@@ -209,7 +219,7 @@ def copy_tracks(path, streams, more, out, watch=NOBODY):
         words += [*track, "data", f"{out}.track{number}", *track, "framecrc", f"{out}.times{number}"]
     # What the writers of these lists say is not of the file: they are given hidden packets with the time of the next one.
     look = part_of(path, [f"{out}.track{number}" for number in range(len(wanted))], watch)
-    said = [line for line in run(words, look)[1].splitlines() if not line.startswith(("[data @", "[framecrc @"))] if wanted else []
+    said = [line for line in run(words, look, shared)[1].splitlines() if not line.startswith(("[data @", "[framecrc @"))] if wanted else []
     watch.stage(f"listing the packets of {os.fsdecode(path)}")
     return [sound_of(one, f"{out}.track{number}", f"{out}.times{number}", watch) for number, one in enumerate(wanted)], "\n".join(said)
 
@@ -314,10 +324,11 @@ def part_of(path, outs, watch):
     return look
 
 
-def run(words, look=lambda pid: None):
-    """The text that a program writes, and what it complains of. `Failed` if it fails. `look` is called with its process now and then until it ends."""
+def run(words, look=lambda pid: None, shared=()):
+    """The text that a program writes, and what it complains of. `Failed` if it fails. `look` is called with its process now and then until it ends. It gets the
+    descriptors `shared`."""
     limit = time.monotonic() + MOST_TIME
-    with subprocess.Popen(words, stdin=subprocess.DEVNULL, stdout=subprocess.PIPE, stderr=subprocess.PIPE) as process:
+    with subprocess.Popen(words, stdin=subprocess.DEVNULL, stdout=subprocess.PIPE, stderr=subprocess.PIPE, pass_fds=shared) as process:
         try:
             while True:
                 try:

@@ -8,13 +8,15 @@ import stat
 
 from .. import system
 from ..calls import captures, recordings
-from . import blocks, containers, ends, ivf, looks
+from . import blocks, containers, ends, ivf, looks, webm
 from ..session import checks
 from .progress import Stages, say
 
 
 # A file of network packets, in which a stream of RTP is.
 CAPTURE = "capture of RTP"
+# What `wokureti repair` does with a WebM or Matroska file.
+SEARCHES = "searches a damaged file for all its packets"
 
 
 class Container(ValueError):
@@ -56,10 +58,15 @@ def new_name(folder, ending):
     return os.path.join(folder, f"{len(os.listdir(folder))}.{ending}")
 
 
-def as_ivf(path, folder, is_quiet=False, is_checked=True, watch=None):
+def readable(path, folder, is_quiet=False, is_checked=True, watch=None):
+    """The path of the stream for a session and for vp8list: a WebM or Matroska file that these read is itself; else as `as_ivf` has it."""
+    return as_ivf(path, folder, is_quiet, is_checked, watch, in_place=True)
+
+
+def as_ivf(path, folder, is_quiet=False, is_checked=True, watch=None, in_place=False):
     """The path of the stream as IVF: the file itself, or a file in the folder. `-` is standard input, and /dev/null an empty stream, for which a
     session has the path `-`. With `is_checked` a file that does not begin as one raises `ivf.NotIvf`, which says what it looks like. `watch` hears how far a
-    container is; a terminal shows it if there is none, unless it `is_quiet`."""
+    container is; a terminal shows it if there is none, unless it `is_quiet`. `in_place` is that of `readable`."""
     given, name, is_file = as_file(path, folder)
     if not is_file:
         return given
@@ -73,7 +80,12 @@ def as_ivf(path, folder, is_quiet=False, is_checked=True, watch=None):
             if is_checked:
                 raise ivf.NotIvf(looks.sentence(given, name, error)) from None
         return given
-    out = taken_out(given, folder, name, kind, is_quiet, watch)
+    if in_place and webm.is_read(given):
+        out = spooled(given, folder) if system.is_device(given) else given
+        if not is_quiet and webm.media_of(out).facts.has_sound and not containers.has_ffmpeg():
+            say(f"the sound of {name} is left out: install ffmpeg for that")
+    else:
+        out = taken_out(given, folder, name, kind, is_quiet, watch)
     containers.origins[out] = path if given == path else system.STANDARD_INPUT
     return out
 
@@ -120,7 +132,7 @@ def searched(path, folder, watch=None, second=None):
         # It ends between two blocks, and before its end.
         found.gaps.append((len(data), len(data), len(found.blocks)))
     out = new_name(folder, "ivf")
-    sought = blocks.as_file(found, given, out)
+    sought = blocks.as_file(found, given, out, webm.blocks_of(given, data))
     lost = "" if found.tracks else "; what it says of its tracks is lost"
     say(f"{name} is a damaged WebM or Matroska file: its packets were searched{sound_text(containers.media_of(out))}{lost}")
     return out, (*sought, len(data))
@@ -134,7 +146,7 @@ def taken_out(path, folder, name, kind, is_quiet, watch=None):
         if kind == CAPTURE:
             containers.damaged[out] = recordings.read(path, out, name, is_quiet)
             if not is_quiet:
-                say_damage(out, "fills what is missing, also from a second capture")
+                say_damage(containers.damaged[out], "fills what is missing, also from a second capture")
             return out
         tool = read(path, out, name, kind, stages)
         stages.stage(f"looking for damage of {name}")
@@ -144,13 +156,12 @@ def taken_out(path, folder, name, kind, is_quiet, watch=None):
         say(f"{name} is {'an' if kind[0] in 'AO' else 'a'} {kind} file; {tool} took its packets out without coding them again{sound_text(media)}")
     if media is not None and media.said and not containers.damaged[out]:
         containers.damaged[out] = [f"{tool} complains of {name}: {'; '.join(media.said.splitlines()[:3])}"]
-    say_damage(out, "searches a damaged file for all its packets" if kind == "WebM or Matroska" else "")
+    say_damage(containers.damaged[out], SEARCHES if kind == "WebM or Matroska" else "")
     return out
 
 
-def say_damage(out, helps):
+def say_damage(texts, helps=SEARCHES):
     """Says what is damaged of a file that was read, and what `wokureti repair` does with it."""
-    texts = containers.damaged[out]
     for place, text in enumerate(texts):
         say(f"{text}. `wokureti repair` {helps}" if helps and place == len(texts) - 1 else text)
 

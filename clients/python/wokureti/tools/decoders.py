@@ -85,7 +85,7 @@ def differences(words, path, tables):
     with rooms.Room() as folder:
         try:
             out, said = decoded(words, path, folder)
-            taken = convert.as_ivf(str(path), folder, is_quiet=True, is_checked=False, watch=containers.NOBODY)
+            taken = convert.readable(str(path), folder, is_quiet=True, is_checked=False, watch=containers.NOBODY)
             ours = [picture for picture in compare.of_stream(taken, tables) if not isinstance(picture, compare.Missing)]
             damage = compare.damage_in(taken)
             if not os.path.exists(out):

@@ -42,7 +42,7 @@ def warn(contents, is_constant, say):
     away = drift(starts, contents.rate)
     if away < step_of(contents.rate):
         return
-    has_sound = any(item.media is not None and item.media.sounds for item in contents.inputs.all)
+    has_sound = any(item.media is not None and item.media.has_sound for item in contents.inputs.all)
     if is_constant:
         say(f"the rate of the frames varies: of {len(starts) - 1:,} frames {len(constant(starts, contents.rate)):,} are made, each at the nearest time")
     else:

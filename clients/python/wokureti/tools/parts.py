@@ -13,6 +13,7 @@ from typing import NamedTuple
 from .. import system
 from . import ivf
 from ..session.errors import Refused
+from ..session.frames import parse_header
 from ..session.lines import lines_in, words_of
 
 # Parts a process: so that one long part holds up no process.
@@ -168,7 +169,8 @@ class Room:
             header = file.readline()
             length = os.fstat(file.fileno()).st_size
             wanted = len(header) + self.first.size * (frames + leads) if frames + leads else 0
-            if length != wanted or (frames + leads and header != self.first.header):
+            # A part has a rate of its own, that of its time stamps.
+            if length != wanted or (frames + leads and parse_header(header) != parse_header(self.first.header)):
                 raise ValueError(f"part {number} has {length} bytes, not {wanted}")
             file.seek(len(header) + self.first.size * leads)
             while True:

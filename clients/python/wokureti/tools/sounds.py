@@ -227,6 +227,7 @@ def samples(spans, number, channels, room):
 def decode(media, track, channels, room):
     """A file of the samples of a track, of which the first is at time 0."""
     path = os.path.join(room, f"{os.path.basename(track.path)}.pcm")
-    words = ["ffmpeg", "-nostdin", "-y", "-v", "error", "-copyts", "-i", f"file:{os.fsdecode(media.path)}", "-map", f"0:{track.index}"]
-    containers.run([*words, "-af", "aresample=async=1:first_pts=0", "-ar", str(OPUS_RATE), "-ac", str(channels), "-f", "s16le", path])
+    source, shared = media.source
+    words = ["ffmpeg", "-nostdin", "-y", "-v", "error", "-copyts", "-i", f"file:{os.fsdecode(source)}", "-map", f"0:{track.index}"]
+    containers.run([*words, "-af", "aresample=async=1:first_pts=0", "-ar", str(OPUS_RATE), "-ac", str(channels), "-f", "s16le", path], shared=shared)
     return path
