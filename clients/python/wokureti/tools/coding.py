@@ -11,7 +11,7 @@ import subprocess
 from array import array
 from typing import NamedTuple
 
-from . import exports, ivf, times
+from . import exports, fades, ivf, times
 from ..session.errors import Ended
 from ..session.frames import size_of
 from ..session.origins import runs_of
@@ -297,19 +297,23 @@ def export(session, open_session, out, how, room):
     for piece in pieces:
         if piece.is_coded:
             coder.code(session, piece)
-    served = exports.Frames(contents).served()
+    frames = exports.Frames(contents)
+    served, levels = frames.served(), None
+    if how.fades_sound:
+        levels = fades.levels_of(found, fades.Weights(contents.script, [len(shown) for shown in frames.shown]))
     coded = coder.write(contents.inputs.all[0].head, durations_of(served, contents, pieces))
     script = script_of(pieces, len(contents.inputs.all), contents.program)
     lines = [*session.edits, f"script {script}"]
-    return exports.export(contents, lines, out, room, exports.Added(coded.path, served)), coded
+    return exports.export(contents, lines, out, room, exports.Added(coded.path, served, levels)), coded
 
 
 class How(NamedTuple):
-    """How frames are coded: the least PSNR, whether the frames of leads are, and who hears what each way costs."""
+    """How frames are coded: the least PSNR, whether the frames of leads are, who hears what each way costs, and whether the sound fades with the picture."""
 
     least: float
     codes_leads: bool
     say: object
+    fades_sound: bool = False
 
     def say_leads(self, leads):
         """Says what a part that begins between key packets costs, if it costs much."""
