@@ -1,19 +1,24 @@
 """Frames that are coded again: those that a script changes and no others, how good they are, and what is said where that cannot be done."""
 
+import contextlib
+import http.client
 import math
 import os
 import re
 import shutil
 import signal
 import subprocess
+import threading
 import time
 import unittest
 from array import array
+from unittest import mock
 
 from support import CLIP, SLOW, Case, command, frames_of, packets_of, start
+from test_page import PageCase
 from wokureti import Session
 from wokureti.session.origins import Run
-from wokureti.tools import coding, containers, exports, fades, ivf, opus, programs
+from wokureti.tools import coding, containers, exports, fades, ivf, opus, programs, progress
 from wokureti.tools.coding import Piece
 
 FRAMES = len([data for data in packets_of(CLIP) if ivf.is_shown(data)])
@@ -332,6 +337,67 @@ class Sound(Case):
         ):
             status, _, errors = command("cut", CLIP, self.room / "out.ivf", "--from", "f6", *words)
             self.assertEqual((status, text in errors), (2, True), errors)
+
+
+@unittest.skipUnless(HAS_ENCODER, "no ffmpeg")
+class Pages(PageCase):
+    """What the page asks of the server."""
+
+    LIMIT = 120
+
+    def script(self, text):
+        self.serve(CLIP)
+        self.step(f"script {text}")
+
+    def test_costs(self):
+        self.script("trim 0 30 10; fade 1 5 4 256 0")
+        found = self.members("/costs")
+        packets = packets_of(CLIP)
+        lead = {"first": 0, "end": 6, "packets": 30, "bytes": sum(map(len, packets[:30])), "length": 30 * 10**9 // 25, "coded_bytes": sum(map(len, packets[30:36]))}
+        self.assertEqual((found["frames"], found["coded"], found["nodes"], found["leads"]), (10, 4, [2], [lead]))
+        self.assertEqual((found["sounds"], found["encoder"], found["why"]), (False, "ffmpeg", ""))
+
+    def test_the_file_is_that_of_the_command(self):
+        script = f"fade 0 {FRAMES - 6} 5 256 0"
+        self.script(script)
+        status, headers, body = self.ask("/exported?code=1&psnr=36")
+        self.assertEqual(status, 200)
+        self.assertRegex(headers["X-Exported"], rf"{FRAMES} frames, in {FRAMES} packets, none of them hidden; 5 of {FRAMES} frames are coded again, in [\d,]+ bytes, PSNR 3[6-9]\.\d dB at least and [\d.]+ dB in the mean")
+        out = self.folder() / "out.ivf"
+        self.assertEqual(command("export", CLIP, out, "--code-changed", "--psnr", "36", "--script", script)[0], 0)
+        self.assertTrue(body == out.read_bytes())
+        for query in ("psnr=70", "psnr=x", "lead=other", "sound=loud", "more=1"):
+            self.assertEqual(self.ask(f"/exported?code=1&{query}")[0], 400, query)
+        self.assertEqual(self.ask("/exported")[0], 409)
+
+    def test_no_encoder(self):
+        self.script("fade 0 0 5 0 256")
+        with mock.patch("shutil.which", lambda name: None):
+            found = self.members("/costs")
+            self.assertEqual((found["encoder"], "install ffmpeg (with libvpx)" in found["why"]), (None, True))
+            self.assertEqual(self.ask("/exported?code=1")[0], 409)
+
+    def test_nobody_waits_any_more(self):
+        """The encoder is ended."""
+        self.script("fade 0 0 40 0 256")
+        began, ended = threading.Event(), []
+        real = coding.encode
+
+        def encode(name, frames, out, quantizer, watch):
+            began.set()
+            watch.check = mock.Mock(side_effect=progress.Stopped)
+            try:
+                real(name, frames, out, quantizer, watch)
+            except progress.Stopped:
+                ended.append(quantizer)
+                raise
+
+        with mock.patch.object(coding, "encode", encode):
+            with contextlib.suppress(OSError, http.client.HTTPException):
+                self.ask("/exported?code=1")
+            self.assertTrue(began.wait(20 * SLOW))
+        self.assertEqual(len(ended), 1)
+        self.assertEqual([name for name in os.listdir(self.live.room.name) if name.startswith("export")], [])
 
 
 if __name__ == "__main__":
