@@ -516,10 +516,10 @@ class Exports(BrowserCase):
         go_on, real = threading.Event(), coding.encode
         self.addCleanup(go_on.set)
 
-        def slow(name, frames, out, quantizer, watch):
+        def slow(*given):
             while not go_on.wait(0.05):
-                watch.check()
-            return real(name, frames, out, quantizer, watch)
+                given[-1].check()
+            return real(*given)
 
         self.open(SMALL)
         self.step("script fade 0 2 5 256 0")

@@ -383,11 +383,12 @@ class Pages(PageCase):
         began, ended = threading.Event(), []
         real = coding.encode
 
-        def encode(name, frames, out, quantizer, watch):
+        def encode(*given):
+            *_, quantizer, _, watch = given
             began.set()
             watch.check = mock.Mock(side_effect=progress.Stopped)
             try:
-                real(name, frames, out, quantizer, watch)
+                real(*given)
             except progress.Stopped:
                 ended.append(quantizer)
                 raise

@@ -12,6 +12,7 @@ import tempfile
 from array import array
 from typing import NamedTuple
 
+from .. import system
 from . import exports, fades, ivf, times
 from ..session.frames import size_of
 from ..session.origins import runs_of
@@ -28,6 +29,8 @@ ENCODERS = ("ffmpeg", "vpxenc")
 FINEST, COARSEST = 0, 50
 # Tries of which one is the coarsest quantizer that is good enough: each halves what is left.
 MOST_TURNS = (COARSEST + 1 - FINEST).bit_length()
+# Frames of a run that one thread codes, so that the same packets come out on each machine: libvpx makes others with more threads.
+FEW = 250
 # Frames that are asked for together.
 TOGETHER = 8
 # Decibels of a frame that is the same.
@@ -168,16 +171,16 @@ def encoder():
     return found
 
 
-def encode(name, frames, out, quantizer, watch):
+def encode(name, frames, out, quantizer, threads, watch):
     """Codes a YUV4MPEG2 file as an IVF file, whose packets all have this quantizer of the encoder, 0 to 63. Who watches may end it."""
     number = str(quantizer)
     if name == "ffmpeg":
         rates = ["-qmin", number, "-qmax", number, "-b:v", "500M", "-g", "99999", "-keyint_min", "0"]
         words = ["ffmpeg", "-nostdin", "-v", "error", "-y", "-f", "yuv4mpegpipe", "-i", f"file:{frames}", "-c:v", "libvpx", *rates]
-        words += ["-auto-alt-ref", "0", "-lag-in-frames", "0", "-deadline", "good", "-cpu-used", "1", "-fps_mode", "passthrough", "-f", "ivf", f"file:{out}"]
+        words += ["-auto-alt-ref", "0", "-lag-in-frames", "0", "-deadline", "good", "-cpu-used", "1", "-threads", str(threads), "-fps_mode", "passthrough", "-f", "ivf", f"file:{out}"]
     else:
         words = ["vpxenc", "--codec=vp8", "--ivf", "--quiet", "--passes=1", "--good", "--cpu-used=1", "--auto-alt-ref=0", "--lag-in-frames=0", "--drop-frame=0", "--disable-warning-prompt"]
-        words += ["--end-usage=vbr", "--target-bitrate=500000", f"--min-q={number}", f"--max-q={number}", "--kf-max-dist=99999", "-o", out, frames]
+        words += ["--end-usage=vbr", "--target-bitrate=500000", f"--min-q={number}", f"--max-q={number}", "--kf-max-dist=99999", f"--threads={threads}", "-o", out, frames]
     with tempfile.TemporaryFile() as errors:
         with subprocess.Popen(words, stdin=subprocess.DEVNULL, stdout=subprocess.DEVNULL, stderr=errors) as process:
             exports.await_end(process, name, watch)
@@ -260,7 +263,7 @@ class Coder:
 
     def attempt(self, frames, size, out, quantizer, piece):
         """The packets of a run coded with a quantizer, and the PSNR of each frame."""
-        encode(self.name, frames, out, quantizer, self.watch)
+        encode(self.name, frames, out, quantizer, 1 if piece.count <= FEW else system.processors(), self.watch)
         packets = [data for _, data in ivf.read_packets(out)[1]]
         if len(packets) != piece.count or not all(map(ivf.is_shown, packets)) or not ivf.is_key(packets[0]):
             raise Failed(f"{self.name} made {len(packets)} packets of {piece.count} frames")
