@@ -13,6 +13,7 @@ import base64
 import contextlib
 import hashlib
 import http.server
+import math
 import os
 import pathlib
 import random
@@ -35,6 +36,14 @@ from wokureti.tools import ivf  # noqa: E402
 CLIPS = TOP / "crates/gate_clips/data"
 MOST_TIME = 800
 SIZES = ((1280, 800), (390, 844))
+# Fades, cuts between key packets, a join in the middle, and a crop.
+SCRIPTS = (
+    "fade 0 10 20 256 0",
+    "trim 0 7 9; trim 0 16 4; trim 0 30 8; splice 1 2; splice 4 3",
+    "source 1; trim 1 3 20; fade 2 4 5 256 128; trim 0 5 9; splice 3 4; trim 5 2 22",
+    "source 1; trim 0 11 9; splice 2 1; fade 3 0 4 0 256",
+    "crop 0 16 16 64 48; trim 1 9 5",
+)
 PARTS = ("chromium", "firefox", "engines-chromium", "engines-firefox", "streams", "kills")
 KILLS = int(os.environ.get("KILLS", "3"))
 
@@ -190,6 +199,82 @@ def others(engine, clip, other):
         return {"edits": session["edits"], "frames": session["frames"], "pictures": page.frames()}
 
 
+def exports(page, *values):
+    """Presses Export, and in its dialog sets the fields to these values and goes on. Returns what the dialog says."""
+    page.js("window.offered = null; document.getElementById('export').dispatchEvent(new MouseEvent('click', { bubbles: true, cancelable: true }))")
+    page.wait("document.getElementById('ask').open")
+    said = page.js("return document.querySelector('#ask .fields').textContent + document.querySelector('#ask .note').textContent")
+    page.js("[...document.querySelectorAll('#ask input, #ask select')].forEach((input, place) => (input.value = args[0][place])); document.querySelector('#ask button[value=yes]').click()", values)
+    return said
+
+
+def decibels(one, other):
+    squares = sum((left - right) ** 2 for left, right in zip(one, other))
+    return 10 * math.log10(255 * 255 * len(one) / squares) if squares else 99
+
+
+def coded(engine, clip, folder, least=38):
+    """Frames that a fade changes are coded again: Export says how many, they are as good as was asked for, and all others are those of the clip. It can be stopped."""
+    plain = samples_of(clip)
+    count = len(plain)
+    line = f"script fade 0 {count - 6} 5 256 0"
+    wanted, out = samples_of(clip, [line]), folder / "coded.ivf"
+    with engine.opened(clip) as page:
+        page.set_script(line.removeprefix("script "))
+        if exports(page, 60) != f"Decibels that each coded frame has at least5 of {count} frames are coded again; all others stay as they are.":
+            yield f"{page.browser.name}, {clip.name}: the dialog says something else"
+        page.wait("/^exporting: coding 5 frames from frame .* on, try \\d/.test(document.getElementById('status').textContent)")
+        page.js("document.getElementById('export').click()")
+        page.wait("document.getElementById('status').textContent === 'the export was stopped'")
+        exports(page, least)
+        page.wait("window.offered")
+        said = page.wait("/; 5 of .* frames are coded again, in [\\d,]+ bytes, PSNR [\\d.]+ dB at least and [\\d.]+ dB in the mean/.exec(document.getElementById('status').textContent)?.[0]")
+        out.write_bytes(base64.b64decode(page.js("return window.offered[1]")))
+    found = samples_of(out)
+    good = [decibels(one, other) for one, other in zip(found, wanted)]
+    told = [float(text) for text in re.findall(r"([\d.]+) dB", said)]
+    if len(found) != count or found[: count - 5] != plain[: count - 5] or min(good) < least or abs(told[0] - min(good)) > 0.06:
+        yield f"{engine.page.browser.name}, {clip.name}: {len(found)} frames, {[round(one, 1) for one in good]}, {said}"
+    if [stamp for stamp, _ in ivf.read_packets(out)[1]] != [stamp for stamp, _ in ivf.read_packets(clip)[1]]:
+        yield f"{engine.page.browser.name}, {clip.name}: other times"
+
+
+def long_lead(engine, clip, folder):
+    """A part that begins long after a key packet: what each way costs, and the coded one."""
+    packets = [packet for _, packet in ivf.read_packets(clip)[1]]
+    path, size = folder / "slow.ivf", ivf.read_packets(clip)[0][:2]
+    path.write_bytes(b"".join(ivf.pieces(ivf.Head(*size, 5, 2), len(packets), list(enumerate(packets)))))
+    hidden, own = sum(map(len, packets[:30])), sum(map(len, packets[30:40]))
+    with engine.opened(path) as page:
+        page.set_script("trim 0 30 10")
+        said = exports(page, 36, "coded")
+        for text in ("Frame 0 is 12 s after a key frame", f"30 hidden packets before them, {hidden:,} bytes", f"coded again: 10 frames, {own:,} bytes now, and no hidden packet"):
+            if text not in said:
+                yield f"{page.browser.name}: a long lead: {said}"
+        page.wait("/in 10 packets, none of them hidden; 10 of 10 frames are coded again/.test(document.getElementById('status').textContent)")
+
+
+def costs(engine, clip, other):
+    """What exports of scripts cost."""
+    found = {}
+    with engine.opened(clip, other) as page:
+        for script in SCRIPTS:
+            page.set_script(script)
+            costs = page.js("return wokureti.engine.task('costs', {})")
+            found[script] = {name: costs[name] for name in ("frames", "coded", "leads")}
+    return found
+
+
+def uncoded(engine, clip):
+    """A browser without an encoder says so."""
+    with engine.opened(clip) as page:
+        page.set_script("fade 0 0 5 0 256")
+        page.js("window.VideoEncoder = undefined; document.getElementById('export').dispatchEvent(new MouseEvent('click', { bubbles: true, cancelable: true }))")
+        said = page.wait("document.querySelector('#notices [data-id=exported] span')?.textContent")
+        if "5 of" not in said or "This browser has no VideoEncoder for VP8" not in said or "wokureti export --code-changed" not in said:
+            yield f"{page.browser.name}: no encoder: {said}"
+
+
 def played(engine, clip):
     """Playback shows frames as time passes."""
     with engine.opened(clip) as page:
@@ -224,6 +309,7 @@ def same(alone, served, folder):
         if mine[1] != written(clip, lines, folder, "--save", "--pad", "--restamp") or mine[2] != written(clip, lines, folder, "--export", "--pad"):
             yield f"{clip.name}: the files are not vp8serve's with {lines}"
     yield from compare("repairs", repaired(alone, broken), repaired(served, broken))
+    yield from compare("costs", *(costs(one, EXAMPLE, CLIPS / "scene-cuts.ivf") for one in (alone, served)))
     yield from compare("two streams", *(others(one, EXAMPLE, CLIPS / "scene-cuts.ivf") for one in (alone, served)))
 
 
@@ -341,6 +427,11 @@ def in_browser(browser, folder, address):
     with alone.opened(path) as page:
         if page.frames() != samples_of(EXAMPLE) or page.session()["rate"] != [25, 1]:
             yield f"{browser.name}: a WebM file: {page.session()['rate']}"
+    yield from coded(alone, EXAMPLE, folder)
+    if browser.name == "chromium":
+        yield from coded(alone, CLIPS / "odd-size.ivf", folder)
+    yield from long_lead(alone, EXAMPLE, folder)
+    yield from uncoded(alone, EXAMPLE)
     yield from refused(alone, folder)
     errors = [line for line in browser.errors() if "beforeunload" not in line]
     if errors:

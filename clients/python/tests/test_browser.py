@@ -9,10 +9,10 @@ import time
 import unittest
 from unittest import mock
 
-from support import CLIP, SLOW, SMALL, TOP, packets_of, start, write_packets
+from support import CLIP, SLOW, SMALL, TOP, command, packets_of, start, write_packets
 from test_page import SCENES, PageCase
 from test_serve import TOKEN
-from wokureti.tools import exports, ivf, programs
+from wokureti.tools import coding, exports, ivf, programs
 
 sys.path.append(str(TOP / "compare"))
 BROWSER = None
@@ -492,6 +492,78 @@ class Exports(BrowserCase):
             BROWSER.click("#export")
             self.wait("document.getElementById('status').textContent.startsWith('exported small-export.ivf: ')")
 
+    @unittest.skipUnless(shutil.which("ffmpeg"), "no ffmpeg")
+    def test_what_the_script_changes_is_coded_again(self):
+        frames = len(packets_of(CLIP))
+        script = f"fade 0 {frames - 6} 5 256 0"
+        self.open(CLIP)
+        self.step(f"script {script}")
+        self.wait("!document.getElementById('export').hidden")
+        self.js("window.offering = null; const make = URL.createObjectURL; URL.createObjectURL = (blob) => { window.offering = blob; return make.call(URL, blob); }")
+        BROWSER.click("#export")
+        self.wait("document.getElementById('ask').open")
+        self.assertEqual(self.text("#ask .note"), f"5 of {frames} frames are coded again; all others stay as they are.")
+        self.assertEqual(self.js("return [...document.querySelectorAll('#ask input, #ask select')].map((one) => one.value)"), ["45"])
+        self.js("document.querySelector('#ask input').value = 36")
+        BROWSER.click("#ask button[value=yes]")
+        self.wait(f"/^exported mandelbrot-export.ivf: .*; 5 of {frames} frames are coded again, in [\\d,]+ bytes, PSNR 3[6-9]\\.\\d dB at least and [\\d.]+ dB in the mean/.test(document.getElementById('status').textContent)")
+        out = self.folder() / "out.ivf"
+        self.assertEqual(command("export", CLIP, out, "--code-changed", "--psnr", "36", "--script", script)[0], 0)
+        self.assertEqual(self.js("return [...new Uint8Array(await window.offering.arrayBuffer())]"), list(out.read_bytes()))
+
+    @unittest.skipUnless(shutil.which("ffmpeg"), "no ffmpeg")
+    def test_coding_shows_how_far_it_is_and_can_be_stopped(self):
+        go_on, real = threading.Event(), coding.encode
+        self.addCleanup(go_on.set)
+
+        def slow(*given):
+            while not go_on.wait(0.05):
+                given[-1].check()
+            return real(*given)
+
+        self.open(SMALL)
+        self.step("script fade 0 2 5 256 0")
+        self.wait("!document.getElementById('export').hidden")
+        with mock.patch.object(coding, "encode", slow):
+            BROWSER.click("#export")
+            self.wait("document.getElementById('ask').open")
+            BROWSER.click("#ask button[value=yes]")
+            self.wait("/^exporting: coding 9 frames from frame 3 on, try 1 of 6 at most, \\d+\\.\\d s$/.test(document.getElementById('status').textContent)")
+            BROWSER.click("#export")
+            self.wait("document.getElementById('status').textContent === 'the export was stopped'")
+            self.assertEqual(self.text("#export"), "Export")
+        # A dialog that is left exports nothing.
+        BROWSER.click("#export")
+        self.wait("document.getElementById('ask').open")
+        BROWSER.click("#ask button[value=no]")
+        self.wait("!document.getElementById('ask').open")
+        self.assertEqual(self.text("#export"), "Export")
+        with mock.patch("shutil.which", lambda name: None):
+            BROWSER.click("#export")
+            self.wait("document.querySelector('#notices [data-id=exported]')")
+        self.assertIn("Nothing was exported: 9 of 12 frames are coded again; all others stay as they are. No encoder of VP8 was found on the machine of the server: install ffmpeg (with libvpx)", self.said())
+
+    @unittest.skipUnless(shutil.which("ffmpeg"), "no ffmpeg")
+    def test_a_long_lead(self):
+        """A part that begins 12 s after a key packet: what each way costs."""
+        path, packets = self.folder() / "slow.ivf", packets_of(CLIP)
+        path.write_bytes(b"".join(ivf.pieces(ivf.Head(320, 180, 5, 2), len(packets), list(enumerate(packets)))))
+        self.open(path)
+        self.step("script trim 0 30 10")
+        self.wait("!document.getElementById('export').hidden")
+        BROWSER.click("#export")
+        self.wait("document.getElementById('ask').open")
+        hidden, own = sum(map(len, packets[:30])), sum(map(len, packets[30:40]))
+        options = self.js("return [...document.querySelectorAll('#ask option')].map((one) => one.textContent)")
+        self.assertEqual(options, [f"as they are: 30 hidden packets before them, {hidden:,} bytes", f"coded again: 10 frames, {own:,} bytes now, and no hidden packet"])
+        self.assertIn("Frame 0 is 12 s after a key frame: the frames from there on", self.text("#ask .fields"))
+        self.js("document.querySelector('#ask select').value = 'coded'; document.querySelector('#ask input').value = 36")
+        BROWSER.click("#ask button[value=yes]")
+        self.wait("/in 10 packets, none of them hidden; 10 of 10 frames are coded again, in [\\d,]+ bytes/.test(document.getElementById('status').textContent)")
+        BROWSER.click("#export")
+        self.wait("document.getElementById('ask').open")
+        BROWSER.click("#ask button[value=yes]")
+        self.wait("/in 40 packets, 30 of them hidden/.test(document.getElementById('status').textContent)")
 
     def test_a_download_says_that_the_script_is_left_out(self):
         self.open(SMALL)

@@ -1,17 +1,24 @@
 """Frames that are coded again: those that a script changes and no others, how good they are, and what is said where that cannot be done."""
 
+import contextlib
+import http.client
+import math
 import os
 import re
 import shutil
 import signal
 import subprocess
+import threading
 import time
 import unittest
+from array import array
+from unittest import mock
 
 from support import CLIP, SLOW, Case, command, frames_of, packets_of, start
+from test_page import PageCase
 from wokureti import Session
 from wokureti.session.origins import Run
-from wokureti.tools import coding, ivf
+from wokureti.tools import coding, containers, exports, fades, ivf, opus, programs, progress
 from wokureti.tools.coding import Piece
 
 FRAMES = len([data for data in packets_of(CLIP) if ivf.is_shown(data)])
@@ -198,6 +205,200 @@ class Coded(Case):
         process.send_signal(signal.SIGINT)
         self.assertEqual(process.wait(20 * SLOW), 130)
         self.assertEqual((self.out.exists(), list(temporary.iterdir())), (False, []))
+
+
+class Levels(Case):
+    """How much of a picture fades show, by the samples that the program serves."""
+
+    def test_weights_are_those_of_the_pictures(self):
+        script = exports.known("trim 0 5 30; fade 1 3 8 256 64; trim 0 0 6; fade 3 0 4 0 256; splice 2 4; parts 5 20 16 2 0 7 0 40 100", programs.find("vp8serve"))
+        last = script.count(";") + 1
+        script += f"; fade {last} 10 5 256 32; fade {last + 1} 12 60 256 128"
+        weights = fades.Weights(script, [FRAMES])
+        plain = frames_of(CLIP, range(FRAMES))
+        with Session(CLIP) as session:
+            session.request(f"script {script}")
+            count = session.count().frames
+            origins = session.origins(0, count)
+        self.assertEqual(weights.lengths[-1], count)
+        luma = 320 * 180
+        for number, faded in enumerate(frames_of(CLIP, range(count), f"script {script}")):
+            whole = sum(plain[origins[number]["source_frame"]][:luma]) - 16 * luma
+            self.assertAlmostEqual((sum(faded[:luma]) - 16 * luma) / whole, weights(number), delta=0.02)
+
+    def test_weights_of_parts(self):
+        weights = fades.Weights("fade 0 0 10 0 256; parts 1 5 3 0 0 2 1 20 9", [25])
+        self.assertEqual(weights.lengths[-1], 10)
+        self.assertEqual([weights(number) for number in range(10)], [0.5, 0.6, 0.7, 1, 1, 1, 1, 1, 1, 1])
+
+    def test_levels(self):
+        # A fade to black at the end of a part stays black, and does not go on to the next part, which is another one.
+        weights = fades.Weights("trim 0 0 4; fade 1 0 3 256 0; parts 2 0 4 0 10 3", [FRAMES])
+        levels = fades.levels_of([Run(1, 0, 0, ()), Run(3, 0, 1, (2,)), Run(3, 0, 10, ())], weights)
+        wanted = [(1, 2 / 3), (2 / 3, 1 / 3), (1 / 3, 0), (0, 0), (1, 1), (1, 1), (1, 1)]
+        for found, pair in zip(levels, wanted, strict=True):
+            self.assertAlmostEqual(found[0], pair[0])
+            self.assertAlmostEqual(found[1], pair[1])
+
+
+@unittest.skipUnless(HAS_ENCODER, "no ffmpeg")
+class Sound(Case):
+    """Sound that fades with the picture."""
+
+    LIMIT = 120
+
+    def clip(self, name, *words, source="sine=440:d=2:r=48000"):
+        path = self.room / name
+        words = ["ffmpeg", "-nostdin", "-v", "error", "-i", CLIP, "-f", "lavfi", "-i", source, "-c:v", "copy", *words, "-shortest", path]
+        subprocess.run(words, check=True, timeout=20 * SLOW)
+        return path
+
+    def setUp(self):
+        super().setUp()
+        self.room = self.folder()
+
+    def cut(self, clip, out, *words):
+        status, _, errors = command("cut", clip, out, "-y", "--from", "f6", "--to", "f42", "--fade-in", "f10", "--fade-out", "f12", "--psnr", "30", *words)
+        self.assertEqual(status, 0, errors)
+        return errors
+
+    def packets(self, path):
+        """The times and bytes of the packets of sound."""
+        track = containers.read_sounds(path, str(path))[0]
+        return list(track.times), list(track.packets(range(len(track.sizes))))
+
+    def samples(self, path):
+        words = ["ffmpeg", "-nostdin", "-v", "error", "-i", path, "-map", "0:a", "-ac", "1", "-ar", "48000", "-f", "s16le", "-"]
+        return array("h", subprocess.run(words, stdout=subprocess.PIPE, timeout=20 * SLOW, check=True).stdout)
+
+    def level(self, time):
+        """What the level is to be at a time in seconds: frames are 1/25 s."""
+        frame = 25 * time
+        return max(0, min(1, frame / 9, (35 - frame) / 11))
+
+    def assertLevels(self, path, plain, far):
+        """The level of each 20 ms against the one without a fade."""
+        found, whole = self.samples(path), self.samples(plain)
+        self.assertLess(abs(len(found) - len(whole)), 2000)
+        for start in range(0, min(len(found), len(whole)) - 960, 960):
+            one, other = (math.sqrt(sum(sample * sample for sample in samples[start : start + 960]) / 960) for samples in (found, whole))
+            self.assertAlmostEqual(one / other, self.level((start + 480) / 48000), delta=far, msg=start)
+        return found, whole
+
+    def assertSamePackets(self, one, other):
+        """Only the packets of the fades are others, and all have the same times. Returns their numbers."""
+        (times, ours), (plain_times, theirs) = self.packets(one), self.packets(other)
+        self.assertEqual(times, plain_times)
+        self.assertEqual({after - before for before, after in zip(times, times[1:])}, {20_000_000})
+        changed = [number for number, pair in enumerate(zip(ours, theirs, strict=True)) if pair[0] != pair[1]]
+        # The fade in is over at 0.36 s, and the fade out begins at 0.96 s.
+        for number in changed:
+            self.assertTrue(times[number] < 360_000_000 or times[number] + 20_000_000 > 960_000_000, times[number])
+        self.assertGreater(len(changed), 36)
+        return changed
+
+    def test_a_tone(self):
+        clip, out, plain = self.clip("clip.webm", "-c:a", "libopus"), self.room / "out.webm", self.room / "plain.webm"
+        self.cut(clip, out, "--fade-sound")
+        self.cut(clip, plain)
+        self.assertSamePackets(out, plain)
+        found, whole = self.assertLevels(out, plain, 0.03)
+        # No click: no sample is further from the one before it than those of the tone are.
+        step = max(abs(after - before) for before, after in zip(whole, whole[1:]))
+        self.assertLessEqual(max(abs(after - before) for before, after in zip(found, found[1:])), 1.02 * step)
+
+    def test_speech(self):
+        """Packets of SILK are followed by packets of SILK: ffmpeg's own decoder clicks at CELT after SILK."""
+        voice = "aevalsrc='0.25*sin(2*PI*(140+9*sin(2*PI*3*t))*t)+0.15*sin(2*PI*420*t)+0.05*sin(4200*t)*sin(9*t):d=2:s=48000'"
+        clip = self.clip("clip.webm", "-c:a", "libopus", "-b:a", "14k", "-application", "voip", source=voice)
+        out, plain = self.room / "out.webm", self.room / "plain.webm"
+        self.cut(clip, out, "--fade-sound")
+        self.cut(clip, plain)
+        changed = self.assertSamePackets(out, plain)
+        kinds = [opus.is_silk(data) for data in self.packets(out)[1]]
+        self.assertEqual(set(kinds[changed[len(changed) // 2] :]), {True})
+        found, whole = self.assertLevels(out, plain, 0.3)
+        step = max(abs(after - before) for before, after in zip(whole, whole[1:]))
+        self.assertLessEqual(max(abs(after - before) for before, after in zip(found, found[1:])), 1.1 * step)
+
+    def test_another_codec_is_coded_as_opus(self):
+        clip, out, plain = self.clip("clip.webm", "-c:a", "libvorbis"), self.room / "out.webm", self.room / "plain.webm"
+        errors = self.cut(clip, out, "--fade-sound")
+        self.assertIn("sound track 0 is coded again as Opus: it fades, and packets of vorbis are not coded here", errors)
+        self.cut(clip, plain, "--sound", "encode")
+        self.assertLevels(out, plain, 0.03)
+        status, _, errors = command("cut", clip, out, "-y", "--from", "f6", "--fade-in", "f10", "--fade-sound", "--sound", "copy", "--psnr", "30")
+        self.assertEqual((status, "cannot be copied: it fades" in errors), (2, True), errors)
+
+    def test_what_is_refused(self):
+        for words, text in (
+            (("--fade-sound",), "--fade-sound is together with"),
+            (("--fade-in", "f4", "--fade-sound"), "name OUT .webm or .mkv"),
+        ):
+            status, _, errors = command("cut", CLIP, self.room / "out.ivf", "--from", "f6", *words)
+            self.assertEqual((status, text in errors), (2, True), errors)
+
+
+@unittest.skipUnless(HAS_ENCODER, "no ffmpeg")
+class Pages(PageCase):
+    """What the page asks of the server."""
+
+    LIMIT = 120
+
+    def script(self, text):
+        self.serve(CLIP)
+        self.step(f"script {text}")
+
+    def test_costs(self):
+        self.script("trim 0 30 10; fade 1 5 4 256 0")
+        found = self.members("/costs")
+        packets = packets_of(CLIP)
+        lead = {"first": 0, "end": 6, "packets": 30, "bytes": sum(map(len, packets[:30])), "length": 30 * 10**9 // 25, "coded_bytes": sum(map(len, packets[30:36]))}
+        self.assertEqual((found["frames"], found["coded"], found["nodes"], found["leads"]), (10, 4, [2], [lead]))
+        self.assertEqual((found["sounds"], found["encoder"], found["why"]), (False, "ffmpeg", ""))
+
+    def test_the_file_is_that_of_the_command(self):
+        script = f"fade 0 {FRAMES - 6} 5 256 0"
+        self.script(script)
+        status, headers, body = self.ask("/exported?code=1&psnr=36")
+        self.assertEqual(status, 200)
+        self.assertRegex(headers["X-Exported"], rf"{FRAMES} frames, in {FRAMES} packets, none of them hidden; 5 of {FRAMES} frames are coded again, in [\d,]+ bytes, PSNR 3[6-9]\.\d dB at least and [\d.]+ dB in the mean")
+        out = self.folder() / "out.ivf"
+        self.assertEqual(command("export", CLIP, out, "--code-changed", "--psnr", "36", "--script", script)[0], 0)
+        self.assertTrue(body == out.read_bytes())
+        for query in ("psnr=70", "psnr=x", "lead=other", "sound=loud", "more=1"):
+            self.assertEqual(self.ask(f"/exported?code=1&{query}")[0], 400, query)
+        self.assertEqual(self.ask("/exported")[0], 409)
+
+    def test_no_encoder(self):
+        self.script("fade 0 0 5 0 256")
+        with mock.patch("shutil.which", lambda name: None):
+            found = self.members("/costs")
+            self.assertEqual((found["encoder"], "install ffmpeg (with libvpx)" in found["why"]), (None, True))
+            self.assertEqual(self.ask("/exported?code=1")[0], 409)
+
+    def test_nobody_waits_any_more(self):
+        """The encoder is ended."""
+        self.script("fade 0 0 40 0 256")
+        began, ended = threading.Event(), []
+        real = coding.encode
+
+        def encode(*given):
+            *_, quantizer, _, watch = given
+            began.set()
+            watch.check = mock.Mock(side_effect=progress.Stopped)
+            try:
+                real(*given)
+            except progress.Stopped:
+                ended.append(quantizer)
+                raise
+
+        with mock.patch.object(coding, "encode", encode):
+            with contextlib.suppress(OSError, http.client.HTTPException):
+                self.ask("/exported?code=1")
+            self.assertTrue(began.wait(20 * SLOW))
+        self.assertEqual(len(ended), 1)
+        self.assertEqual([name for name in os.listdir(self.live.room.name) if name.startswith("export")], [])
 
 
 if __name__ == "__main__":

@@ -343,6 +343,11 @@ def add_coding(parser):
     )
     parser.add_argument("--psnr", type=decibels, default=None, metavar="DB", help="what each frame that is coded again has at least against the script's frame, 20 to 60 dB; 45 if missing")
     parser.add_argument(
+        "--fade-sound",
+        action="store_true",
+        help="the sound fades with the picture: of a track of Opus the packets of the fade are coded again, of another track all of them as Opus; else the sound is copied",
+    )
+    parser.add_argument(
         "--lead",
         choices=("exact", "coded"),
         default="exact",
@@ -525,15 +530,18 @@ def export_session(given, session, out, room):
 
     fades = any(getattr(given, name, None) for name in ("fade_in", "fade_out"))
     if getattr(given, "is_step", False) or not (fades or getattr(given, "code_changed", False) or getattr(given, "lead", "exact") == "coded"):
-        if getattr(given, "psnr", None) is not None:
-            raise cat.Failed("--psnr is together with --code-changed, --fade-in, --fade-out or --lead coded")
+        name = "--psnr" if getattr(given, "psnr", None) is not None else "--fade-sound" if getattr(given, "fade_sound", False) else None
+        if name is not None and not getattr(given, "is_step", False):
+            raise cat.Failed(f"{name} is together with --code-changed, --fade-in, --fade-out or --lead coded")
         return exports.export(session.edits.contents(), list(session.edits), out, room), None
 
     def open_session(path):
         return cat.open_session(path, [], None, None, None, programs.find("vp8serve"))
 
     least = coding.USUAL if given.psnr is None else given.psnr
-    return coding.export(session, open_session, out, coding.How(least, given.lead == "coded", say), room)
+    if given.fade_sound and muxing.ending_of(given.out) is None:
+        raise cat.Failed("--fade-sound is of a file with sound: name OUT .webm or .mkv")
+    return coding.export(session, open_session, out, coding.How(least, given.lead == "coded", say, given.fade_sound), room)
 
 
 def add_listed(parser):

@@ -87,7 +87,7 @@ export class Cropping {
       { name: "width", label: "Width", value: found.width, most: width },
       { name: "height", label: "Height", value: found.height, most: height },
     ];
-    const given = await ask("Crop all frames", "Crop", fields, "The script crops what is shown; no packet is changed. A cropped picture cannot be exported without coding again.");
+    const given = await ask("Crop all frames", "Crop", fields, "The script crops what is shown; no packet is changed. Export then codes all frames again.");
     this.toggle(false);
     if (!given) return;
     const { x, y, width: wide, height: high } = given;

@@ -111,8 +111,8 @@ export class Editing {
       const choices = saves
         .map(({ edited, next }, number) => [`the packets of ${names[number]}${number || script === "-" ? "" : ", without the script"}, to ${fileOf(next)}`, number, edited])
         .filter(([, number, edited]) => edited || number === 0);
-      const canExport = script !== "-" && session.exports && !session.changing;
-      if (canExport) choices.push(["the frames that are shown, as packets without coding again: Export", EXPORT]);
+      const canExport = script !== "-" && session.exports;
+      if (canExport) choices.push(["the frames that are shown: Export", EXPORT]);
       const how = engine.isOver === "server" ? `\`wokureti cat\` with --edits ${session.list} writes the frames that are shown.` : "A crop or a fade is not in the file.";
       const note = script === "-" || canExport ? "" : `The script changes what is shown, and no packet. ${how}`;
       const found = await ask("Save", "Save", [{ name: "source", label: "What", value: 0, choices }], note);

@@ -11,10 +11,12 @@
 //                                          packets alone, without the script. With `lines` as they would be after these edits, which are not made: no list,
 //                                          event, undo or redo has them. `low`: nobody waits
 // save(source, page)                       writes the packets of a source, and returns where, `reply`
-// file(kind, { name, signal, got })        a file that the page offers: `export` the frames that are shown, `cuts` the parts that are shown
+// file(kind, { name, signal, got, how })   a file that the page offers: `export` the frames that are shown, `cuts` the parts that are shown. With `how` the frames of an
+//                                          export that the script changes are coded again: `psnr` the decibels that each has at least, `lead` (`exact` or `coded`), `sound` (`copy` or `fade`)
 // link(kind, number)                       the address of a file, or null if `offer` makes it
 // offer(kind, number)                      offers a file of a kind without an address
-// task(kind, query, { signal })            long work: `check`, the findings of a group of pictures after edits that are not made
+// task(kind, query, { signal })            long work: `check`, the findings of a group of pictures after edits that are not made; `costs`, what an export costs: the number of its
+//                                          `frames`, how many are `coded` again, its `leads`, whether `sounds` can fade, the `encoder`, and `why` there is none
 // progress(name)                           how far an edit, the opening of a stream, and the export of this name are
 // sound(session)                           the address of the sound of the frames that are shown, or null
 // add(file), page(file)                    opens a stream as the last source, or on a page of its own; `take(files)` those that were dropped, true if that is all

@@ -1,11 +1,60 @@
-// Export: the frames that are shown as a file, or why that cannot be.
+// Export: the frames that are shown as a file, or why that cannot be. What the script changes is coded again, if that is wanted.
 
+import { ask } from "./ask.js";
 import { engine, offer } from "./engine.js";
 import { notice } from "./status.js";
 
 const find = (id) => document.getElementById(id);
 // Milliseconds between two looks at how far an export is.
 const OFTEN = 200;
+// Nanoseconds of a lead from which on there is a choice, and decibels that each coded frame has at least if nothing is said.
+const LONG = 10e9;
+const USUAL = 45;
+
+function many(number, what) {
+  return `${number.toLocaleString("en")} ${what}${number === 1 ? "" : "s"}`;
+}
+
+/** What an export codes again, in a sentence. */
+export function codedText({ coded, frames }) {
+  if (coded === frames) return `The script changes each of the ${many(frames, "frame")}: all of them are coded again.`;
+  return `${coded.toLocaleString("en")} of ${many(frames, "frame")} ${coded === 1 ? "is" : "are"} coded again; all others stay as they are.`;
+}
+
+/** What each way costs for parts that begin long after a key packet. */
+export function leadChoices(leads) {
+  const sum = (name) => leads.reduce((all, lead) => all + lead[name], 0);
+  const frames = leads.reduce((all, { first, end }) => all + end - first, 0);
+  return [
+    [`as they are: ${many(sum("packets"), "hidden packet")} before them, ${many(sum("bytes"), "byte")}`, "exact"],
+    [`coded again: ${many(frames, "frame")}, ${many(sum("coded_bytes"), "byte")} now, and no hidden packet`, "coded"],
+  ];
+}
+
+/** The fields of the dialog for what an export costs; none if there is nothing to choose. */
+function fieldsOf({ coded, leads, sounds, encoder }) {
+  const long = leads.filter(({ length }) => length > LONG);
+  if (!encoder || (!coded && !long.length)) return [];
+  const fields = [{ name: "psnr", label: "Decibels that each coded frame has at least", value: USUAL, most: 60 }];
+  if (sounds) fields.push({ name: "sound", label: "Sound", value: "fade", choices: [["fades with the picture", "fade"], ["stays as it is", "copy"]] });
+  if (long.length) {
+    const label = long.length === 1 ? `Frame ${long[0].first} is ${(long[0].length / 1e9).toFixed(0)} s after a key frame: the frames from there on` : `${long.length} parts begin long after a key frame: their frames`;
+    fields.push({ name: "lead", label, value: "exact", choices: leadChoices(long) });
+  }
+  return fields;
+}
+
+/** How the frames are exported: null if not at all, else what is coded again, or nothing. */
+async function chosen(signal) {
+  const costs = await engine.task("costs", {}, { signal });
+  if (costs.coded && !costs.encoder) throw new Error(`${codedText(costs)} ${costs.why}`);
+  const fields = fieldsOf(costs);
+  if (!fields.length) return {};
+  const how = await ask("Export", "Export", fields, costs.coded ? codedText(costs) : "");
+  // Nothing is coded.
+  if (how && !costs.coded && how.lead !== "coded") return {};
+  return how && { how };
+}
 
 export class Exporting {
   constructor(status) {
@@ -26,23 +75,33 @@ export class Exporting {
     }
     const making = new AbortController();
     this.making = making;
+    const how = await chosen(making.signal).catch((error) => (error.name === "AbortError" ? null : this.failed(error)));
+    if (!how) {
+      this.making = null;
+      return;
+    }
     const button = find("export");
     const { title } = button;
     button.textContent = "Stop the export";
     const number = String(Math.random()).slice(2);
     this.tell(number, making).catch(() => {});
     try {
-      const { file, name, said } = await engine.file("export", { name: number, signal: making.signal, got: (done, total) => this.status.share("the export is read", done / total) });
+      const { file, name, said } = await engine.file("export", { ...how, name: number, signal: making.signal, got: (done, total) => this.status.share("the export is read", done / total) });
       if (file) offer(file, name);
       this.status.say(`exported ${name}: ${said}`);
     } catch (error) {
       if (error.name === "AbortError") this.status.say("the export was stopped");
-      else notice(`Nothing was exported: ${error.message}`, { isBad: true, id: "exported" });
+      else this.failed(error);
     } finally {
       this.making = null;
       button.textContent = "Export";
       button.title = title;
     }
+  }
+
+  failed(error) {
+    notice(`Nothing was exported: ${error.message}`, { isBad: true, id: "exported" });
+    return null;
   }
 
   /** Says how far the server is. vp8serve itself does not say it: then how long it takes. */

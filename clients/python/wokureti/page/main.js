@@ -131,8 +131,7 @@ function writeHead() {
   find("saved").title = find("saved").textContent;
   find("save").title = `Save the edited packets to ${saves[0].next} (Ctrl+S)`;
   find("export").hidden = !exports || script === "-";
-  find("export").classList.toggle("off", changing !== null);
-  find("export").title = changing ? `Node ${changing[0]}, ${changing[1]}, changes the picture, and so cannot be exported without coding again` : "The frames that are shown as a file, without coding again";
+  find("export").title = changing ? `The frames that are shown as a file. Node ${changing[0]}, ${changing[1]}, changes the picture: these frames are coded again, all others stay as they are` : "The frames that are shown as a file, without coding again";
   find("download").title = script === "-" ? "The edited stream as a file" : LEFT_OUT;
   const label = find("source-label");
   label.hidden = sources.length < 2;

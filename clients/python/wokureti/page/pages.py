@@ -9,7 +9,7 @@ import tempfile
 import time
 
 from .. import system
-from . import adding, others
+from . import adding, coded, others
 from ..tools import cut_lists, exports, ivf, muxing, progress, repair
 from .checking import Earlier, News
 from .clipboard import Clipboard, Gone, numbers_of, runs_of
@@ -96,6 +96,7 @@ class PageRoutes(Routes):
                 ("stream.ivf",): self.stream,
                 ("download",): self.download,
                 ("exported",): self.exported,
+                ("costs",): self.costs,
                 ("files",): self.list_files,
                 ("same",): self.same_files,
                 ("times",): self.times,
@@ -601,19 +602,21 @@ class PageRoutes(Routes):
         return Response(200, CONTAINERS[ending], length=os.fstat(file.fileno()).st_size, headers=self.attached(ending), pieces=pieces_of(file))
 
     def exported(self, request):
-        """The frames that the script serves as packets, without coding again. Other requests go on meanwhile; it ends if nobody waits for it any more."""
-        self.only(request, "name")
+        """The frames that the script serves as packets. Other requests go on meanwhile; it ends if nobody waits for it any more."""
+        self.only(request, "name", *coded.NAMES)
+        how = coded.how_of(request.query)
         name, watch = request.query.get("name", ""), Part("vp8serve makes the packets", request.is_gone)
         self.exporting[name] = watch
         try:
-            return self.export(watch)
+            return self.export(watch, how)
         except progress.Stopped:
             raise Dropped from None
         finally:
             if self.exporting.get(name) is watch:
                 del self.exporting[name]
 
-    def export(self, watch):
+    def export(self, watch, how):
+        """Without `how` nothing is coded again."""
         with self.live.lock:
             revision, contents, lines = self.live.revision, self.live.contents(), list(self.live.session.edits)
         ending = muxing.ending_for(contents.inputs.all[0].media)
@@ -622,15 +625,22 @@ class PageRoutes(Routes):
             path = os.path.join(folder, f"{self.safe_name()}-export{ending}")
             out = exports.Output(path, self.live.pad, self.live.sound, self.live.notice, watch)
             try:
-                told = exports.export(contents, lines, out, folder)
+                told = coded.export_as_packets(contents, lines, out, folder) if how is None else coded.export(self.live, lines, out, how, folder)
             except (ValueError, Ended) as error:
                 raise Refuse(409 if self.live.revision == revision else 412, str(error)) from None
-            if self.live.revision != revision:
+            # What is coded has its own session.
+            if self.live.revision != revision and how is None:
                 raise Refuse(412, "the stream was changed", revision=self.live.revision)
             kept = os.path.join(self.live.room.name, f"export-{secrets.token_hex(8)}{ending}")
             os.rename(path, kept)
         file = system.open_to_remove(kept)
-        return Response(200, CONTAINERS[ending], length=os.fstat(file.fileno()).st_size, headers=[*self.attached(ending, "export"), ("X-Exported", told.text())], pieces=pieces_of(file))
+        return Response(200, CONTAINERS[ending], length=os.fstat(file.fileno()).st_size, headers=[*self.attached(ending, "export"), ("X-Exported", told)], pieces=pieces_of(file))
+
+    def costs(self, request):
+        """What an export of the frames that are shown costs."""
+        self.only(request)
+        with self.live.lock:
+            return as_json({"revision": self.live.revision, **self.live.ask(coded.costs_of)})
 
     def change(self, request):
         """An edit, several as one step, which may have a title, `undo`, `redo` or `save`, which may be of a source."""

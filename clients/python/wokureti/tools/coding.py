@@ -8,11 +8,12 @@ import operator
 import os
 import shutil
 import subprocess
+import tempfile
 from array import array
 from typing import NamedTuple
 
-from . import exports, ivf, times
-from ..session.errors import Ended
+from .. import system
+from . import exports, fades, ivf, times
 from ..session.frames import size_of
 from ..session.origins import runs_of
 
@@ -21,10 +22,15 @@ try:
 except ImportError:
     numpy = None
 
-# Decibels that each coded frame has at least if nothing is said.
-USUAL = 45.0
-# Quantizers of the encoder, the finest one first; seconds that it may take for a run.
-FINEST, COARSEST, MOST_TIME = 0, 50, 3600
+# Decibels that each coded frame has at least if nothing is said, and the least and the most that can be asked for.
+USUAL, LEAST, MOST = 45.0, 20, 60
+ENCODERS = ("ffmpeg", "vpxenc")
+# Quantizers of the encoder, the finest one first.
+FINEST, COARSEST = 0, 50
+# Tries of which one is the coarsest quantizer that is good enough: each halves what is left.
+MOST_TURNS = (COARSEST + 1 - FINEST).bit_length()
+# Frames of a run that one thread codes, so that the same packets come out on each machine: libvpx makes others with more threads.
+FEW = 250
 # Frames that are asked for together.
 TOGETHER = 8
 # Decibels of a frame that is the same.
@@ -98,9 +104,20 @@ def add(pieces, piece):
         pieces.append(piece)
 
 
+class Lead(NamedTuple):
+    """A part that begins between key packets, at frame `first` of the output: an exact cut has so many hidden packets before it, of so many bytes and nanoseconds; or its frames up to
+    `end`, the next key packet, are coded again, of which the packets have `coded_bytes` now."""
+
+    first: int
+    end: int
+    packets: int
+    bytes: int
+    length: int
+    coded_bytes: int
+
+
 def leads_of(contents, found):
-    """For each run of frames that begins between key packets: the frames from there up to the next key packet, as a range, the number of hidden packets that an exact cut has
-    before them, and their bytes."""
+    """The leads of runs of frames."""
     contents.listing.learn()
     leads, first, before = [], 0, None
     for run in found:
@@ -113,10 +130,18 @@ def leads_of(contents, found):
                 begin -= 1
             if begin < place:
                 end = next((number for number in range(run.first, run.first + run.count) if contents.has_key_tag(stream[shown[number]])), run.first + run.count)
-                size = sum(contents.size(stream[number]) for number in range(begin, place))
-                leads.append(((first, first + end - run.first), place - begin, size))
+                leads.append(lead_of(contents, run.source, (first, first + end - run.first), (begin, place, shown[end - 1] + 1)))
         first, before = first + run.count, run
     return leads
+
+
+def lead_of(contents, source, frames, places):
+    """A lead, of its frames and of the places of its key packet, of its first shown packet, and after its last one."""
+    stream, (begin, place, after) = contents.streams[source], places
+    hidden, coded = (sum(contents.size(number) for number in stream[one:other]) for one, other in ((begin, place), (place, after)))
+    numbers = [number for number in stream[begin:place] if contents.is_shown(number)]
+    length = times.nano(sum(contents.durations(source, numbers)), contents.inputs.all[source].head)
+    return Lead(*frames, place - begin, hidden, length, coded)
 
 
 def script_of(pieces, coded, program):
@@ -140,29 +165,29 @@ def script_of(pieces, coded, program):
 
 def encoder():
     """The name of the program that codes."""
-    found = next((name for name in ("ffmpeg", "vpxenc") if shutil.which(name)), None)
+    found = next((name for name in ENCODERS if shutil.which(name)), None)
     if found is None:
         raise Failed(NO_ENCODER)
     return found
 
 
-def encode(name, frames, out, quantizer):
-    """Codes a YUV4MPEG2 file as an IVF file, whose packets all have this quantizer of the encoder, 0 to 63."""
+def encode(name, frames, out, quantizer, threads, watch):
+    """Codes a YUV4MPEG2 file as an IVF file, whose packets all have this quantizer of the encoder, 0 to 63. Who watches may end it."""
     number = str(quantizer)
     if name == "ffmpeg":
         rates = ["-qmin", number, "-qmax", number, "-b:v", "500M", "-g", "99999", "-keyint_min", "0"]
         words = ["ffmpeg", "-nostdin", "-v", "error", "-y", "-f", "yuv4mpegpipe", "-i", f"file:{frames}", "-c:v", "libvpx", *rates]
-        words += ["-auto-alt-ref", "0", "-lag-in-frames", "0", "-deadline", "good", "-cpu-used", "1", "-fps_mode", "passthrough", "-f", "ivf", f"file:{out}"]
+        words += ["-auto-alt-ref", "0", "-lag-in-frames", "0", "-deadline", "good", "-cpu-used", "1", "-threads", str(threads), "-fps_mode", "passthrough", "-f", "ivf", f"file:{out}"]
     else:
         words = ["vpxenc", "--codec=vp8", "--ivf", "--quiet", "--passes=1", "--good", "--cpu-used=1", "--auto-alt-ref=0", "--lag-in-frames=0", "--drop-frame=0", "--disable-warning-prompt"]
-        words += ["--end-usage=vbr", "--target-bitrate=500000", f"--min-q={number}", f"--max-q={number}", "--kf-max-dist=99999", "-o", out, frames]
-    try:
-        done = subprocess.run(words, stdin=subprocess.DEVNULL, capture_output=True, timeout=MOST_TIME, check=False)
-    except subprocess.TimeoutExpired:
-        raise Ended(None, f"{name} took longer than {MOST_TIME} seconds") from None
-    if done.returncode != 0:
-        said = done.stderr.decode(errors="replace").strip()
-        raise Failed(f"{name} could not code the frames: {said[-300:]}" + ("; install ffmpeg with libvpx" if "Unknown encoder" in said else ""))
+        words += ["--end-usage=vbr", "--target-bitrate=500000", f"--min-q={number}", f"--max-q={number}", "--kf-max-dist=99999", f"--threads={threads}", "-o", out, frames]
+    with tempfile.TemporaryFile() as errors:
+        with subprocess.Popen(words, stdin=subprocess.DEVNULL, stdout=subprocess.DEVNULL, stderr=errors) as process:
+            exports.await_end(process, name, watch)
+        if process.returncode != 0:
+            errors.seek(0)
+            said = errors.read().decode(errors="replace").strip()
+            raise Failed(f"{name} could not code the frames: {said[-300:]}" + ("; install ffmpeg with libvpx" if "Unknown encoder" in said else ""))
 
 
 def pictures(session, first, count):
@@ -171,7 +196,7 @@ def pictures(session, first, count):
         yield from session.pictures(range(start, min(start + TOGETHER, first + count)))
 
 
-def write_frames(session, piece, path):
+def write_frames(session, piece, path, watch):
     """Writes the frames of a piece as YUV4MPEG2. `Failed` if their size changes."""
     size = None
     with open(path, "wb") as file:
@@ -183,6 +208,7 @@ def write_frames(session, piece, path):
                 raise Failed(f"frame {number} is {width}x{height} and those before it are {size[0]}x{size[1]}: frames that are coded together have one size")
             file.write(b"FRAME\n")
             file.write(samples)
+            watch.part(number + 1 - piece.first, piece.count)
     return size
 
 
@@ -216,10 +242,12 @@ class Coder:
     def code(self, session, piece):
         """Codes a piece: with the coarsest quantizer by which each frame is good enough. `Failed` if even the finest one is not."""
         frames, out = (os.path.join(self.room, name) for name in ("frames.y4m", "coded.ivf"))
-        size = write_frames(session, piece, frames)
-        best, low, high = None, FINEST, COARSEST
+        self.watch.stage(f"making {piece.count:,} frames from frame {piece.first:,} on")
+        size = write_frames(session, piece, frames, self.watch)
+        best, low, high, turn = None, FINEST, COARSEST, 0
         while low <= high:
-            quantizer = (low + high) // 2
+            quantizer, turn = (low + high) // 2, turn + 1
+            self.watch.stage(f"coding {piece.count:,} frames from frame {piece.first:,} on, try {turn} of {MOST_TURNS} at most")
             found = self.attempt(frames, size, out, quantizer, piece)
             if min(found[1]) >= self.least:
                 best, low = found, quantizer + 1
@@ -235,8 +263,7 @@ class Coder:
 
     def attempt(self, frames, size, out, quantizer, piece):
         """The packets of a run coded with a quantizer, and the PSNR of each frame."""
-        self.watch.stage(f"coding {piece.count:,} frames from frame {piece.first:,} on with quantizer {quantizer}")
-        encode(self.name, frames, out, quantizer)
+        encode(self.name, frames, out, quantizer, 1 if piece.count <= FEW else system.processors(), self.watch)
         packets = [data for _, data in ivf.read_packets(out)[1]]
         if len(packets) != piece.count or not all(map(ivf.is_shown, packets)) or not ivf.is_key(packets[0]):
             raise Failed(f"{self.name} made {len(packets)} packets of {piece.count} frames")
@@ -244,6 +271,7 @@ class Coder:
         with self.open_session(out) as session:
             for decibels in measure(frames, size, session):
                 found.append(decibels)
+                self.watch.part(len(found), piece.count)
                 if decibels < self.least:
                     # The rest is not looked at.
                     break
@@ -277,6 +305,18 @@ def durations_of(served, contents, pieces):
     return found
 
 
+def costs_of(session):
+    """What an export of a session costs: the number of its frames, how many are coded again, what of the script changes them, and the leads."""
+    contents, found = session.edits.contents(), runs_of(session)
+    changed = [run for run in found if run.changed]
+    return {
+        "frames": sum(run.count for run in found),
+        "coded": sum(run.count for run in changed),
+        "nodes": sorted({node for run in changed for node in run.changed}),
+        "leads": [lead._asdict() for lead in leads_of(contents, found)],
+    }
+
+
 def export(session, open_session, out, how, room):
     """Writes the frames that a session serves: those that its script changes are coded again, and those of leads, if that is asked for. Returns what was written, and what
     was coded, None if nothing had to be."""
@@ -286,7 +326,7 @@ def export(session, open_session, out, how, room):
     found = runs_of(session)
     leads = leads_of(contents, found)
     how.say_leads(leads)
-    pieces = pieces_of(found, [lead[0] for lead in leads] if how.codes_leads else ())
+    pieces = pieces_of(found, [lead[:2] for lead in leads] if how.codes_leads else ())
     if not any(piece.is_coded for piece in pieces):
         return exports.export(contents, list(session.edits), out, room), None
     count = sum(piece.count for piece in pieces)
@@ -297,22 +337,27 @@ def export(session, open_session, out, how, room):
     for piece in pieces:
         if piece.is_coded:
             coder.code(session, piece)
-    served = exports.Frames(contents).served()
+    frames = exports.Frames(contents)
+    served, levels = frames.served(), None
+    if how.fades_sound:
+        levels = fades.levels_of(found, fades.Weights(contents.script, [len(shown) for shown in frames.shown]))
     coded = coder.write(contents.inputs.all[0].head, durations_of(served, contents, pieces))
     script = script_of(pieces, len(contents.inputs.all), contents.program)
     lines = [*session.edits, f"script {script}"]
-    return exports.export(contents, lines, out, room, exports.Added(coded.path, served)), coded
+    return exports.export(contents, lines, out, room, exports.Added(coded.path, served, levels)), coded
 
 
 class How(NamedTuple):
-    """How frames are coded: the least PSNR, whether the frames of leads are, and who hears what each way costs."""
+    """How frames are coded: the least PSNR, whether the frames of leads are, who hears what each way costs, and whether the sound fades with the picture."""
 
     least: float
     codes_leads: bool
     say: object
+    fades_sound: bool = False
 
     def say_leads(self, leads):
         """Says what a part that begins between key packets costs, if it costs much."""
-        for (first, end), packets, size in leads:
-            other = f"coded, its first {end - first:,} frames are new" if self.codes_leads else f"--lead coded codes {end - first:,} frames in place of them"
-            self.say(f"frame {first} is between key packets: exactly, {packets:,} hidden packets of {size:,} bytes come before it; {other}")
+        for lead in leads:
+            count = lead.end - lead.first
+            other = f"coded, its first {count:,} frames are new" if self.codes_leads else f"--lead coded codes {count:,} frames in place of them"
+            self.say(f"frame {lead.first} is between key packets: exactly, {lead.packets:,} hidden packets of {lead.bytes:,} bytes come before it; {other}")

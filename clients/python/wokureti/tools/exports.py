@@ -220,10 +220,12 @@ class Output(NamedTuple):
 
 
 class Added(NamedTuple):
-    """A source that is exported with those of a session: its path, and the frames of the session's own script, which say the times and the sound."""
+    """A source that is exported with those of a session: its path, and the frames of the session's own script, which say the times and the sound; and if the sound fades, its
+    levels at the beginning and at the end of each frame."""
 
     path: str
     served: list
+    levels: object = None
 
 
 class With(NamedTuple):
@@ -250,6 +252,8 @@ def export(contents, lines, out, room, added=None):
         head, index = ivf.read_index(file.fileno())
         spans = excerpts.of_frames(contents, served)
         told = told_of(index, spans)
+        if added is not None and added.levels is not None:
+            spans = [span._replace(levels=levels) for span, levels in zip(spans, added.levels)]
         out.watch.stage(f"writing {os.path.basename(os.fsdecode(out.path))}")
         if muxing.ending_of(out.path) is None:
             size = os.fstat(file.fileno()).st_size

@@ -17,6 +17,11 @@ def duration(data):
     return count * FRAMES[data[0] >> 3]
 
 
+def is_silk(data):
+    """Whether a packet is of SILK, alone or with CELT for its higher frequencies."""
+    return bool(data) and data[0] >> 3 < 16
+
+
 def silence(length, channels):
     """A silent packet of 2.5, 5, 10 or 20 ms, the longest one that is not longer than this, and its length."""
     place = max(place for place, frame in enumerate(CELT) if frame <= max(length, CELT[0]))

@@ -3,33 +3,29 @@
 import bisect
 import contextlib
 import os
-import shutil
-import subprocess
-import tempfile
+from array import array
 from typing import NamedTuple
 
-from . import containers, opus
+from . import containers, fades, fading, opus, opus_coding
+from .opus_coding import Cannot
 
 NANO = 10**9
 MODES = ("copy", "encode", "none")
 # The codecs that a file of this ending may have, of those whose packets are copied.
 COPIED = {".webm": ("opus", "vorbis"), ".mkv": ("opus", "vorbis", "aac", "mp3")}
-# The rate of Opus, and the bits a second of each channel where a track is coded again.
-OPUS_RATE, BITS = 48000, 64000
-# How long a program may take that codes sound.
-MOST_TIME = 3600
-
-
-class Cannot(ValueError):
-    """The sound cannot be written as it was asked for."""
+# The rate of Opus, and the bits a second of each channel where a track is coded again; bytes of samples at a time.
+OPUS_RATE, BITS, PIECE = opus_coding.RATE, 64000, 1 << 20
+__all__ = ["MODES", "Cannot", "Output", "Span", "joined", "outputs"]
 
 
 class Span(NamedTuple):
-    """Some time of the output, with the sound of a recording from `start` on, or silence if `media` is None. In nanoseconds."""
+    """Some time of the output, with the sound of a recording from `start` on, or silence if `media` is None. In nanoseconds. `levels` is how loud it is at its beginning and at its
+    end, 0 to 1."""
 
     media: object
     start: int
     length: int
+    levels: tuple = fades.LEVEL
 
 
 class Output(NamedTuple):
@@ -46,10 +42,21 @@ class Output(NamedTuple):
     packets: object
 
 
+class How(NamedTuple):
+    """How tracks are written: the ending of the file, what is done with sound (MODES, or None), who hears a sentence, the folder for files on the way, and what fades."""
+
+    ending: str
+    mode: object
+    say: object
+    room: str
+    ramps: list
+
+
 def joined(spans):
-    """The spans with those made one that follow each other in a recording."""
+    """The spans with those made one that follow each other in a recording, at their full level."""
     found = []
     for span in spans:
+        span = span._replace(levels=fades.LEVEL)
         last = found[-1] if found else None
         if last is not None and last.media is span.media and (span.media is None or last.start + last.length == span.start):
             found[-1] = last._replace(length=last.length + span.length)
@@ -61,27 +68,30 @@ def joined(spans):
 def outputs(spans, ending, mode, say, room):
     """The tracks of sound of an output with this ending, which have the sound of the spans. `say` is called with a sentence if a track is coded again, in the folder `room`.
     `Cannot` if `mode` is copy and a track cannot be copied."""
+    how = How(ending, mode, say, room, fades.ramps_of(spans))
     spans = joined(spans)
     recordings = list(dict.fromkeys(id(span.media) for span in spans if span.media is not None and span.media.sounds))
     if mode == "none" or not recordings:
         return []
     medias = {id(span.media): span.media for span in spans if span.media is not None}
     count = max(len(medias[one].sounds) for one in recordings)
-    return [output(spans, [medias[one] for one in recordings], number, ending, mode, say, room) for number in range(count)]
+    return [output(spans, [medias[one] for one in recordings], number, how) for number in range(count)]
 
 
-def output(spans, medias, number, ending, mode, say, room):
+def output(spans, medias, number, how):
     """One track."""
     first = next(media.sounds[number] for media in medias if number < len(media.sounds))
-    why = None if mode == "encode" else obstacle(spans, medias, number, first, ending)
-    if mode == "copy" and why is not None:
+    why = None if how.mode == "encode" else obstacle(spans, medias, number, first, how)
+    if how.mode == "copy" and why is not None:
         raise Cannot(f"sound track {number} cannot be copied: {why}; --sound encode codes it again, and --sound none leaves it out")
-    if mode != "encode" and why is None:
+    if how.mode != "encode" and why is None:
         packets, delay = (copied_opus(spans, number, first)) if first.codec == "opus" else copied(spans, number)
+        if how.ramps:
+            packets = fading.faded(packets, how.ramps, first.channels, how.room)
         return Output(first.codec, first.private, first.rate, first.channels, delay, first.language, first.tags, packets)
-    if mode is None:
-        say(f"sound track {number} is coded again as Opus: {why}")
-    return encoded(spans, number, first, room)
+    if how.mode is None:
+        how.say(f"sound track {number} is coded again as Opus: {why}")
+    return encoded(spans, number, first, how)
 
 
 def track_of(media, number):
@@ -89,10 +99,12 @@ def track_of(media, number):
     return media.sounds[number] if media is not None and number < len(media.sounds) else None
 
 
-def obstacle(spans, medias, number, first, ending):
-    """Why a track cannot be copied packet by packet, or None."""
-    if first.codec not in COPIED[ending]:
-        return f"{first.codec} cannot be copied to {ending} here"
+def obstacle(spans, medias, number, first, how):
+    """Why a track cannot be copied packet by packet, or None. Of a track of Opus that fades the other packets can."""
+    if first.codec not in COPIED[how.ending]:
+        return f"{first.codec} cannot be copied to {how.ending} here"
+    if how.ramps and (first.codec != "opus" or not opus.is_plain(first.private)):
+        return f"it fades, and packets of {first.codec if first.codec != 'opus' else 'more than two channels'} are not coded here"
     for media in medias:
         other = track_of(media, number)
         if other is not None and other[:4] != first[:4]:
@@ -169,29 +181,24 @@ def length_of(track, place):
 # Coded again
 
 
-def encoded(spans, number, first, room):
+def encoded(spans, number, first, how):
     """The samples of all spans, coded as Opus by ffmpeg."""
-    if not shutil.which("ffmpeg"):
-        raise Cannot(f"sound track {number} has to be coded again: install ffmpeg, or leave it out with --sound none")
-    path = os.path.join(room, f"encoded{number}.mka")
-    words = ["ffmpeg", "-nostdin", "-y", "-v", "error", "-f", "s16le", "-ar", str(OPUS_RATE), "-ac", str(first.channels), "-i", "pipe:0"]
-    words += ["-c:a", "libopus", "-b:a", str(BITS * first.channels), path]
-    with tempfile.TemporaryFile() as errors, subprocess.Popen(words, stdin=subprocess.PIPE, stdout=subprocess.DEVNULL, stderr=errors) as process:
-        try:
-            with process.stdin:
-                for piece in samples(spans, number, first.channels, room):
-                    process.stdin.write(piece)
-        except BrokenPipeError:
-            pass
-        except BaseException:
-            process.kill()
-            raise
-        if process.wait() != 0:
-            errors.seek(0)
-            raise Cannot(f"ffmpeg could not code sound track {number}: {errors.read().decode(errors='replace').strip()[-500:]}")
-    track = containers.read_sounds(path, path)[0]
+    pieces = samples(spans, number, first.channels, how.room)
+    if how.ramps:
+        pieces = quieter(pieces, first.channels, how.ramps)
+    track = opus_coding.code(pieces, first.channels, ["-b:a", str(BITS * first.channels)], os.path.join(how.room, f"encoded{number}"))
     delay = opus.pre_skip(track.private)
     return Output("opus", track.private, track.rate, track.channels, delay, first.language, first.tags, following(track, -delay))
+
+
+def quieter(pieces, channels, ramps):
+    """Pieces of samples that fade."""
+    done = 0
+    for piece in pieces:
+        part = array("h", piece)
+        fades.fade(part, done * NANO // OPUS_RATE, channels, ramps, OPUS_RATE)
+        done += len(part) // channels
+        yield part.tobytes()
 
 
 def following(track, time):
@@ -214,14 +221,15 @@ def samples(spans, number, channels, room):
             with open(decoded[track.path], "rb") as file:
                 file.seek(max(0, span.start) * OPUS_RATE // NANO * across)
                 while left:
-                    piece = file.read(min(left, 1 << 20))
+                    piece = file.read(min(left, PIECE // across * across))
                     if not piece:
                         break
                     yield piece
                     left -= len(piece)
         while left:
-            yield bytes(min(left, 1 << 20))
-            left -= min(left, 1 << 20)
+            piece = bytes(min(left, PIECE // across * across))
+            yield piece
+            left -= len(piece)
 
 
 def decode(media, track, channels, room):

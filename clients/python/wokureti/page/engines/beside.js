@@ -2,6 +2,7 @@
 // page, its list, or what redo makes again.
 
 import { answer } from "./checking.js";
+import { ivfOf, psnrOf } from "./coding.js";
 import { objectsOf } from "../details.js";
 import { Session } from "./session.js";
 
@@ -74,5 +75,30 @@ export class Beside {
 
   export(lines) {
     return this.after(lines).calls.export();
+  }
+
+  /** Packets that were coded of frames, which `measure` looks at. */
+  coded(head, packets) {
+    this.packets = new Session(this.module, [ivfOf(head, packets.map((_, place) => place), packets)], MOST_STATES);
+  }
+
+  /** The PSNR of some of these packets against the frames after edits, of which the first packet is frame `first`; up to the first one that has fewer decibels. */
+  measure(lines, first, from, count, least) {
+    const session = this.after(lines);
+    const found = [];
+    for (let at = from; at < from + count; at++) {
+      found.push(psnrOf(session.frame(first + at).samples, this.packets.frame(at).samples));
+      if (found.at(-1) < least) break;
+    }
+    return found;
+  }
+
+  /** The frames that are shown as an IVF file, of which coded packets replace some: they are a source more, and the script has the parts of all. */
+  exportCoded(lines, { head, stamps, script }, packets) {
+    // What follows says how long the last one is shown; no script has it.
+    const coded = ivfOf(head, stamps, [...packets, new Uint8Array(0)]);
+    const session = new Session(this.module, [...this.sources, coded], 1 << 20);
+    session.follow([...lines, `script ${script}`]);
+    return session.calls.export();
   }
 }

@@ -83,9 +83,10 @@ async function frames(list, given = {}) {
   return parseFrames(bytes, list.length).map((frame) => ({ ...frame, revision }));
 }
 
-/** The frames that are shown as a file: its bytes, its name, and what it has. `got` hears how many bytes of all are here. */
-async function exported({ name = "", signal, got = () => {} }) {
-  const answer = await get(`exported?name=${name}`, "", signal);
+/** The frames that are shown as a file: its bytes, its name, and what it has. `got` hears how many bytes of all are here; `how` says what is coded again. */
+async function exported({ name = "", signal, got = () => {}, how = null }) {
+  const coded = how ? `&${new URLSearchParams({ code: 1, ...how })}` : "";
+  const answer = await get(`exported?name=${name}${coded}`, "", signal);
   const total = Number(answer.headers.get("Content-Length"));
   const pieces = [];
   let done = 0;
@@ -108,6 +109,7 @@ async function file(kind, given = {}) {
 const LINKS = { png: (frame) => `../frames/${frame}.png`, packets: () => "../download" };
 
 async function task(kind, query, { signal } = {}) {
+  if (kind === "costs") return look("costs", {}, { waits: "what an export costs", signal });
   const { lines, packet, revision } = query;
   return (await post("preview", { lines, findings: packet, revision }, "", signal)).json();
 }

@@ -5,10 +5,15 @@ import { toColour } from "../colours.js";
 import { OPENING, Refusal, offer, use, waited } from "../engine.js";
 import { notice } from "../status.js";
 import { Channel } from "./channel.js";
+import { NO_ENCODER, canEncode, check, encoded } from "./encoding.js";
 import * as kept from "./kept.js";
+import { baseOf } from "./rates.js";
 
 // Milliseconds after which the second worker ends if it is not asked.
 const IDLE = 60000;
+// Frames that are coded together, and decibels that each has at least if nothing is said.
+const TOGETHER = 8;
+const USUAL = 45;
 // Bytes of a file above which the page says that it is large: its packets are in the memory, and while it is opened twice.
 const LARGE = 1 << 29;
 
@@ -23,8 +28,9 @@ const own = {
   sources: [],
   about: null,
   session: null,
-  // The part of a file that is read, or null, and why this page only looks.
+  // The part of a file that is read, or null, how far an export is, and why this page only looks.
   opening: null,
+  exporting: null,
   only: "",
   heard: () => {},
   found: () => {},
@@ -195,7 +201,16 @@ async function frames(list, given = {}) {
 
 // Long work
 
+/** What an export costs. */
+async function costs(signal) {
+  checkOpen();
+  const { frames: count, coded, leads } = await own.main.call("plan", [], { signal });
+  const encoder = (await canEncode(640, 360)) ? "VideoEncoder" : null;
+  return { frames: count, coded, leads, sounds: false, encoder, why: encoder ? "" : NO_ENCODER };
+}
+
 async function task(kind, query, { signal } = {}) {
+  if (kind === "costs") return costs(signal);
   const { lines, packet, revision } = query;
   return { revision, findings: await (await beside()).call("beside.findings", [await linesAfter(lines, revision), packet], { signal }) };
 }
@@ -256,14 +271,66 @@ function saidOf(pieces) {
   return `${seconds.toFixed(3)} s, ${many(stamps.length)} frames, in ${many(count)} packets, ${without ? `${many(without)} of them hidden: ${many(hidden)} bytes` : "none of them hidden"}`;
 }
 
-async function exported({ signal }) {
+/** The frames of a piece that is coded, as packets, and the PSNR of each. */
+async function codedPiece({ lines, head }, { first, count }, { psnr, signal }) {
+  const ask = async (name, given) => {
+    check(signal);
+    return (await beside()).call(`beside.${name}`, given, { signal });
+  };
+  const frames = (from) => ask("frames", [lines, Array.from({ length: Math.min(TOGETHER, count - from) }, (_, at) => first + from + at)]);
+  const measure = async (packets, least, got) => {
+    await ask("coded", [head, packets]);
+    const found = [];
+    for (let from = 0; from < count && found.length === from; from += TOGETHER) {
+      found.push(...(await ask("measure", [lines, first, from, Math.min(TOGETHER, count - from), least])));
+      got(found.length);
+      if (found.at(-1) < least) break;
+    }
+    return found;
+  };
+  const since = performance.now();
+  const what = (turn) => `coding ${count.toLocaleString("en")} frames from frame ${first.toLocaleString("en")} on, try ${turn}`;
+  const told = (turn, done) => (own.exporting = { what: what(turn), done, total: count, seconds: (performance.now() - since) / 1000 });
+  const [{ samples }] = await ask("frames", [lines, [first]]);
+  const [rate, scale] = baseOf(head);
+  return encoded(frames, count, measure, { least: psnr, framerate: Math.min(120, Math.max(1, rate / scale)), samples: samples.length, signal, told });
+}
+
+/** The frames that are shown, of which those that the script changes are coded again, and those of leads if that is wanted. */
+async function coded(how, signal) {
+  const psnr = Number(how.psnr ?? USUAL);
+  if (!(psnr >= 20 && psnr <= 60)) throw new Refusal(400, { error: "the decibels are 20 to 60" });
+  const plan = await own.main.call("plan", [how.lead === "coded"]);
+  if (plan.isFull) throw new Refusal(409, { error: "8 streams are read, and the coded frames are one more: join some first" });
+  const found = [];
+  for (const piece of plan.pieces.filter(({ isCoded }) => isCoded)) found.push(await codedPiece(plan, piece, { psnr, signal }));
+  own.exporting = null;
+  const packets = found.flatMap((one) => one.packets);
+  const decibels = found.flatMap((one) => one.psnr);
+  const pieces = await (await beside()).call("beside.exportCoded", [plan.lines, plan, packets], { signal });
+  const many = (number) => number.toLocaleString("en");
+  const size = packets.reduce((sum, { length }) => sum + length, 0);
+  const mean = decibels.reduce((sum, one) => sum + one, 0) / decibels.length;
+  const quality = `PSNR ${decibels.reduce((least, one) => Math.min(least, one)).toFixed(1)} dB at least and ${mean.toFixed(1)} dB in the mean`;
+  return { pieces, said: `${saidOf(pieces)}; ${many(packets.length)} of ${many(plan.frames)} frames are coded again, in ${many(size)} bytes, ${quality}; all others stay as they are` };
+}
+
+async function exported({ signal, how }) {
   const name = `${own.about.name.replace(/\.[^.]*$/, "")}-export.ivf`;
   const handle = await chosen(name);
-  const lines = await own.main.call("lines");
-  // An export is one call, which hears nothing: whoever stops it ends the worker.
+  // Whoever stops it ends the worker, which hears nothing while it is in a call.
   signal?.addEventListener("abort", leave);
-  const pieces = await (await beside()).call("beside.export", [lines], { signal });
-  return { file: null, name: await written(handle, pieces, name), said: saidOf(pieces) };
+  try {
+    if (how) {
+      const { pieces, said } = await coded(how, signal);
+      return { file: null, name: await written(handle, pieces, name), said };
+    }
+    const lines = await own.main.call("lines");
+    const pieces = await (await beside()).call("beside.export", [lines], { signal });
+    return { file: null, name: await written(handle, pieces, name), said: saidOf(pieces) };
+  } finally {
+    own.exporting = null;
+  }
 }
 
 async function file(kind, given = {}) {
@@ -321,7 +388,7 @@ use({
   link: () => null,
   offer: offered,
   sound: () => null,
-  progress: async () => ({ doing: null, opening: own.opening === null ? null : { what: "reading", done: own.opening, total: 1 }, exporting: undefined }),
+  progress: async () => ({ doing: null, opening: own.opening === null ? null : { what: "reading", done: own.opening, total: 1 }, exporting: own.exporting ?? undefined }),
   changed(heard, found) {
     Object.assign(own, { heard, found });
   },

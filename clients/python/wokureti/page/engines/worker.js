@@ -3,6 +3,7 @@
 
 import { Beside } from "./beside.js";
 import { Refused, full } from "./calls.js";
+import { planOf } from "./coding.js";
 import { Stream } from "./stream.js";
 
 // Milliseconds of a piece, and between two events of a check that goes on; findings in one event.
@@ -51,6 +52,7 @@ const calls = {
   save: (source, pads) => stream.save(source, pads),
   savedAs: (source, file, page) => stream.savedAs(source, file, page),
   cuts: () => stream.cuts(),
+  plan: (codesLeads) => planOf(stream, codesLeads),
   scriptOfCuts: (text) => stream.scriptOfCuts(text),
   lines: () => stream.session.lines,
   text: () => stream.text(),
@@ -58,7 +60,7 @@ const calls = {
     stream.unwritten = count;
   },
 };
-for (const name of ["before", "frames", "packet", "findings", "export"]) calls[`beside.${name}`] = (...given) => beside[name](...given);
+for (const name of ["before", "frames", "packet", "findings", "export", "coded", "measure", "exportCoded"]) calls[`beside.${name}`] = (...given) => beside[name](...given);
 
 /** Goes on with what nobody waits for. */
 function goOn() {
