@@ -317,7 +317,7 @@ export class Findings {
   }
 }
 
-/** The keys go to the timeline if the button that was pressed is gone. */
+/** The keys go to the packets if the button that was pressed is gone. */
 function toTimeline() {
   if (!document.activeElement || document.activeElement === document.body || document.activeElement.closest("#preview-bar")) find("timeline").focus({ focusVisible: false });
 }

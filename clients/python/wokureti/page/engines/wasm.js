@@ -332,7 +332,6 @@ function welcome() {
   const input = find("welcome-file");
   for (const id of ["welcome", "about", "list-save"]) find(id).hidden = false;
   document.body.classList.add("is-empty");
-  find("download").hidden = true;
   find("add-source").title = "Open another stream, as the next source or in the place of this one";
   find("welcome-open").addEventListener("click", () => input.click());
   input.addEventListener("change", () => take([...input.files]));
