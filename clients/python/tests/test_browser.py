@@ -10,9 +10,10 @@ import time
 import unittest
 from unittest import mock
 
-from support import CLIP, SLOW, SMALL, TOP, packets_of, start, write_packets
+from support import CLIP, SLOW, SMALL, TOP, digest, packets_of, start, write_packets
 from test_page import SCENES, PageCase
 from test_serve import TOKEN
+from wokureti import Session
 from wokureti.tools import exports, ivf, programs
 
 sys.path.append(str(TOP / "compare"))
@@ -635,16 +636,53 @@ class Exports(BrowserCase):
             BROWSER.click("#export")
             self.wait("document.getElementById('status').textContent.startsWith('exported small-export.ivf: ')")
 
+    def offered(self, act):
+        """The name and the bytes of the file that an act offers."""
+        self.js("""window.offered = null; const real = URL.createObjectURL;
+            URL.createObjectURL = (blob) => { window.offering = blob; return real.call(URL, blob); };
+            HTMLAnchorElement.prototype.click = function () { if (this.download && window.offering) window.offering.arrayBuffer().then((bytes) => (window.offered = [this.download, [...new Uint8Array(bytes)]])); };""")
+        act()
+        name, data = self.wait("window.offered")
+        return name, bytes(data)
 
-    def test_a_download_says_that_the_script_is_left_out(self):
-        self.open(SMALL)
-        self.js("document.getElementById('download').addEventListener('click', (event) => event.preventDefault())")
-        BROWSER.click("#download")
-        self.assertNotIn("the script is not in them", self.said())
+    def test_one_button_gives_what_is_seen(self):
+        """With a script and without one, by a click and by its key; the packets as they are are an entry of its menu."""
+        self.open(SMALL, stems=[str(self.folder() / "small")])
+        self.assertIsNone(self.js("return document.getElementById('download')"))
+        blue = self.js("return [...document.querySelectorAll('header button.main')].map(({ id }) => id)")
+        self.assertEqual(blue, ["export", "export-more"])
+        frames = [digest(frame) for frame in self.live.session.frames(range(12))]
+        name, data = self.offered(lambda: BROWSER.click("#export"))
+        self.assertEqual((name, self.digests(data)), ("small-export.ivf", frames))
+        self.assertEqual(self.text("#saved"), "exported to small-export.ivf")
         self.step("script trim 0 2 5")
-        self.wait("wokureti.model.session.script !== '-' && document.getElementById('download').title.includes('the script is not in them')")
-        BROWSER.click("#download")
-        self.assertIn("The packets of the edited stream: the script is not in them. Export has the frames that are shown", self.said())
+        self.wait("wokureti.model.session.revision === 2")
+        self.assertEqual(self.text("#saved"), "the script is in the list of edits")
+        for act in (lambda: BROWSER.click("#export"), lambda: BROWSER.key("Control", "s"), lambda: BROWSER.key("Control", "e")):
+            self.assertEqual(self.digests(self.offered(act)[1]), frames[2:7])
+        self.assertTrue(self.js("return document.getElementById('export-menu').hidden"))
+        BROWSER.click("#export-more")
+        self.assertEqual(self.js("return [document.getElementById('export-menu').hidden, document.activeElement.id]"), [False, "save"])
+        BROWSER.key("Enter")
+        self.wait("document.querySelector('#notices [data-id=saved]')")
+        saved = self.members("/session")["saves"][0]["file"]
+        self.assertEqual(packets_of(saved), packets_of(SMALL))
+        self.assertTrue(self.js("return document.getElementById('export-menu').hidden"))
+
+    def test_packets_are_saved_by_their_key(self):
+        self.open(SMALL, stems=[str(self.folder() / "small")])
+        self.js("document.getElementById('timeline').focus(); await wokureti.model.goPacket(11)")
+        BROWSER.key("h")
+        self.wait("wokureti.model.session.revision === 2")
+        BROWSER.key("Control", "Shift", "s")
+        self.wait("document.querySelector('#notices [data-id=saved]')")
+        self.assertEqual(len(packets_of(self.members("/session")["saves"][0]["file"])), 12)
+
+    def digests(self, data):
+        path = self.folder() / "offered.ivf"
+        path.write_bytes(data)
+        with Session(path) as session:
+            return [digest(frame) for frame in session.frames(range(session.count().frames))]
 
 
 class Killed(BrowserCase):

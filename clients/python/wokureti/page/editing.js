@@ -45,6 +45,7 @@ export class Editing {
     find("redo").disabled = !session.undone.length;
     find("undo").title = session.edits.length ? `Undo: ${session.edits[session.edits.length - 1].slice(0, 60)} (Ctrl+Z)` : "Nothing to undo";
     find("redo").title = session.undone.length ? `Redo: ${session.undone[0].slice(0, 60)} (Ctrl+Shift+Z)` : "Nothing to redo";
+    find("save").disabled = session.saved && session.script === "-";
     for (const id of ["delete", "hold", "drop", "copy", "cut"]) find(id).disabled = !chosen;
     find("paste").disabled = !this.clipboard;
   }

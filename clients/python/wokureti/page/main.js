@@ -55,7 +55,7 @@ editing.cutting = cutting;
 const lane = () => (model.lane === "packets" ? timeline : programme);
 for (const [id, act] of [["zoom-in", () => lane().zoom(2)], ["zoom-out", () => lane().zoom(0.5)], ["zoom-all", () => lane().zoomAll()]]) find(id).addEventListener("click", act);
 new Adding(model, status);
-new Exporting(status);
+const exporting = new Exporting(status);
 new Cropping(model, cutting, viewer.picture, status);
 editing.viewer = viewer;
 
@@ -147,14 +147,22 @@ function writeSelection() {
   find("packets-text").textContent = selection ? `${packets(selection)} selected` : "";
 }
 
+// The file that has what is shown, and the revision that it is of.
+let exported = null;
+exporting.done = (name) => {
+  exported = { name, revision: model.revision };
+  writeHead();
+};
+const isExported = () => exported?.revision === model.revision;
+
 function writeHead() {
   const { names, rate, script, saved, sources, saves, changing } = model.session;
   find("name").textContent = names[0];
-  document.title = `${saved ? "" : "• "}${names[0]} – Wokureti`;
+  document.title = `${saved || isExported() ? "" : "• "}${names[0]} – Wokureti`;
   const facts = [`${model.session.packets.toLocaleString("en")} packets`, `${model.frames.toLocaleString("en")} frames`, `${(rate[0] / rate[1]).toFixed(3).replace(/\.?0+$/, "")} frames a second`];
   if (script !== "-") facts.push("with a script");
   find("facts").textContent = facts.join(" · ");
-  find("saved").textContent = savedText(model.session);
+  find("saved").textContent = isExported() ? `exported to ${exported.name}` : savedText(model.session);
   find("saved").title = find("saved").textContent;
   find("save").title = script === "-" ? `A copy with all packets: ${saves[0].next}` : `A copy with all packets, ${saves[0].next}: the script is not in it`;
   find("export").title = changing ? `Node ${changing[0]}, ${changing[1]}, changes the picture, and so cannot be exported without coding again` : "What is seen as a file, without coding again (Ctrl+S)";
@@ -298,7 +306,7 @@ model.addEventListener("session", () => {
 });
 
 addEventListener("beforeunload", (event) => {
-  if (model.session && !model.session.saved && !isReloading) event.preventDefault();
+  if (model.session && !model.session.saved && !isExported() && !isReloading) event.preventDefault();
 });
 
 async function begin() {
