@@ -93,7 +93,7 @@ class Repairs(BrowserCase):
 
 
     def test_no_repair_is_certain(self):
-        """What a person can do is said, and the button goes for these packets."""
+        """The button is off, and what a person can do is said."""
         packets = packets_of(CLIP)
         for place in (10, 30):
             data = bytearray(packets[place])
@@ -101,16 +101,19 @@ class Repairs(BrowserCase):
             packets[place] = bytes(data)
         self.open(write_packets(self.folder() / "inside.ivf", packets))
         self.wait("wokureti.findings.check && wokureti.findings.check.over")
-        self.assertEqual((self.members("/repair_all")["lines"], self.js("return document.getElementById('repair-all-line').hidden")), ([], False))
-        BROWSER.click("#repair-all")
-        self.wait("document.querySelector('#notices [data-id=repairs]')")
-        self.assertRegex(self.said(), r"No repair is certain, so nothing is changed: \d+ packets? stays? damaged|No repair is certain, so nothing is changed: \d+ packets stay damaged")
-        self.assertIn("Press a finding to see what can be done there, or open a second recording as source 1", self.said())
-        self.assertTrue(self.js("return document.getElementById('repair-all-line').hidden"))
+        self.assertEqual(self.members("/repair_all")["lines"], [])
+        for size in ((1280, 800), (390, 844)):
+            BROWSER.set_size(*size)
+            self.wait("document.getElementById('repair-all').disabled")
+            self.assertRegex(self.text("#repair-all-why"), r"No repair is certain, so nothing is changed: (1 packet stays|\d+ packets stay) damaged")
+            self.assertIn("Press a finding to see what can be done there, or open a second recording as source 1", self.text("#repair-all-why"))
+            self.load()
+            self.wait("wokureti.findings.check && wokureti.findings.check.over")
+        BROWSER.set_size(1440, 900)
         # Other packets, other repairs.
         self.step("hold 40", "delete 41")
         self.wait("wokureti.findings.check.revision === 2 && wokureti.findings.check.over")
-        self.assertFalse(self.js("return document.getElementById('repair-all-line').hidden"))
+        self.assertEqual(self.js("return [document.getElementById('repair-all-line').hidden, document.getElementById('repair-all').disabled]"), [False, False])
 
 
 class Lists(BrowserCase):
@@ -530,12 +533,12 @@ class Looks(BrowserCase):
             BROWSER.set_size(width, height)
             self.load()
             self.wait("wokureti.findings.check && wokureti.findings.check.over")
-            for css in ("footer", "#timeline"):
+            for css in ("footer", "#programme"):
                 top, bottom = self.js("const box = document.querySelector(args[0]).getBoundingClientRect(); return [box.top, box.bottom]", css)
                 self.assertTrue(0 <= top < bottom <= height + 1, (width, height, css, top, bottom))
 
     def test_the_timeline_covers_no_picture(self):
-        """In a low window, with the strip of a script and a long name."""
+        """In a low window, with a script and a long name."""
         path = self.folder() / f"{'a long name ' * 12}.ivf"
         path.write_bytes(CLIP.read_bytes())
         self.open(path)
@@ -543,7 +546,7 @@ class Looks(BrowserCase):
         for width, height in (*self.SIZES, (1000, 700)):
             BROWSER.set_size(width, height)
             self.load()
-            self.wait("!document.getElementById('strip').hidden && wokureti.viewer.picture.now")
+            self.wait("wokureti.model.session.script !== '-' && wokureti.viewer.picture.now")
             covered = "document.getElementById('now-canvas').getBoundingClientRect().bottom - document.getElementById('lower').getBoundingClientRect().top"
             self.wait(f"{covered} <= 1")
 
@@ -561,7 +564,7 @@ class Looks(BrowserCase):
             self.load()
             for number in range(2):
                 ask = "const bar = document.querySelectorAll('.tools')[args[0]]; return [bar.scrollWidth > bar.clientWidth, bar.classList.contains('more-left'), bar.classList.contains('more-right')]"
-                self.wait("document.querySelectorAll('.tools.more-right').length === 2")
+                self.wait("[0, 1].every((bar) => document.querySelectorAll('.tools')[bar].classList.contains('more-right'))")
                 self.assertEqual(self.js(ask, number), [True, False, True])
                 self.js("const bar = document.querySelectorAll('.tools')[args[0]]; bar.scrollLeft = bar.scrollWidth", number)
                 self.wait("document.querySelectorAll('.tools.more-left').length === 1")
@@ -588,7 +591,7 @@ class Looks(BrowserCase):
             BROWSER.click(button)
             self.wait("document.getElementById('preview-bar').hidden")
             self.js("await new Promise((done) => setTimeout(done, 300))")
-            self.assertEqual(self.js("return document.activeElement.id"), "timeline", button)
+            self.assertIn(self.js("return document.activeElement.id"), ("timeline", "programme"), button)
 
     def test_enter_in_a_dialog(self):
         self.open(SMALL)
