@@ -2,12 +2,16 @@
 
 import json
 import os
+import re
 import shutil
+import signal
 import subprocess
 import sys
 import threading
 import time
 import unittest
+import urllib.error
+import urllib.request
 from unittest import mock
 
 from support import CLIP, SLOW, SMALL, TOP, digest, packets_of, start, write_packets
@@ -720,6 +724,109 @@ class Killed(BrowserCase):
         self.assertEqual(again, address)
         self.wait(f"window.wokureti && wokureti.model.session && wokureti.model.session.instance !== '{instance}' && document.body.dataset.ready === 'yes'")
         self.assertEqual(self.js("return [wokureti.model.session.packets, document.querySelectorAll('#notices [data-id=lost]').length]"), [11, 0])
+
+
+class StartPage(BrowserCase):
+    """`wokureti open` without a stream."""
+
+    LIMIT = 120
+    SIZES = ((1280, 800), (390, 844))
+
+    def tearDown(self):
+        BROWSER.set_size(1440, 900)
+
+    def started(self, room, *words):
+        process = start("open", *words, "--no-browser", stdout=subprocess.PIPE, stderr=subprocess.DEVNULL, env={"XDG_STATE_HOME": str(room / "state")})
+
+        def end():
+            if process.poll() is None:
+                process.send_signal(signal.SIGINT)
+                process.communicate(timeout=30 * SLOW)
+
+        self.addCleanup(end)
+        self.addCleanup(BROWSER.open, "about:blank")
+        self.end = end
+        return process.stdout.readline().decode().strip()
+
+    def recent(self):
+        return self.js("return [...document.querySelectorAll('#recent-list .row')].map((one) => [one.querySelector('.text').textContent, one.querySelector('.sub').textContent])")
+
+    def ready(self, address):
+        BROWSER.open(address)
+        self.wait("document.body && document.body.dataset.ready === 'yes'")
+
+    def chosen(self, path):
+        """Chooses a file in the browser's dialog, and waits for its page."""
+        BROWSER.type("#welcome-file", str(path))
+        self.wait("window.wokureti && document.body.dataset.ready === 'yes'")
+        self.js("addEventListener('beforeunload', (event) => event.stopImmediatePropagation(), { capture: true })")
+
+    def test_a_file_of_the_dialog_is_copied_and_its_edits_are_kept(self):
+        for size in self.SIZES:
+            BROWSER.set_size(*size)
+            room = self.folder()
+            path = write_packets(room / "<b>a clip.ivf", packets_of(SMALL))
+            address = self.started(room)
+            self.ready(address)
+            self.assertTrue(self.js("return document.getElementById('recent').hidden"))
+            self.assertLessEqual(self.js("return document.documentElement.scrollWidth"), size[0])
+            self.chosen(path)
+            self.assertEqual(self.js("const { names, packets } = wokureti.model.session; return [names, packets]"), [["<b>a clip.ivf"], 12])
+            self.js("wokureti.model.selectFrames(2, 5); await wokureti.cutting.cutOut()")
+            self.assertEqual(self.js("return wokureti.model.frames"), 9)
+            self.ready(address)
+            (name, about), = self.recent()
+            self.assertEqual(name, "<b>a clip.ivf")
+            self.assertTrue(about.startswith("1 edit · "), about)
+            # Nothing is written next to the stream; the list is in the state folder.
+            self.assertEqual(sorted(one.name for one in room.iterdir()), ["<b>a clip.ivf", "state"])
+            self.chosen(path)
+            self.assertEqual(self.js("return [wokureti.model.frames, wokureti.model.session.edits.length]"), [9, 1])
+
+    def test_a_stream_that_was_open_before(self):
+        room = self.folder()
+        path = write_packets(room / "clip.ivf", packets_of(SMALL))
+        self.ready(self.started(room, path))
+        self.js("addEventListener('beforeunload', (event) => event.stopImmediatePropagation(), { capture: true })")
+        self.js("await wokureti.model.goPacket(11); await wokureti.editing.hold()")
+        BROWSER.open("about:blank")
+        self.end()
+        self.ready(self.started(room))
+        self.assertEqual([name for name, _ in self.recent()], ["clip.ivf"])
+        self.assertIn(str(room), self.recent()[0][1])
+        BROWSER.click("#recent-list .row")
+        self.wait("window.wokureti && document.body.dataset.ready === 'yes'")
+        self.assertEqual(self.js("return wokureti.model.session.edits"), ["hold 12", "delete 11"])
+
+    def test_what_is_not_a_stream_is_refused(self):
+        room = self.folder()
+        path = room / "text.ivf"
+        path.write_bytes(b"no stream " * 9)
+        self.ready(self.started(room))
+        BROWSER.type("#welcome-file", str(path))
+        self.wait("/text\\.ivf is no stream of VP8/.test(document.getElementById('welcome-text').textContent)")
+
+    def test_pieces_are_of_a_name_and_in_order(self):
+        """No path leads out of the folder, and no piece is left out."""
+        room = self.folder()
+        address = self.started(room)
+
+        def post(path, **body):
+            origin = re.match("http://[^/]*", address).group(0)
+            request = urllib.request.Request(address.replace("/page/", f"/{path}"), json.dumps(body).encode(), {"Content-Type": "application/json", "Origin": origin})
+            try:
+                with urllib.request.urlopen(request, timeout=20 * SLOW) as answer:
+                    return answer.status, json.load(answer)
+            except urllib.error.HTTPError as error:
+                return error.code, json.load(error)
+
+        status, found = post("piece", copy="", name="../../a.ivf", at=0, data="AAAA")
+        self.assertEqual(status, 200)
+        for copy, at, data, wanted in ((found["copy"], 9, "AAAA", 409), ("../../" + 10 * "a", 3, "AAAA", 400), (found["copy"], 3, "no base64", 400)):
+            self.assertEqual(post("piece", copy=copy, name="../../a.ivf", at=at, data=data)[0], wanted)
+        for body in ({"recent": 0}, {"copy": found["copy"], "name": "../../etc/passwd"}, {"copy": "..", "name": "a"}, {}):
+            self.assertEqual(post("pages", **body)[0], 404, body)
+        self.assertEqual([one.name for one in room.iterdir() if one.name != "state"], [])
 
 
 if __name__ == "__main__":

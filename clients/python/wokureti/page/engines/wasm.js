@@ -3,6 +3,7 @@
 
 import { toColour } from "../colours.js";
 import { OPENING, Refusal, offer, use, waited } from "../engine.js";
+import { writeRecent } from "../recent.js";
 import { notice } from "../status.js";
 import { Channel } from "./channel.js";
 import * as kept from "./kept.js";
@@ -11,6 +12,8 @@ import * as kept from "./kept.js";
 const IDLE = 60000;
 // Bytes of a file above which the page says that it is large: its packets are in the memory, and while it is opened twice.
 const LARGE = 1 << 29;
+// Lists of edits that are offered before a file is open.
+const MOST_RECENT = 10;
 
 const find = (id) => document.getElementById(id);
 
@@ -149,7 +152,7 @@ async function add(file) {
 /** Keeps the list of edits before a change is shown. */
 async function keep({ text, ...found }) {
   try {
-    await kept.write(own.about.digest, text);
+    await kept.write(own.about.digest, text, own.about.name, found.session.edits_before + found.session.edits.length);
     if (found.session.unwritten) await own.main.call("unwritten", [0]);
     found.session.unwritten = 0;
   } catch (error) {
@@ -335,6 +338,11 @@ function welcome() {
   find("add-source").title = "Open another stream, as the next source or in the place of this one";
   find("welcome-open").addEventListener("click", () => input.click());
   input.addEventListener("change", () => take([...input.files]));
+  const pick = ({ name }) => {
+    find("welcome-text").textContent = `Choose ${name} again: its edits are there then.`;
+    input.click();
+  };
+  kept.recent(MOST_RECENT).then((entries) => writeRecent(entries, pick)).catch(() => {});
 }
 
 welcome();
