@@ -1,17 +1,23 @@
 """The page of wokureti open in chromium: what a person does there, and what is shown then."""
 
 import json
+import os
+import re
 import shutil
+import signal
 import subprocess
 import sys
 import threading
 import time
 import unittest
+import urllib.error
+import urllib.request
 from unittest import mock
 
-from support import CLIP, SLOW, SMALL, TOP, command, packets_of, start, write_packets
+from support import CLIP, SLOW, SMALL, TOP, command, digest, packets_of, start, write_packets
 from test_page import SCENES, PageCase
 from test_serve import TOKEN
+from wokureti import Session
 from wokureti.tools import coding, exports, ivf, programs
 
 sys.path.append(str(TOP / "compare"))
@@ -52,7 +58,7 @@ class BrowserCase(PageCase):
         self.wait("document.body.dataset.ready === 'yes'")
 
     def wait(self, script):
-        return BROWSER.wait(script, seconds=10 * SLOW)
+        return BROWSER.wait(script, seconds=float(os.environ.get("WAITS", 10)) * SLOW)
 
     def js(self, script, *given):
         return BROWSER.run(script, *given)
@@ -91,7 +97,7 @@ class Repairs(BrowserCase):
 
 
     def test_no_repair_is_certain(self):
-        """What a person can do is said, and the button goes for these packets."""
+        """The button is off, and what a person can do is said."""
         packets = packets_of(CLIP)
         for place in (10, 30):
             data = bytearray(packets[place])
@@ -99,16 +105,19 @@ class Repairs(BrowserCase):
             packets[place] = bytes(data)
         self.open(write_packets(self.folder() / "inside.ivf", packets))
         self.wait("wokureti.findings.check && wokureti.findings.check.over")
-        self.assertEqual((self.members("/repair_all")["lines"], self.js("return document.getElementById('repair-all-line').hidden")), ([], False))
-        BROWSER.click("#repair-all")
-        self.wait("document.querySelector('#notices [data-id=repairs]')")
-        self.assertRegex(self.said(), r"No repair is certain, so nothing is changed: \d+ packets? stays? damaged|No repair is certain, so nothing is changed: \d+ packets stay damaged")
-        self.assertIn("Press a finding to see what can be done there, or open a second recording as source 1", self.said())
-        self.assertTrue(self.js("return document.getElementById('repair-all-line').hidden"))
+        self.assertEqual(self.members("/repair_all")["lines"], [])
+        for size in ((1280, 800), (390, 844)):
+            BROWSER.set_size(*size)
+            self.wait("document.getElementById('repair-all').disabled")
+            self.assertRegex(self.text("#repair-all-why"), r"No repair is certain, so nothing is changed: (1 packet stays|\d+ packets stay) damaged")
+            self.assertIn("Press a finding to see what can be done there, or open a second recording as source 1", self.text("#repair-all-why"))
+            self.load()
+            self.wait("wokureti.findings.check && wokureti.findings.check.over")
+        BROWSER.set_size(1440, 900)
         # Other packets, other repairs.
         self.step("hold 40", "delete 41")
         self.wait("wokureti.findings.check.revision === 2 && wokureti.findings.check.over")
-        self.assertFalse(self.js("return document.getElementById('repair-all-line').hidden"))
+        self.assertEqual(self.js("return [document.getElementById('repair-all-line').hidden, document.getElementById('repair-all').disabled]"), [False, False])
 
 
 class Lists(BrowserCase):
@@ -201,91 +210,233 @@ class Differences(BrowserCase):
         self.assertEqual(self.next_from(keys[2]), 20)
 
 
-class Marks(BrowserCase):
-    """The selection is of packets: where the frames between two marks are not the packets between them, nothing is cut."""
+class Programme(BrowserCase):
+    """The lane of frames that are shown: its selection is of these, whatever packets they are of."""
 
     MOVED = "trim 0 20 10; trim 0 0 20; splice 1 2; trim 0 30 6; splice 3 4"
+    SIZES = ((1280, 800), (390, 844))
+
+    def tearDown(self):
+        BROWSER.set_size(1440, 900)
 
     def moved(self):
         self.open(SCENES)
         self.step(f"script {self.MOVED}")
-        self.wait("wokureti.model.revision === 2 && wokureti.model.session.revision === 2")
-        self.js("document.getElementById('timeline').focus()")
+        self.settled(2)
+
+    def settled(self, revision):
+        self.wait(f"wokureti.model.revision === {revision} && wokureti.model.session.revision === {revision}")
 
     def mark(self, first, last):
         for frame, key in ((first, "i"), (last, "o")):
             self.js("await wokureti.model.go(args[0])", frame)
             BROWSER.key(key)
-            self.js("await new Promise((done) => setTimeout(done, 300))")
+
+    def range(self):
+        return self.js("const { range } = wokureti.model; return range && [range.first, range.end]")
 
     def shown(self):
-        """The packets that the frames show."""
-        return self.members("/origins?from=0&count=100")["packets"]
+        """The source and the packet of each frame that is shown."""
+        found = self.members("/origins?from=0&count=200")
+        return list(zip(found["sources"], found["packets"]))
 
-    def test_marks_on_both_sides_of_a_join_are_refused(self):
-        self.moved()
-        self.mark(5, 15)
-        self.assertIn("In, frame 5, and Out, frame 15, are on both sides of a join or a move", self.said())
-        self.assertIsNone(self.js("return wokureti.model.selection"))
-        BROWSER.key("x")
-        self.wait("document.getElementById('status').textContent.startsWith('nothing is selected')")
-        self.assertEqual(self.members("/session")["script"], self.MOVED)
+    def press(self, key, revision):
+        BROWSER.key(*key.split())
+        self.settled(revision)
 
-    def test_packets_that_are_shown_in_several_places_are_refused(self):
-        self.moved()
-        self.js("wokureti.model.select(15, 25)")
-        for key in ("x", "e", "v"):
-            self.js("document.querySelectorAll('#notices .notice').forEach((one) => one.remove())")
-            BROWSER.key(key)
-            self.wait("document.querySelector('#notices .notice')")
-            self.assertIn("shown in several places, frames 0 to 4, frames 25 to 29", self.said())
-        self.assertEqual(self.members("/session")["script"], self.MOVED)
+    def box(self):
+        return self.js("const { left, top, width, height } = document.getElementById('programme-canvas').getBoundingClientRect(); return [left, top, width, height]")
 
-    def test_marks_in_the_other_order(self):
-        """Out before In: only that frame is selected, and a sentence says so."""
+    def drag(self, first, last, part=0.5):
+        """Drags from one boundary of frames to another."""
+        left, top, _, height = self.box()
+        scale = self.js("return wokureti.programme.window.scale")
+        BROWSER.drag([(left + scale * frame, top + height * part) for frame in (first, (first + last) / 2, last)])
+
+    def test_frames_that_were_moved_are_cut_out(self):
+        """Marks on both sides of a join: all frames between them go."""
+        for first, last in ((5, 15), (0, 29), (25, 35), (12, 20)):
+            self.moved()
+            before = self.shown()
+            self.mark(first, last)
+            self.assertEqual(self.range(), [first, last + 1])
+            self.press("x", 3)
+            self.assertEqual(self.shown(), before[:first] + before[last + 1 :])
+            self.assertIsNone(self.range())
+
+    def test_frames_of_both_sides_of_a_join_of_sources(self):
+        self.open(SCENES, sources=[str(SCENES)])
+        self.step("script source 1; splice 0 1")
+        self.settled(2)
+        before, join = self.shown(), len(packets_of(SCENES))
+        self.assertEqual({source for source, _ in before}, {0, 1})
+        self.mark(join - 5, join + 5)
+        self.press("x", 3)
+        self.assertEqual(self.shown(), before[: join - 5] + before[join + 6 :])
+        self.mark(join - 7, join - 3)
+        self.press("e", 4)
+        self.assertEqual(self.shown(), (before[: join - 5] + before[join + 6 :])[join - 7 : join - 2])
+
+    def test_frames_are_moved(self):
         self.moved()
-        self.mark(18, 12)
-        self.assertIn("In, frame 18, is after Out, frame 12: only this frame is selected", self.said())
-        self.assertEqual(self.js("const { first, end } = wokureti.model.selection; return end - first"), 1)
+        before = self.shown()
+        self.mark(8, 12)
+        self.js("await wokureti.model.go(30)")
+        self.press("v", 3)
+        self.assertEqual(self.shown(), before[:8] + before[13:30] + before[8:13] + before[30:])
+
+    def test_any_script_is_cut_also_in_a_fade(self):
+        """The last node of the script becomes parts of itself, and the next cut adds no node."""
+        self.open(SMALL)
+        self.step("script trim 0 0 8; fade 1 2 4 256 128; crop 2 0 0 2 2")
+        self.settled(2)
+        before = self.samples()
+        self.mark(3, 4)
+        self.press("x", 3)
+        self.assertEqual(self.samples(), before[:3] + before[5:])
+        nodes = self.nodes()
+        self.mark(1, 1)
+        self.press("x", 4)
+        self.assertEqual(self.samples(), before[:1] + before[2:3] + before[5:])
+        self.assertEqual(len(self.nodes()), len(nodes))
+
+    def nodes(self):
+        return self.js("return wokureti.model.session.edits.filter((line) => line.startsWith('script')).pop().split(';')")
+
+    def samples(self):
+        return self.js("const found = []; for (let n = 0; n < wokureti.model.frames; n++) found.push((await wokureti.frames.get(n)).samples.join()); return found")
+
+    def test_a_drag_selects_and_its_edges_are_dragged(self):
+        for size in self.SIZES:
+            BROWSER.set_size(*size)
+            self.moved()
+            self.drag(5.5, 13.5)
+            self.assertEqual(self.range(), [5, 14], size)
+            self.drag(14, 24)
+            self.assertEqual(self.range(), [5, 24], size)
+            self.drag(5, 2)
+            self.assertEqual(self.range(), [2, 24], size)
+            # The selection is drawn there, and packets are not selected.
+            self.wait("document.getElementById('programme-canvas').dataset.selection === '2 24'")
+            self.assertIsNone(self.js("return wokureti.model.selection"))
+            before = self.shown()
+            BROWSER.click("#cut-out")
+            self.settled(3)
+            self.assertEqual(self.shown(), before[:2] + before[24:])
+
+    def test_a_selection_snaps_at_a_join(self):
+        """A drag that ends a frame before a join or after it, which are some pixels, ends at the join; further off it does not."""
+        self.open(SCENES)
+        self.step("script splice 0 0; splice 1 1; splice 2 2")
+        self.settled(2)
+        join = len(packets_of(SCENES))
+        for last, end in ((join - 1.5, join), (join + 0.5, join), (join + 4.5, join + 5)):
+            self.drag(8.5, last)
+            self.assertEqual(self.range(), [8, end])
+            BROWSER.key("Escape")
+
+    def test_out_before_in(self):
+        """The older mark is dropped, and a sentence says so."""
+        self.moved()
+        self.mark(30, 20)
+        self.assertIn("Out, frame 20, is before In, frame 30: In is dropped. Press I at the first frame", self.said())
+        self.assertEqual((self.range(), self.text("#selection-text")), ([20, 21], "Out at frame 20"))
+        self.js("await wokureti.model.go(4)")
+        BROWSER.key("i")
+        self.assertEqual(self.range(), [4, 21])
+        self.js("await wokureti.model.go(25)")
+        BROWSER.key("i")
+        self.assertIn("Out, frame 20, is before In, frame 25: Out is dropped. Press O at the last frame", self.said())
+        self.assertEqual((self.range(), self.text("#selection-text")), ([25, 26], "In at frame 25"))
 
     def test_keys_without_a_selection(self):
         self.moved()
-        for key in ("x", "e", "v"):
-            self.js("wokureti.model.select(null); document.getElementById('status').textContent = ''")
+        for key, what in (("x", "cut out"), ("e", "keep"), ("v", "move"), ("Delete", "cut out")):
+            self.js("document.getElementById('status').textContent = ''")
             BROWSER.key(key)
-            self.wait("document.getElementById('status').textContent === 'nothing is selected: I and O mark the first and the last frame, or drag on the timeline'")
+            self.wait("document.getElementById('status').textContent !== ''")
+            self.assertEqual(self.text("#status"), f"Nothing is selected to {what}. Select the frames first: I at the first frame and O at the last one, or drag over them on the programme")
         self.assertEqual(self.members("/session")["script"], self.MOVED)
-
-    def test_marks_in_one_shot_cut_these_frames(self):
-        self.moved()
-        before = self.shown()
-        self.mark(12, 20)
-        BROWSER.key("x")
-        self.wait("wokureti.model.revision === 3 && wokureti.model.frames === 27")
-        self.assertEqual(self.shown(), before[:12] + before[21:])
+        self.assertIn("Select them first", self.js("return document.getElementById('cut-out').title"))
 
     def test_keys_that_follow_each_other_at_once(self):
         """Each key acts on what those before it did, also if nothing is waited for between them."""
         self.moved()
         before = self.shown()
-        self.js("""const press = (key) => document.getElementById('timeline').dispatchEvent(new KeyboardEvent('keydown', { key, bubbles: true, cancelable: true }));
+        self.js("""const press = (key) => document.getElementById('programme').dispatchEvent(new KeyboardEvent('keydown', { key, bubbles: true, cancelable: true }));
             wokureti.model.go(12); press('i'); for (let turn = 0; turn < 4; turn++) press('ArrowRight');
             await new Promise((done) => setTimeout(done, 300)); press('o'); press('x');""")
-        self.wait("wokureti.model.revision === 3 && wokureti.model.frames === 31")
+        self.settled(3)
         self.assertEqual(self.shown(), before[:12] + before[17:])
 
-    def test_a_join_of_two_sources(self):
-        self.open(SCENES, sources=[str(SCENES)])
-        self.step("script source 1; splice 0 1")
-        self.wait("wokureti.model.revision === 2 && wokureti.model.session.revision === 2")
+    def test_a_click_keeps_the_marks(self):
+        self.moved()
+        self.js("await wokureti.model.go(4)")
+        BROWSER.key("i")
+        self.drag(20.5, 20.5)
+        self.assertEqual((self.js("return wokureti.model.frame"), self.range()), (20, [4, 5]))
+        BROWSER.key("o")
+        self.assertEqual(self.range(), [4, 21])
+        BROWSER.key("Escape")
+        self.assertIsNone(self.range())
+
+    def test_delete_is_that_of_the_lane(self):
+        """In the programme Delete cuts out; in the lane of packets it deletes packets, says what breaks, and offers to cut out."""
+        for size in self.SIZES:
+            BROWSER.set_size(*size)
+            self.open(SCENES)
+            before, count = self.shown(), len(packets_of(SCENES))
+            self.mark(3, 4)
+            self.press("Delete", 2)
+            self.assertEqual((self.shown(), self.members("/session")["packets"]), (before[:3] + before[5:], count))
+            BROWSER.key("Control", "z")
+            self.settled(3)
+            self.js("document.getElementById('timeline').focus(); wokureti.model.select(3, 5); await wokureti.model.goPacket(3)")
+            self.press("Delete", 4)
+            self.assertEqual(self.members("/session")["packets"], count - 2)
+            after = next(place for place, data in enumerate(packets_of(SCENES)) if place > 5 and ivf.is_key(data)) - 5
+            self.wait("document.querySelector('#notices .offered')")
+            self.assertIn(f"Packets 3 to 4 deleted. The {after} packets after them, up to the next key packet, are predicted from them, so their pictures break", self.said())
+            BROWSER.click("#notices .offered")
+            self.settled(6)
+            self.assertEqual((self.shown(), self.members("/session")["packets"]), (before[:3] + before[5:], count))
+
+    def test_nothing_is_said_of_packets_that_nothing_is_predicted_from(self):
+        """The last packets before a key packet."""
+        self.open(SCENES)
+        key = next(place for place, data in enumerate(packets_of(SCENES)) if place > 3 and ivf.is_key(data))
+        self.js("document.getElementById('timeline').focus(); wokureti.model.select(args[0] - 2, args[0])", key)
+        self.press("Delete", 2)
+        self.js("await new Promise((done) => setTimeout(done, 300))")
+        self.assertIsNone(self.js("return document.querySelector('#notices .offered')"))
+
+    def test_packets_have_a_selection_of_their_own(self):
+        self.moved()
+        self.mark(5, 15)
         self.js("document.getElementById('timeline').focus()")
-        script, join = self.members("/session")["script"], len(packets_of(SCENES))
-        self.mark(join - 5, join + 5)
-        self.assertIn("on both sides of a join or a move", self.said())
-        self.assertIsNone(self.js("return wokureti.model.selection"))
-        self.mark(join + 4, join + 9)
-        self.assertEqual(self.js("return [wokureti.model.source, wokureti.model.selection]"), [1, {"first": 4, "end": 10}])
-        self.assertEqual(self.members("/session")["script"], script)
+        BROWSER.key("Control", "a")
+        self.assertEqual((self.range(), self.js("return wokureti.model.selection.end")), ([5, 16], len(packets_of(SCENES))))
+        self.js("wokureti.model.select(null); document.getElementById('programme').focus()")
+        # The packet of the current frame is not what is selected.
+        BROWSER.key("h")
+        self.wait("document.getElementById('status').textContent.startsWith('This acts on packets')")
+        BROWSER.key("Control", "a")
+        self.assertEqual(self.range(), [0, 36])
+        self.assertEqual(self.members("/session")["revision"], 2)
+
+    def test_pictures_are_those_of_the_frames(self):
+        """A picture is that of a frame of its place: after a move too."""
+        self.open(SCENES)
+        pictures = "Number(document.getElementById('programme-canvas').dataset.pictures)"
+        self.wait(f"{pictures} > 8")
+        first = self.js("return wokureti.thumbs.shown")
+        self.mark(20, 29)
+        self.js("await wokureti.model.go(0)")
+        self.press("v", 2)
+        self.wait(f"{pictures} > 8 && wokureti.thumbs.wanted[0].frame >= 20")
+        self.assertNotEqual(self.js("return wokureti.thumbs.shown"), first)
+        for name, number in self.js("return wokureti.thumbs.wanted.map((one) => [one.frame, one.number])"):
+            self.assertEqual(self.shown()[number], (0, name))
 
 
 class Requests(BrowserCase):
@@ -313,7 +464,7 @@ class Requests(BrowserCase):
 
     def open(self, *given, **options):
         super().open(*given, **options)
-        self.wait("wokureti.findings.check && wokureti.findings.check.over && document.getElementById('thumbs').dataset.pictures > 0")
+        self.wait("wokureti.findings.check && wokureti.findings.check.over && wokureti.thumbs.wanted.length && wokureti.thumbs.wanted.every(({ name }) => wokureti.thumbs.found.has(name))")
         self.js("document.getElementById('timeline').focus()")
         self.asked(lambda: self.js("await wokureti.model.goPacket(25)"))
 
@@ -386,12 +537,12 @@ class Looks(BrowserCase):
             BROWSER.set_size(width, height)
             self.load()
             self.wait("wokureti.findings.check && wokureti.findings.check.over")
-            for css in ("footer", "#timeline"):
+            for css in ("footer", "#programme"):
                 top, bottom = self.js("const box = document.querySelector(args[0]).getBoundingClientRect(); return [box.top, box.bottom]", css)
                 self.assertTrue(0 <= top < bottom <= height + 1, (width, height, css, top, bottom))
 
     def test_the_timeline_covers_no_picture(self):
-        """In a low window, with the strip of a script and a long name."""
+        """In a low window, with a script and a long name."""
         path = self.folder() / f"{'a long name ' * 12}.ivf"
         path.write_bytes(CLIP.read_bytes())
         self.open(path)
@@ -399,7 +550,7 @@ class Looks(BrowserCase):
         for width, height in (*self.SIZES, (1000, 700)):
             BROWSER.set_size(width, height)
             self.load()
-            self.wait("!document.getElementById('strip').hidden && wokureti.viewer.picture.now")
+            self.wait("wokureti.model.session.script !== '-' && wokureti.viewer.picture.now")
             covered = "document.getElementById('now-canvas').getBoundingClientRect().bottom - document.getElementById('lower').getBoundingClientRect().top"
             self.wait(f"{covered} <= 1")
 
@@ -417,7 +568,7 @@ class Looks(BrowserCase):
             self.load()
             for number in range(2):
                 ask = "const bar = document.querySelectorAll('.tools')[args[0]]; return [bar.scrollWidth > bar.clientWidth, bar.classList.contains('more-left'), bar.classList.contains('more-right')]"
-                self.wait("document.querySelectorAll('.tools.more-right').length === 2")
+                self.wait("[0, 1].every((bar) => document.querySelectorAll('.tools')[bar].classList.contains('more-right'))")
                 self.assertEqual(self.js(ask, number), [True, False, True])
                 self.js("const bar = document.querySelectorAll('.tools')[args[0]]; bar.scrollLeft = bar.scrollWidth", number)
                 self.wait("document.querySelectorAll('.tools.more-left').length === 1")
@@ -444,7 +595,7 @@ class Looks(BrowserCase):
             BROWSER.click(button)
             self.wait("document.getElementById('preview-bar').hidden")
             self.js("await new Promise((done) => setTimeout(done, 300))")
-            self.assertEqual(self.js("return document.activeElement.id"), "timeline", button)
+            self.assertIn(self.js("return document.activeElement.id"), ("timeline", "programme"), button)
 
     def test_enter_in_a_dialog(self):
         self.open(SMALL)
@@ -565,15 +716,53 @@ class Exports(BrowserCase):
         BROWSER.click("#ask button[value=yes]")
         self.wait("/in 40 packets, 30 of them hidden/.test(document.getElementById('status').textContent)")
 
-    def test_a_download_says_that_the_script_is_left_out(self):
-        self.open(SMALL)
-        self.js("document.getElementById('download').addEventListener('click', (event) => event.preventDefault())")
-        BROWSER.click("#download")
-        self.assertNotIn("the script is not in them", self.said())
+    def offered(self, act):
+        """The name and the bytes of the file that an act offers."""
+        self.js("""window.offered = null; const real = URL.createObjectURL;
+            URL.createObjectURL = (blob) => { window.offering = blob; return real.call(URL, blob); };
+            HTMLAnchorElement.prototype.click = function () { if (this.download && window.offering) window.offering.arrayBuffer().then((bytes) => (window.offered = [this.download, [...new Uint8Array(bytes)]])); };""")
+        act()
+        name, data = self.wait("window.offered")
+        return name, bytes(data)
+
+    def test_one_button_gives_what_is_seen(self):
+        """With a script and without one, by a click and by its key; the packets as they are are an entry of its menu."""
+        self.open(SMALL, stems=[str(self.folder() / "small")])
+        self.assertIsNone(self.js("return document.getElementById('download')"))
+        blue = self.js("return [...document.querySelectorAll('header button.main')].map(({ id }) => id)")
+        self.assertEqual(blue, ["export", "export-more"])
+        frames = [digest(frame) for frame in self.live.session.frames(range(12))]
+        name, data = self.offered(lambda: BROWSER.click("#export"))
+        self.assertEqual((name, self.digests(data)), ("small-export.ivf", frames))
+        self.assertEqual(self.text("#saved"), "exported to small-export.ivf")
         self.step("script trim 0 2 5")
-        self.wait("wokureti.model.session.script !== '-' && document.getElementById('download').title.includes('the script is not in them')")
-        BROWSER.click("#download")
-        self.assertIn("The packets of the edited stream: the script is not in them. Export has the frames that are shown", self.said())
+        self.wait("wokureti.model.session.revision === 2")
+        self.assertEqual(self.text("#saved"), "the script is in the list of edits")
+        for act in (lambda: BROWSER.click("#export"), lambda: BROWSER.key("Control", "s"), lambda: BROWSER.key("Control", "e")):
+            self.assertEqual(self.digests(self.offered(act)[1]), frames[2:7])
+        self.assertTrue(self.js("return document.getElementById('export-menu').hidden"))
+        BROWSER.click("#export-more")
+        self.assertEqual(self.js("return [document.getElementById('export-menu').hidden, document.activeElement.id]"), [False, "save"])
+        BROWSER.key("Enter")
+        self.wait("document.querySelector('#notices [data-id=saved]')")
+        saved = self.members("/session")["saves"][0]["file"]
+        self.assertEqual(packets_of(saved), packets_of(SMALL))
+        self.assertTrue(self.js("return document.getElementById('export-menu').hidden"))
+
+    def test_packets_are_saved_by_their_key(self):
+        self.open(SMALL, stems=[str(self.folder() / "small")])
+        self.js("document.getElementById('timeline').focus(); await wokureti.model.goPacket(11)")
+        BROWSER.key("h")
+        self.wait("wokureti.model.session.revision === 2")
+        BROWSER.key("Control", "Shift", "s")
+        self.wait("document.querySelector('#notices [data-id=saved]')")
+        self.assertEqual(len(packets_of(self.members("/session")["saves"][0]["file"])), 12)
+
+    def digests(self, data):
+        path = self.folder() / "offered.ivf"
+        path.write_bytes(data)
+        with Session(path) as session:
+            return [digest(frame) for frame in session.frames(range(session.count().frames))]
 
 
 class Killed(BrowserCase):
@@ -608,6 +797,109 @@ class Killed(BrowserCase):
         self.assertEqual(again, address)
         self.wait(f"window.wokureti && wokureti.model.session && wokureti.model.session.instance !== '{instance}' && document.body.dataset.ready === 'yes'")
         self.assertEqual(self.js("return [wokureti.model.session.packets, document.querySelectorAll('#notices [data-id=lost]').length]"), [11, 0])
+
+
+class StartPage(BrowserCase):
+    """`wokureti open` without a stream."""
+
+    LIMIT = 120
+    SIZES = ((1280, 800), (390, 844))
+
+    def tearDown(self):
+        BROWSER.set_size(1440, 900)
+
+    def started(self, room, *words):
+        process = start("open", *words, "--no-browser", stdout=subprocess.PIPE, stderr=subprocess.DEVNULL, env={"XDG_STATE_HOME": str(room / "state")})
+
+        def end():
+            if process.poll() is None:
+                process.send_signal(signal.SIGINT)
+                process.communicate(timeout=30 * SLOW)
+
+        self.addCleanup(end)
+        self.addCleanup(BROWSER.open, "about:blank")
+        self.end = end
+        return process.stdout.readline().decode().strip()
+
+    def recent(self):
+        return self.js("return [...document.querySelectorAll('#recent-list .row')].map((one) => [one.querySelector('.text').textContent, one.querySelector('.sub').textContent])")
+
+    def ready(self, address):
+        BROWSER.open(address)
+        self.wait("document.body && document.body.dataset.ready === 'yes'")
+
+    def chosen(self, path):
+        """Chooses a file in the browser's dialog, and waits for its page."""
+        BROWSER.type("#welcome-file", str(path))
+        self.wait("window.wokureti && document.body.dataset.ready === 'yes'")
+        self.js("addEventListener('beforeunload', (event) => event.stopImmediatePropagation(), { capture: true })")
+
+    def test_a_file_of_the_dialog_is_copied_and_its_edits_are_kept(self):
+        for size in self.SIZES:
+            BROWSER.set_size(*size)
+            room = self.folder()
+            path = write_packets(room / "<b>a clip.ivf", packets_of(SMALL))
+            address = self.started(room)
+            self.ready(address)
+            self.assertTrue(self.js("return document.getElementById('recent').hidden"))
+            self.assertLessEqual(self.js("return document.documentElement.scrollWidth"), size[0])
+            self.chosen(path)
+            self.assertEqual(self.js("const { names, packets } = wokureti.model.session; return [names, packets]"), [["<b>a clip.ivf"], 12])
+            self.js("wokureti.model.selectFrames(2, 5); await wokureti.cutting.cutOut()")
+            self.assertEqual(self.js("return wokureti.model.frames"), 9)
+            self.ready(address)
+            (name, about), = self.recent()
+            self.assertEqual(name, "<b>a clip.ivf")
+            self.assertTrue(about.startswith("1 edit · "), about)
+            # Nothing is written next to the stream; the list is in the state folder.
+            self.assertEqual(sorted(one.name for one in room.iterdir()), ["<b>a clip.ivf", "state"])
+            self.chosen(path)
+            self.assertEqual(self.js("return [wokureti.model.frames, wokureti.model.session.edits.length]"), [9, 1])
+
+    def test_a_stream_that_was_open_before(self):
+        room = self.folder()
+        path = write_packets(room / "clip.ivf", packets_of(SMALL))
+        self.ready(self.started(room, path))
+        self.js("addEventListener('beforeunload', (event) => event.stopImmediatePropagation(), { capture: true })")
+        self.js("await wokureti.model.goPacket(11); await wokureti.editing.hold()")
+        BROWSER.open("about:blank")
+        self.end()
+        self.ready(self.started(room))
+        self.assertEqual([name for name, _ in self.recent()], ["clip.ivf"])
+        self.assertIn(str(room), self.recent()[0][1])
+        BROWSER.click("#recent-list .row")
+        self.wait("window.wokureti && document.body.dataset.ready === 'yes'")
+        self.assertEqual(self.js("return wokureti.model.session.edits"), ["hold 12", "delete 11"])
+
+    def test_what_is_not_a_stream_is_refused(self):
+        room = self.folder()
+        path = room / "text.ivf"
+        path.write_bytes(b"no stream " * 9)
+        self.ready(self.started(room))
+        BROWSER.type("#welcome-file", str(path))
+        self.wait("/text\\.ivf is no stream of VP8/.test(document.getElementById('welcome-text').textContent)")
+
+    def test_pieces_are_of_a_name_and_in_order(self):
+        """No path leads out of the folder, and no piece is left out."""
+        room = self.folder()
+        address = self.started(room)
+
+        def post(path, **body):
+            origin = re.match("http://[^/]*", address).group(0)
+            request = urllib.request.Request(address.replace("/page/", f"/{path}"), json.dumps(body).encode(), {"Content-Type": "application/json", "Origin": origin})
+            try:
+                with urllib.request.urlopen(request, timeout=20 * SLOW) as answer:
+                    return answer.status, json.load(answer)
+            except urllib.error.HTTPError as error:
+                return error.code, json.load(error)
+
+        status, found = post("piece", copy="", name="../../a.ivf", at=0, data="AAAA")
+        self.assertEqual(status, 200)
+        for copy, at, data, wanted in ((found["copy"], 9, "AAAA", 409), ("../../" + 10 * "a", 3, "AAAA", 400), (found["copy"], 3, "no base64", 400)):
+            self.assertEqual(post("piece", copy=copy, name="../../a.ivf", at=at, data=data)[0], wanted)
+        for body in ({"recent": 0}, {"copy": found["copy"], "name": "../../etc/passwd"}, {"copy": "..", "name": "a"}, {}):
+            self.assertEqual(post("pages", **body)[0], 404, body)
+        self.assertEqual([one.name for one in room.iterdir() if one.name != "state"], [])
 
 
 if __name__ == "__main__":

@@ -1543,12 +1543,13 @@ class TheCommand(Case):
         self.ask(host, f"/{token}/edits", "delete 3")
         self.assertEqual((room / "clip.edits").stat().st_mode & 0o777, 0o600)
         # A forwarded port has another Host: the refusal names the address.
-        one = http.client.HTTPConnection(host, timeout=10 * SLOW)
-        one.request("GET", f"/{token}/page/", headers={"Host": "127.0.0.1:1"})
-        response = one.getresponse()
-        self.assertEqual(response.status, 421)
-        self.assertIn(f"open http://{host}/. With ssh, forward this port to the same one: ssh -L {host.rpartition(':')[2]}:{host} MACHINE", response.read().decode())
-        one.close()
+        said = f"this address is not http://{host}/, where the server is: open that. With ssh, forward the same port, and open that: ssh -L {host.rpartition(':')[2]}:{host} MACHINE"
+        for headers, kind, text in (({}, "application/json", json.dumps({"error": said})), ({"Sec-Fetch-Dest": "document"}, "text/plain; charset=utf-8", f"Wokureti: {said}")):
+            one = http.client.HTTPConnection(host, timeout=10 * SLOW)
+            one.request("GET", f"/{token}/page/", headers={"Host": "127.0.0.1:1", **headers})
+            response = one.getresponse()
+            self.assertEqual((response.status, response.headers["Content-Type"], response.read().decode()), (421, kind, f"{text}\n"))
+            one.close()
         self.end(process)
 
     def test_it_does_not_start(self):

@@ -181,9 +181,9 @@ def port(text):
     return number
 
 
-def add_served(parser):
+def add_served(parser, more="", **options):
     """The arguments of a server."""
-    parser.add_argument("stream", metavar="IN", help=f"{STREAM}; /dev/null is an empty stream")
+    parser.add_argument("stream", metavar="IN", help=f"{STREAM}; /dev/null is an empty stream{more}", **options)
     add_sources(parser)
     add_number(parser)
     parser.add_argument("--cache", type=int, metavar="N", help="number of decoded states that are cached")
@@ -225,7 +225,7 @@ def add_open(commands):
         "findings of `vp8list --check` with the repairs that can work, and all edits, with undo. IN is only read. Each edit is in a list, "
         "IN.edits, before it is answered, and the next run goes on from there. Ctrl-C ends it.",
     )
-    add_served(parser)
+    add_served(parser, "; without it a page opens a file of the browser's dialog, or one that was open before", nargs="?")
     parser.add_argument("--edits", metavar="FILE", help="the list of edits; next to IN, with the ending .edits, if missing")
     parser.add_argument("--save", metavar="FILE", help="the file that Save writes, and the end, if something was edited since; a new file next to IN if missing")
     parser.add_argument("--no-pad", action="store_true", help="packets that hold the picture are saved as they are, and libvpx does not show them")
@@ -248,6 +248,12 @@ def check_save(given):
 def run_open(given):
     from .page import opening
 
+    if given.stream is None:
+        from .page import starting
+
+        if given.source or given.edits or given.save:
+            raise cat.Failed("--source, --edits and --save are of a stream: name it, as `wokureti open IN`")
+        return starting.run(given.port, lambda *door: not given.no_browser and opening.show(*door))
     given.source = named.with_named(given.source, given.edits or f"{opening.stem_of(given.stream)}.edits")
     check_save(given)
     with rooms.Room() as folder:

@@ -2,15 +2,28 @@
 
 import { ask } from "./ask.js";
 import { engine } from "./engine.js";
-import { mark } from "./keys.js";
 import { nodesOf } from "./script.js";
 import * as parts from "./shots.js";
-import { notice } from "./status.js";
 import { timeText } from "./times.js";
 
 const find = (id) => document.getElementById(id);
 // Frames of a still, at most.
 const MOST_STILL = 100000;
+const NAMES = { begin: "In", end: "Out" };
+const TITLES = {
+  keep: "Only the selected frames are shown (E)",
+  "cut-out": "The selected frames are not shown; no packet is changed, so nothing after them breaks (X, or Delete)",
+  "move-here": "The selected frames are shown before the current one (V)",
+};
+
+/** How frames are selected. */
+function howText(what) {
+  return `Select ${what} first: I at the first frame and O at the last one, or drag over them on the programme`;
+}
+
+function framesText(first, end) {
+  return end === first + 1 ? `frame ${first} is` : `frames ${first} to ${end - 1} are`;
+}
 
 /** The nodes of a script, and the number of the last one: node 0 is the stream. */
 function base(script) {
@@ -18,27 +31,12 @@ function base(script) {
   return [nodes, nodes.length];
 }
 
-/** Only the frames of these ranges are shown, as far as they have any. */
-function shown(script, ranges) {
-  const [nodes, last] = base(script);
-  const some = ranges.filter(([from, to]) => from < to).map(([from, to]) => [last, from, to - from]);
-  return [...nodes, parts.partsText(some.length ? some : [[last, 0, 0]])];
-}
-
-/** Only frames `first` to `end` - 1 are shown. */
-export function kept(script, { first, end }) {
-  return shown(script, [[first, end]]);
-}
-
-/** The others are shown. */
-export function without(script, count, { first, end }) {
-  return shown(script, [[0, first], [end, count]]);
-}
-
-/** These frames are shown before frame `at`. */
-export function moved(script, count, { first, end }, at) {
-  return shown(script, at < first ? [[0, at], [first, end], [at, first], [end, count]] : [[0, first], [end, at], [first, end], [at, count]]);
-}
+/** The ranges of frames that are shown if only `first` to `end` - 1 of `count` are; if all others are; if these come before frame `at`. */
+export const ranges = {
+  kept: ({ first, end }) => [[first, end]],
+  without: ({ first, end }, count) => [[0, first], [end, count]],
+  moved: ({ first, end }, count, at) => (at < first ? [[0, at], [first, end], [at, first], [end, count]] : [[0, first], [end, at], [first, end], [at, count]]),
+};
 
 /** Puts the node that was added last, of this length, between frames before `first` and those from `end` on, as far as there are any. */
 function between(nodes, length, last, count, { first, end }) {
@@ -73,12 +71,6 @@ export function followed(script, source) {
   return [...nodes, `source ${source}`, `splice ${last} ${last + 1}`];
 }
 
-/** Selected packets that are shown in several places. */
-export function severalText(places) {
-  const texts = places.map(([first, end]) => (end - first === 1 ? `frame ${first}` : `frames ${first} to ${end - 1}`));
-  return `The selected packets are shown in several places, ${texts.join(", ")}, with other frames between them, so nothing was done. Select those of one place.`;
-}
-
 export class Cutting {
   constructor(model, editing, status) {
     Object.assign(this, { model, editing, status });
@@ -86,124 +78,68 @@ export class Cutting {
     find("cut-out").addEventListener("click", () => this.cutOut());
     find("move-here").addEventListener("click", () => this.moveHere());
     find("frames-more").addEventListener("click", () => this.more());
-    // The frames at which In and Out were pressed last, and what waits for the last one of them.
-    this.marks = {};
+    // A mark that waits for the frame of a packet.
     this.marking = null;
-    model.addEventListener("session", () => {
-      if (Object.values(this.marks).some((one) => one && one.revision !== model.revision)) this.marks = {};
-    });
-    model.addEventListener("selection", () => {
-      // A selection that was dragged takes their place.
-      if (model.selection && !this.isMarking) this.marks = {};
-    });
-    for (const name of ["session", "selection"]) model.addEventListener(name, () => this.enable());
+    for (const name of ["session", "range"]) model.addEventListener(name, () => this.enable());
   }
 
   enable() {
-    const { session, selection } = this.model;
-    for (const id of ["keep", "cut-out", "move-here"]) find(id).disabled = !session || !selection;
+    const { session, range } = this.model;
+    for (const id of ["keep", "cut-out", "move-here"]) {
+      const button = find(id);
+      button.disabled = !session || !range;
+      button.title = range ? TITLES[id] : `${TITLES[id]}. ${howText("them")}`;
+    }
     find("frames-more").disabled = !session || !session.frames;
   }
 
-  /** The frames that show the packets of a source. */
-  rangeOf(source, first, end) {
-    return engine.look("range", { source, first, end });
-  }
-
-  /** The frames that show the selected packets, or null. Frames that have others between them are refused: something else would be cut. */
-  async range() {
+  /** The frames that are selected, or null, which is said. */
+  async range(what) {
     await this.marking;
-    const { selection, source } = this.model;
-    if (!selection) {
-      this.status.say("nothing is selected: I and O mark the first and the last frame, or drag on the timeline");
-      return null;
-    }
-    const found = await this.rangeOf(source, selection.first, selection.end);
-    if (found.first === null || found.end <= found.first) {
-      this.status.say("no frame shows a selected packet");
-      return null;
-    }
-    if (found.places.length > 1) {
-      notice(severalText(found.places), { isBad: true, id: "places" });
-      return null;
-    }
-    return found;
+    const { range } = this.model;
+    if (!range) this.status.say(`Nothing is selected to ${what}. ${howText("the frames")}`);
+    return range;
   }
 
-  /** Forgets where In and Out were pressed. */
-  forget() {
-    this.marks = {};
-  }
-
-  /** The selection begins, or ends, with the current frame. Marks on both sides of a join or a move are refused: the packets between them are others than
-   * the frames. */
+  /** The selection begins, or ends, with the current frame. */
   mark(isBegin) {
-    const marking = this.markNow(isBegin);
-    this.marking = marking.catch(() => {});
-    return marking;
+    const { going } = this.model;
+    if (going) this.marking = going.catch(() => {}).then(() => this.markNow(isBegin));
+    else this.markNow(isBegin);
+    return this.marking;
   }
 
-  async markNow(isBegin) {
+  markNow(isBegin) {
     const { model } = this;
-    await model.going?.catch(() => {});
-    const { frame, revision, aside } = model;
-    const name = isBegin ? "begin" : "end";
+    const { frame, range, aside } = model;
     if (aside) {
-      this.marks[name] = null;
-      this.select(() => mark(model, isBegin));
+      this.status.say(`no frame shows packet ${aside.packet}: In and Out are of frames that are shown`);
       return;
     }
-    // The packet of the frame may not be known yet.
-    const origin = await model.origin(frame);
-    if (!origin) return;
-    if (model.frame === frame) await model.follow();
-    const { source, packet } = origin;
-    const here = { frame, packet, source, revision };
-    const other = this.marks[isBegin ? "end" : "begin"];
-    this.marks[name] = here;
-    if (!other) {
-      const { selection } = model;
-      this.select(() => mark({ packet, selection, select: (first, end) => model.select(first, end) }, isBegin));
-      return;
-    }
-    const [begin, end] = isBegin ? [here, other] : [other, here];
-    if (begin.frame > end.frame) {
-      this.marks = { [name]: here };
-      this.select(() => model.select(packet, packet + 1));
-      this.status.say(`In, frame ${begin.frame}, is after Out, frame ${end.frame}: only this frame is selected`);
-      return;
-    }
-    if (!(await this.isOne(begin, end))) {
-      this.marks = {};
-      model.select(null);
-      notice(`In, frame ${begin.frame}, and Out, frame ${end.frame}, are on both sides of a join or a move. Mark frames of one shot, one after the other: Shift Page Down goes to the next join.`, { isBad: true, id: "places" });
-      return;
-    }
-    this.select(() => model.select(begin.packet, end.packet + 1));
-  }
-
-  /** Selects by marks, which stay. */
-  select(act) {
-    this.isMarking = true;
-    act();
-    this.isMarking = false;
-  }
-
-  /** Whether the frames between two marks show the packets between them, all of these and no others. */
-  async isOne(begin, end) {
-    if (begin.source !== end.source || begin.packet > end.packet) return false;
-    const found = await this.rangeOf(begin.source, begin.packet, end.packet + 1);
-    return found.places.length === 1 && found.first === begin.frame && found.end === end.frame + 1;
+    model.activate("programme");
+    const [name, other] = isBegin ? ["begin", "end"] : ["end", "begin"];
+    // The other mark, unless there is none.
+    const far = !range || range.mark === name ? null : isBegin ? range.end - 1 : range.first;
+    const isInOrder = far !== null && (isBegin ? frame <= far : far <= frame);
+    if (isInOrder) model.selectFrames(Math.min(frame, far), Math.max(frame, far) + 1);
+    else model.selectFrames(frame, frame + 1, name);
+    if (far === null || isInOrder) return;
+    const [begin, end] = isBegin ? [frame, far] : [far, frame];
+    this.status.say(`Out, frame ${end}, is before In, frame ${begin}: ${NAMES[other]} is dropped. Press ${isBegin ? "O at the last frame" : "I at the first frame"}`);
   }
 
   /** Sets a script, and goes to a frame. */
   async set(nodes, said, frame) {
+    if (nodes.length > parts.MOST_NODES) {
+      this.status.say(`a script has ${parts.MOST_NODES} nodes at most, and this one would have ${nodes.length}: nothing is changed`);
+      return;
+    }
     if (!(await this.editing.make([`script ${nodes.join("; ") || "-"}`], said))) return;
-    this.model.select(null);
+    this.model.selectFrames(null);
     await this.model.go(frame);
   }
 
-  /** The nodes of a script whose shots are changed; if it has more than shots, or would have too many nodes, those that `nodes` adds to it. */
+  /** The nodes of a script whose shots are changed; if it has more than shots, or would have too many nodes, those that `nodes` gives. */
   changed(change, nodes) {
     const { script, source_frames: frames } = this.model.session;
     const { shots, isAll } = parts.shotsOf(script, frames);
@@ -212,33 +148,47 @@ export class Cutting {
     return anew && anew.length <= parts.MOST_NODES ? anew : nodes();
   }
 
+  /** The nodes of a script that shows these ranges of frames. */
+  only(some) {
+    const { script, source_frames: frames } = this.model.session;
+    return this.changed((shots) => parts.picked(shots, some), () => parts.partsOver(script, some, frames));
+  }
+
   async keep() {
-    const range = await this.range();
-    if (!range) return;
-    const nodes = this.changed((shots) => parts.kept(shots, range), () => kept(this.model.session.script, range));
-    await this.set(nodes, `only frames ${range.first} to ${range.end - 1} are shown`, 0);
+    const range = await this.range("keep");
+    if (range) await this.set(this.only(ranges.kept(range)), `only frames ${range.first} to ${range.end - 1} are shown`, 0);
   }
 
   /** The selected frames come before the current one. */
   async moveHere() {
-    const range = await this.range();
+    const range = await this.range("move");
     if (!range) return;
-    const { session, frames, frame } = this.model;
+    const { frames, frame } = this.model;
     const { first, end } = range;
     if (frame >= first && frame <= end) {
       this.status.say("go to the frame before which the selected frames shall be");
       return;
     }
-    const nodes = this.changed((shots) => parts.moved(shots, range, frame), () => moved(session.script, frames, range, frame));
-    await this.set(nodes, `frames ${first} to ${end - 1} are shown before frame ${frame}`, frame > first ? frame - (end - first) : frame);
+    await this.set(this.only(ranges.moved(range, frames, frame)), `frames ${first} to ${end - 1} are shown before frame ${frame}`, frame > first ? frame - (end - first) : frame);
   }
 
   async cutOut() {
-    const range = await this.range();
-    const { session, frames } = this.model;
-    if (!range) return;
-    if (range.end - range.first >= frames) this.status.say("these are all frames");
-    else await this.set(this.changed((shots) => parts.without(shots, range), () => without(session.script, frames, range)), `frames ${range.first} to ${range.end - 1} are cut out`, Math.max(0, range.first - 1));
+    const range = await this.range("cut out");
+    if (range) await this.cutOutOf(range);
+  }
+
+  /** These frames are not shown. */
+  async cutOutOf({ first, end }) {
+    const { frames } = this.model;
+    if (end - first >= frames) this.status.say("these are all frames");
+    else await this.set(this.only(ranges.without({ first, end }, frames)), `${framesText(first, end)} cut out: no packet is changed`, Math.max(0, first - 1));
+  }
+
+  /** Cuts out the frames that show packets. */
+  async cutOutPackets(source, first, end) {
+    const { places } = await engine.look("range", { source, first, end });
+    if (places.length === 1) await this.cutOutOf({ first: places[0][0], end: places[0][1] });
+    else this.status.say(places.length ? "these packets are shown in several places: select the frames of each" : "no frame shows these packets");
   }
 
   /** Shows all frames of a source after the last one. */
@@ -250,12 +200,12 @@ export class Cutting {
 
   async more() {
     const { model } = this;
-    const { frame, frames, rate, session, selection } = model;
+    const { frame, frames, rate, session, range: selected } = model;
     const choices = [
       ["show the frame before", "hold"],
       ["show black", "black"],
     ];
-    if (selection) choices.unshift(["fade in the selected frames", "in"], ["fade out the selected frames", "out"]);
+    if (selected) choices.unshift(["fade in the selected frames", "in"], ["fade out the selected frames", "out"]);
     session.names.forEach((name, source) => choices.push([`join ${source}: ${name}, after the last frame`, `join ${source}`]));
     const fields = [
       { name: "what", label: "What", value: choices[0][1], choices },
@@ -268,7 +218,7 @@ export class Cutting {
       return;
     }
     if (found.what === "in" || found.what === "out") {
-      const range = await this.range();
+      const range = await this.range("fade");
       const nodes = range && this.changed((shots) => parts.fading(shots, range, found.what === "in"), () => faded(session.script, frames, range, found.what === "in"));
       if (range) await this.set(nodes, `frames ${range.first} to ${range.end - 1} fade ${found.what}`, range.first);
       return;

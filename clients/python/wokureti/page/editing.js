@@ -2,14 +2,12 @@
 
 import { ask } from "./ask.js";
 import { Refusal, engine } from "./engine.js";
-import { notice } from "./status.js";
+import { notice, withdraw } from "./status.js";
 import * as steps from "./steps.js";
 
 const find = (id) => document.getElementById(id);
 // Half of the body that the server takes, as HEX.
 const MOST_BYTES = (8 << 20) / 2 - 100;
-// What Save asks, besides the numbers of sources.
-const EXPORT = -1;
 
 export class Editing {
   constructor(model, status) {
@@ -32,6 +30,12 @@ export class Editing {
     press("replace-source", () => this.replaceBySource());
     find("file").addEventListener("change", () => this.replaceByFile());
     for (const name of ["session", "selection", "packet"]) model.addEventListener(name, () => this.enable());
+    // What is said of packets that were deleted goes with the next change.
+    let revision = 0;
+    model.addEventListener("session", () => {
+      if (model.revision !== revision) withdraw("broken");
+      ({ revision } = model);
+    });
   }
 
   enable() {
@@ -102,26 +106,16 @@ export class Editing {
     return this.make("redo", (lines) => (lines.length ? `made again: ${named(lines)}` : "there is nothing to redo"));
   }
 
-  /** Saves packets. With a script, or with edits of other sources, it asks what. */
+  /** Saves packets as they are. With edits of other sources, it asks those of which. */
   async save() {
     const { session } = this.model;
-    const { saves, script, names } = session;
+    const { saves, names } = session;
     let source = 0;
-    if (script !== "-" || saves.some(({ edited }, number) => number && edited)) {
-      const choices = saves
-        .map(({ edited, next }, number) => [`the packets of ${names[number]}${number || script === "-" ? "" : ", without the script"}, to ${fileOf(next)}`, number, edited])
-        .filter(([, number, edited]) => edited || number === 0);
-      const canExport = script !== "-" && session.exports;
-      if (canExport) choices.push(["the frames that are shown: Export", EXPORT]);
-      const how = engine.isOver === "server" ? `\`wokureti cat\` with --edits ${session.list} writes the frames that are shown.` : "A crop or a fade is not in the file.";
-      const note = script === "-" || canExport ? "" : `The script changes what is shown, and no packet. ${how}`;
-      const found = await ask("Save", "Save", [{ name: "source", label: "What", value: 0, choices }], note);
+    if (saves.some(({ edited }, number) => number && edited)) {
+      const choices = saves.map(({ edited, next }, number) => [`the packets of ${names[number]}, to ${fileOf(next)}`, number, edited]).filter(([, number, edited]) => edited || number === 0);
+      const found = await ask("Save packets as they are", "Save", [{ name: "source", label: "What", value: 0, choices }], "The script is in no packet: Export gives the frames that are shown.");
       if (!found) return;
       source = Number(found.source);
-      if (source === EXPORT) {
-        find("export").click();
-        return;
-      }
     }
     return this.inTurn(async () => {
       try {
@@ -154,9 +148,36 @@ export class Editing {
     this.model.packet = first;
     if (await this.step(steps.deleted(first, end), `${packets(chosen)} deleted`)) {
       if (this.model.selection === selection) this.model.select(null);
+      await this.warn(chosen);
     } else if (this.model.packet === first) {
       this.model.packet = packet;
     }
+  }
+
+  /** Says which packets are predicted from those that were deleted, and offers to cut the frames out instead. */
+  async warn({ first, end }) {
+    const { model } = this;
+    const { source, revision, packets: count } = model;
+    const key = model.keyFrom(first) ?? (first < count ? await this.keyAfter(first) : count);
+    if (key === first || first === count || model.revision !== revision) return;
+    const broken = key - first === 1 ? "The packet after" : `The ${(key - first).toLocaleString("en")} packets after`;
+    const deleted = end - first === 1 ? "it" : "them";
+    const until = key < count ? "up to the next key packet" : "up to the end";
+    const act = async () => {
+      if (model.revision !== revision) this.status.say("the stream was changed since: undo, and then cut out");
+      else if (await this.undo()) await this.cutting.cutOutPackets(source, first, end);
+    };
+    notice(`${packets({ first, end })[0].toUpperCase()}${packets({ first, end }).slice(1)} deleted. ${broken} ${deleted}, ${until}, ${key - first === 1 ? "is" : "are"} predicted from ${deleted}, so ${key - first === 1 ? "its picture breaks" : "their pictures break"}. Cut out leaves all packets as they are, and only does not show the frames.`, {
+      isBad: true,
+      id: "broken",
+      act: ["Cut out instead", act],
+    });
+  }
+
+  async keyAfter(packet) {
+    const { source, packets: count } = this.model;
+    const before = packet ? packet - 1 : 0;
+    return (await engine.look("key", { source, packet: before, step: 1 })).packet ?? count;
   }
 
   async hold() {

@@ -89,6 +89,7 @@ export class Exporting {
       const { file, name, said } = await engine.file("export", { ...how, name: number, signal: making.signal, got: (done, total) => this.status.share("the export is read", done / total) });
       if (file) offer(file, name);
       this.status.say(`exported ${name}: ${said}`);
+      this.done?.(name);
     } catch (error) {
       if (error.name === "AbortError") this.status.say("the export was stopped");
       else this.failed(error);

@@ -7,6 +7,8 @@ import { notice } from "./status.js";
 
 const find = (id) => document.getElementById(id);
 const STEP = 200;
+// Milliseconds after a check before the repairs of all are asked for, which takes a while.
+const LATER = 2000;
 // Findings inside packets, which change what the timeline has.
 const INSIDE = ["past_end", "unread"];
 
@@ -50,8 +52,9 @@ export class Findings {
     this.unfolded = new Map();
     // What was heard so far of the check that goes on.
     this.news = { check: null, findings: [] };
-    // The check whose damage no repair is certain for.
-    this.hopeless = null;
+    // The repairs of all damage that a check found, and of which check they are; or why there are none.
+    this.all = { check: null };
+    this.learning = 0;
     model.addEventListener("session", () => this.follow());
     find("findings-more").addEventListener("click", () => {
       this.most += STEP;
@@ -107,7 +110,10 @@ export class Findings {
           : `All ${packets.toLocaleString("en")} packets were checked: nothing was found.`
         : `Checking: ${done.toLocaleString("en")} of ${packets.toLocaleString("en")} packets, ${totals}.`;
     find("check-text").textContent = text;
-    find("repair-all-line").hidden = !over || damage < 2 || this.hopeless === this.check?.check;
+    find("repair-all-line").hidden = !over || damage < 2;
+    this.offerAll();
+    clearTimeout(this.learning);
+    if (over && damage >= 2 && this.all.check !== this.check?.check) this.learning = setTimeout(() => this.learnAll().catch(() => {}), LATER);
     find("report-line").hidden = !over || !(damage || notes);
     find("check-status").textContent = over ? `checked, ${totals}` : `checking ${done.toLocaleString("en")} of ${packets.toLocaleString("en")} packets`;
     const count = find("findings-count");
@@ -245,27 +251,34 @@ export class Findings {
     }
   }
 
+  /** The button is off, with the reason, if nothing can be repaired. */
+  offerAll() {
+    const { check, why = "" } = this.all.check === this.check?.check ? this.all : {};
+    find("repair-all").disabled = Boolean(check && why);
+    find("repair-all-why").textContent = why;
+  }
+
+  /** Asks which repairs the command wokureti repair would make. */
+  async learnAll(waits = "") {
+    const check = this.check?.check;
+    if (this.all.check !== check) {
+      const found = await engine.look("repair_all", {}, { waits }).catch((error) => ({ lines: [], said: [], left: 0, why: error.message }));
+      this.all = { ...found, check, why: found.why ?? (found.lines.length ? "" : hopelessText(found.left)) };
+      this.offerAll();
+    }
+    return this.all;
+  }
+
   /** Shows the pictures with all repairs that the command wokureti repair would make. */
   async previewAll() {
-    const button = find("repair-all");
-    button.disabled = true;
-    try {
-      const { lines, said, left } = await engine.look("repair_all", {}, { waits: "the repairs" });
-      if (!lines.length) {
-        // It is not offered again for these packets.
-        this.hopeless = this.check?.check;
-        find("repair-all-line").hidden = true;
-        notice(hopelessText(left), { id: "repairs" });
-        return;
-      }
-      const title = `${said.length.toLocaleString("en")} steps, ${lines.length.toLocaleString("en")} edits${left ? `, ${left} packets stay damaged` : ""}`;
-      await this.preview({ title, lines, packet: this.model.packet, step: "Repair all" });
-      find("preview-text").title = said.slice(0, 40).join("\n");
-    } catch (error) {
-      this.status.say(error.message);
-    } finally {
-      button.disabled = false;
+    const { lines, said, left, why } = await this.learnAll("the repairs");
+    if (why) {
+      notice(why, { id: "repairs" });
+      return;
     }
+    const title = `${said.length.toLocaleString("en")} steps, ${lines.length.toLocaleString("en")} edits${left ? `, ${left} packets stay damaged` : ""}`;
+    await this.preview({ title, lines, packet: this.model.packet, step: "Repair all" });
+    find("preview-text").title = said.slice(0, 40).join("\n");
   }
 
   async take() {
@@ -317,7 +330,7 @@ export class Findings {
   }
 }
 
-/** The keys go to the timeline if the button that was pressed is gone. */
+/** The keys go to the packets if the button that was pressed is gone. */
 function toTimeline() {
   if (!document.activeElement || document.activeElement === document.body || document.activeElement.closest("#preview-bar")) find("timeline").focus({ focusVisible: false });
 }

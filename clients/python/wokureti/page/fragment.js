@@ -6,7 +6,7 @@ export function parse(text) {
   for (const part of text.replace(/^#/, "").split("&")) {
     const [name, value = ""] = part.split("=");
     if (["frame", "source"].includes(name) && /^\d{1,15}$/.test(value)) found[name] = Number(value);
-    if (["from", "scale"].includes(name) && /^\d{1,15}(\.\d{1,9})?$/.test(value)) found[name] = Number(value);
+    if (["from", "scale", "left", "zoom"].includes(name) && /^\d{1,15}(\.\d{1,9})?$/.test(value)) found[name] = Number(value);
     if (["view", "plane", "size", "overlay", "panel"].includes(name) && /^[a-z0-9]{1,12}$/.test(value)) found[name] = value;
   }
   return found;

@@ -3,15 +3,15 @@
 const find = (id) => document.getElementById(id);
 
 /** Each key has names as `KeyboardEvent.key` has them, a text, and what it does. */
-export function keysOf({ model, player, sound, timeline, editing, findings, viewer, macroblocks, cutting, palette }) {
+export function keysOf({ model, player, sound, lane, editing, findings, viewer, macroblocks, cutting, palette }) {
   const step = (count) => () => model.step(count);
   const playOn = (direction) => () => {
     const same = Math.sign(player.speed) === direction;
     return player.play(same ? Math.sign(player.speed) * Math.min(8, Math.abs(player.speed) * 2) : direction);
   };
-  // What acts on the selection waits for marks that were just made.
-  const marked = (act) => async () => {
-    await cutting.marking;
+  // What acts on packets does not act on the packet of the current frame while frames are selected.
+  const packets = (act) => () => {
+    if (model.range && !model.selection && model.lane === "programme") return palette.sayPackets();
     return act();
   };
   return [
@@ -32,26 +32,27 @@ export function keysOf({ model, player, sound, timeline, editing, findings, view
     { keys: ["k", "K"], show: "K", text: "stop", act: () => player.stop() },
     { keys: ["l", "L"], show: "L", text: "play forward; again: faster", act: playOn(1) },
     { keys: ["u", "U"], show: "U", text: "the sound of playback on or off", act: () => sound.toggle() },
-    { keys: ["i", "I"], show: "I", text: "the selection begins here", act: () => cutting.mark(true) },
-    { keys: ["o", "O"], show: "O", text: "the selection ends here", act: () => cutting.mark(false) },
-    { keys: ["Ctrl+a"], show: "Ctrl A", text: "select all packets", act: () => model.select(0, model.packets) },
-    { keys: ["Escape"], show: "Esc", text: "leave the preview, or drop the selection", act: () => palette.escape() },
-    { keys: ["Delete", "Backspace"], show: "Delete", text: "delete the selected packets", act: marked(() => editing.delete()) },
-    { keys: ["h", "H"], show: "H", text: "hold the picture before in their place", act: marked(() => editing.hold()) },
-    { keys: ["d", "D"], show: "D", text: "drop them: packets of no bytes", act: marked(() => editing.drop()) },
-    { keys: ["e", "E"], show: "E", text: "show only the frames of the selection", act: () => cutting.keep() },
-    { keys: ["x", "X"], show: "X", text: "cut the frames of the selection out: no packet is changed", act: () => cutting.cutOut() },
-    { keys: ["v", "V"], show: "V", text: "show the frames of the selection before the current frame", act: () => cutting.moveHere() },
+    { keys: ["i", "I"], show: "I", text: "In: the selected frames begin here", act: () => cutting.mark(true) },
+    { keys: ["o", "O"], show: "O", text: "Out: the selected frames end here", act: () => cutting.mark(false) },
+    { keys: ["Ctrl+a"], show: "Ctrl A", text: "select all frames, or in the lane of packets all packets", act: () => (model.lane === "packets" ? model.select(0, model.packets) : model.selectFrames(0, model.frames)) },
+    { keys: ["Escape"], show: "Esc", text: "leave the preview, or drop In, Out and the selections", act: () => palette.escape() },
+    { keys: ["Delete", "Backspace"], show: "Delete", text: "cut the selected frames out; in the lane of packets: delete packets", act: () => (model.lane === "packets" ? editing.delete() : cutting.cutOut()) },
+    { keys: ["h", "H"], show: "H", text: "packets: hold the picture before in their place", act: packets(() => editing.hold()) },
+    { keys: ["d", "D"], show: "D", text: "packets: drop them, packets of no bytes", act: packets(() => editing.drop()) },
+    { keys: ["e", "E"], show: "E", text: "keep the selected frames, and show no others", act: () => cutting.keep() },
+    { keys: ["x", "X"], show: "X", text: "cut the selected frames out: no packet is changed", act: () => cutting.cutOut() },
+    { keys: ["v", "V"], show: "V", text: "show the selected frames before the current one", act: () => cutting.moveHere() },
     { keys: ["r", "R"], show: "R", text: "fade, show black or a frame for a time, or join a source", act: () => cutting.more() },
-    { keys: ["Ctrl+c"], show: "Ctrl C", text: "remember them", act: marked(() => editing.copy(false)) },
-    { keys: ["Ctrl+x"], show: "Ctrl X", text: "remember them, to move them", act: marked(() => editing.copy(true)) },
-    { keys: ["Ctrl+v"], show: "Ctrl V", text: "insert them before the current packet", act: () => editing.paste() },
+    { keys: ["Ctrl+c"], show: "Ctrl C", text: "copy packets", act: packets(() => editing.copy(false)) },
+    { keys: ["Ctrl+x"], show: "Ctrl X", text: "copy packets, to move them", act: packets(() => editing.copy(true)) },
+    { keys: ["Ctrl+v"], show: "Ctrl V", text: "insert these before the current packet", act: () => editing.paste() },
     { keys: ["Ctrl+z"], show: "Ctrl Z", text: "undo", act: () => editing.undo() },
     { keys: ["Ctrl+Shift+Z", "Ctrl+Shift+z", "Ctrl+y"], show: "Ctrl Shift Z", text: "redo", act: () => editing.redo() },
-    { keys: ["Ctrl+s"], show: "Ctrl S", text: "save", act: () => editing.save() },
-    { keys: ["+", "="], show: "+", text: "zoom in", act: () => timeline.zoom(2) },
-    { keys: ["-"], show: "−", text: "zoom out", act: () => timeline.zoom(0.5) },
-    { keys: ["0"], show: "0", text: "the whole stream", act: () => timeline.zoomAll() },
+    { keys: ["Ctrl+s", "Ctrl+e"], show: "Ctrl S", text: "export what is seen as a file", act: () => find("export").click() },
+    { keys: ["Ctrl+Shift+S", "Ctrl+Shift+s"], show: "Ctrl Shift S", text: "save the packets as they are", act: () => editing.save() },
+    { keys: ["+", "="], show: "+", text: "zoom in", act: () => lane().zoom(2) },
+    { keys: ["-"], show: "−", text: "zoom out", act: () => lane().zoom(0.5) },
+    { keys: ["0"], show: "0", text: "all of the lane", act: () => lane().zoomAll() },
     { keys: ["1"], show: "1 2 3 4", text: "frame, pair, split, difference", act: () => viewer.choose_view("frame") },
     { keys: ["2"], act: () => viewer.choose_view("pair") },
     { keys: ["3"], act: () => viewer.choose_view("split") },
@@ -83,7 +84,7 @@ export function takes(element, name) {
   if (!element || element === document.body) return false;
   if (element.closest("dialog")) return true;
   const isText = element.matches("textarea, input:not([type=file])");
-  if (isText) return !["Ctrl+s", "Escape"].includes(name);
+  if (isText) return !["Ctrl+s", "Ctrl+e", "Ctrl+Shift+S", "Escape"].includes(name);
   if (element.matches("select")) return !name.startsWith("Ctrl+");
   if (element.matches("button, a")) return name === " " || name === "Enter";
   return false;
@@ -125,20 +126,15 @@ export function write(keys) {
   }
 }
 
-/** Sets the beginning or the end of the selection at the current packet. */
-export function mark(model, isBegin) {
-  const { packet, selection } = model;
-  if (isBegin) model.select(packet, selection && selection.end > packet ? selection.end : packet + 1);
-  else model.select(selection && selection.first <= packet ? selection.first : packet, packet + 1);
-}
-
-/** Moves the current packet, and the end of the selection with it. */
+/** Moves on by an item of the lane that is active, and the end of its selection with it. */
 export function extend(model, step) {
-  const { packet, selection, packets } = model;
-  const next = Math.max(0, Math.min(packets - 1, packet + step));
-  let { first, end } = selection || { first: packet, end: packet + 1 };
-  if (packet === end - 1 && (step > 0 || end - first > 1)) end = next + 1;
+  const isPackets = model.lane === "packets";
+  const [here, count, selection] = isPackets ? [model.packet, model.packets, model.selection] : [model.frame, model.frames, model.range];
+  const next = Math.max(0, Math.min(count - 1, here + step));
+  let { first, end } = selection || { first: here, end: here + 1 };
+  if (here === end - 1 && (step > 0 || end - first > 1)) end = next + 1;
   else first = Math.min(next, end - 1);
-  model.select(first, end);
-  return model.goPacket(next);
+  if (isPackets) model.select(first, end);
+  else model.selectFrames(first, end);
+  return isPackets ? model.goPacket(next) : model.go(next);
 }

@@ -4,7 +4,7 @@ import { Curves } from "./curves.js";
 import { Adding } from "./adding.js";
 import { Cropping } from "./cropping.js";
 import { Cutting } from "./cutting.js";
-import { Editing, savedText } from "./editing.js";
+import { Editing, packets, savedText } from "./editing.js";
 import { EditList } from "./edit_list.js";
 import { Exporting } from "./exporting.js";
 import { Findings } from "./findings.js";
@@ -14,13 +14,14 @@ import { engine, whenLost } from "./engine.js";
 import * as keys from "./keys.js";
 import { writeLegend } from "./kinds.js";
 import { Macroblocks } from "./macroblock.js";
+import { Menu } from "./menu.js";
 import { Model } from "./model.js";
 import { PacketFacts } from "./packet_facts.js";
 import { Player } from "./player.js";
+import { Programme } from "./programme.js";
 import { ScriptPanel } from "./script.js";
 import { Sound } from "./sound.js";
 import { Status, markToolbars, notice, withdraw } from "./status.js";
-import { Strip } from "./strip.js";
 import { frameOf, timeText } from "./times.js";
 import { Thumbs } from "./thumbs.js";
 import { Timeline } from "./timeline.js";
@@ -41,16 +42,20 @@ const findings = new Findings(model, viewer, editing, timeline, status);
 const packetFacts = new PacketFacts(model);
 const scriptPanel = new ScriptPanel(model, editing);
 const editList = new EditList(model, editing);
-const thumbs = new Thumbs(model, timeline, player);
+const programme = new Programme(model, editing, status);
+const thumbs = new Thumbs(model, programme, timeline);
 const curves = new Curves(model, timeline, frames, player, status);
 timeline.ondraw = () => {
   thumbs.soon();
   curves.soon();
 };
 const cutting = new Cutting(model, editing, status);
-const strip = new Strip(model, editing, status);
+editing.cutting = cutting;
+/** The lane that keys act on. */
+const lane = () => (model.lane === "packets" ? timeline : programme);
+for (const [id, act] of [["zoom-in", () => lane().zoom(2)], ["zoom-out", () => lane().zoom(0.5)], ["zoom-all", () => lane().zoomAll()]]) find(id).addEventListener("click", act);
 new Adding(model, status);
-new Exporting(status);
+const exporting = new Exporting(status);
 new Cropping(model, cutting, viewer.picture, status);
 editing.viewer = viewer;
 
@@ -84,6 +89,23 @@ tabs.forEach((tab, place) => {
   });
 });
 
+// The lane of packets is there unless the window is low.
+
+function showPackets(isShown) {
+  find("packets-lane").hidden = !isShown;
+  find("packets-switch").setAttribute("aria-pressed", String(isShown));
+  if (!isShown) model.activate("programme");
+}
+
+find("packets-switch").addEventListener("click", () => showPackets(find("packets-lane").hidden));
+const isLow = matchMedia("(max-height: 560px)");
+isLow.addEventListener("change", () => showPackets(!isLow.matches));
+showPackets(!isLow.matches);
+
+// The menu of other files
+
+new Menu(find("export-more"), find("export-menu"));
+
 // The address
 
 const fragment = new Fragment(() => ({
@@ -91,13 +113,15 @@ const fragment = new Fragment(() => ({
   source: model.source,
   from: timeline.isAll ? undefined : timeline.window.from,
   scale: timeline.isAll ? undefined : timeline.window.scale,
+  left: programme.isAll ? undefined : programme.window.from,
+  zoom: programme.isAll ? undefined : programme.window.scale,
   view: viewer.picture.view,
   plane: viewer.picture.plane,
   size: viewer.picture.size,
   overlay: macroblocks.kind,
   panel,
 }));
-timeline.onview = () => fragment.soon();
+for (const one of [timeline, programme]) one.onview = () => fragment.soon();
 macroblocks.onchange = () => fragment.soon();
 for (const name of ["frame", "session"]) model.addEventListener(name, () => fragment.soon());
 document.querySelector("#viewer .tools").addEventListener("click", () => fragment.soon());
@@ -111,30 +135,37 @@ function writeFrame() {
   else find("time").textContent = `of ${model.frames.toLocaleString("en")} · ${timeText(model.frame, model.rate, model.times)}`;
 }
 
-function writeSelection() {
-  const { selection } = model;
-  const count = selection ? selection.end - selection.first : 0;
-  find("selection-text").textContent = selection ? `${count.toLocaleString("en")} packets selected, ${selection.first} to ${selection.end - 1}, ${timeText(count, model.rate)}` : "";
+function framesText(count) {
+  return count === 1 ? "1 frame" : `${count.toLocaleString("en")} frames`;
 }
 
-const LEFT_OUT = "The packets of the edited stream: the script is not in them. Export has the frames that are shown";
-find("download").addEventListener("click", () => model.session && model.session.script !== "-" && status.say(LEFT_OUT));
+function writeSelection() {
+  const { range, selection } = model;
+  const count = range ? range.end - range.first : 0;
+  const mark = { begin: `In at frame ${range?.first}`, end: `Out at frame ${range?.first}` }[range?.mark];
+  find("selection-text").textContent = mark ?? (range ? `${framesText(count)}, ${range.first} to ${range.end - 1}, ${timeText(count, model.rate)}` : "");
+  find("packets-text").textContent = selection ? `${packets(selection)} selected` : "";
+}
+
+// The file that has what is shown, and the revision that it is of.
+let exported = null;
+exporting.done = (name) => {
+  exported = { name, revision: model.revision };
+  writeHead();
+};
+const isExported = () => exported?.revision === model.revision;
 
 function writeHead() {
-  const { names, rate, script, saved, sources, saves, exports, changing } = model.session;
+  const { names, rate, script, saved, sources, saves, changing } = model.session;
   find("name").textContent = names[0];
-  document.title = `${saved ? "" : "• "}${names[0]} – Wokureti`;
+  document.title = `${saved || isExported() ? "" : "• "}${names[0]} – Wokureti`;
   const facts = [`${model.session.packets.toLocaleString("en")} packets`, `${model.frames.toLocaleString("en")} frames`, `${(rate[0] / rate[1]).toFixed(3).replace(/\.?0+$/, "")} frames a second`];
   if (script !== "-") facts.push("with a script");
   find("facts").textContent = facts.join(" · ");
-  find("saved").textContent = savedText(model.session);
+  find("saved").textContent = isExported() ? `exported to ${exported.name}` : savedText(model.session);
   find("saved").title = find("saved").textContent;
-  find("save").title = `Save the edited packets to ${saves[0].next} (Ctrl+S)`;
-  find("export").hidden = !exports || script === "-";
-  find("export").title = changing ? `The frames that are shown as a file. Node ${changing[0]}, ${changing[1]}, changes the picture: these frames are coded again, all others stay as they are` : "The frames that are shown as a file, without coding again";
-  find("download").title = script === "-" ? "The edited stream as a file" : LEFT_OUT;
-  const label = find("source-label");
-  label.hidden = sources.length < 2;
+  find("save").title = script === "-" ? `A copy with all packets: ${saves[0].next}` : `A copy with all packets, ${saves[0].next}: the script is not in it`;
+  find("export").title = changing ? `Node ${changing[0]}, ${changing[1]}, changes the picture: these frames are coded again, all others stay as they are` : "What is seen as a file, without coding again (Ctrl+S)";
   find("replace-source").hidden = sources.length < 2;
   if (find("source").options.length !== sources.length) {
     find("source").replaceChildren(...names.map((name, number) => new Option(`${number}: ${name}`, number)));
@@ -147,7 +178,7 @@ model.addEventListener("session", () => {
   writeFrame();
 });
 model.addEventListener("frame", writeFrame);
-model.addEventListener("selection", writeSelection);
+for (const name of ["selection", "range"]) model.addEventListener(name, writeSelection);
 find("source").addEventListener("change", () => model.useSource(Number(find("source").value)).catch(() => {}));
 model.addEventListener("session", () => (find("source").value = model.source));
 find("frame").addEventListener("change", () => {
@@ -177,6 +208,8 @@ player.onframe = () => {
   find("playing").textContent = `${speed}${player.measured.toFixed(1)} frames a second, ${player.dropped} dropped`;
 };
 find("play").addEventListener("click", () => player.toggle());
+find("mark-in").addEventListener("click", () => cutting.mark(true));
+find("mark-out").addEventListener("click", () => cutting.mark(false));
 find("loop").addEventListener("click", () => {
   player.isLoop = !player.isLoop;
   find("loop").setAttribute("aria-pressed", String(player.isLoop));
@@ -196,13 +229,14 @@ for (const [id, go] of [
 const palette = {
   escape: () => {
     if (findings.shown) return findings.leave();
-    cutting.forget();
+    model.selectFrames(null);
     return model.select(null);
   },
+  sayPackets: () => status.say("This acts on packets, and frames are selected: press on the lane of packets first, or Esc to drop the selection"),
   showKeys: () => find("keys").showModal(),
   fullScreen: () => (document.fullscreenElement ? document.exitFullscreen() : find("viewer").requestFullscreen()),
 };
-const list = keys.keysOf({ model, player, sound, timeline, editing, findings, viewer, macroblocks, cutting, palette });
+const list = keys.keysOf({ model, player, sound, lane, editing, findings, viewer, macroblocks, cutting, palette });
 keys.write(list);
 keys.listen(list, viewer.loupe, macroblocks);
 find("help").addEventListener("click", palette.showKeys);
@@ -272,7 +306,7 @@ model.addEventListener("session", () => {
 });
 
 addEventListener("beforeunload", (event) => {
-  if (model.session && !model.session.saved && !isReloading) event.preventDefault();
+  if (model.session && !model.session.saved && !isExported() && !isReloading) event.preventDefault();
 });
 
 async function begin() {
@@ -297,13 +331,14 @@ async function begin() {
     await model.go(model.frame);
   }
   if (start.scale) timeline.setView(start.from || 0, start.scale);
-  find("timeline").focus({ focusVisible: false });
+  if (start.zoom) programme.setView(start.left || 0, start.zoom);
+  find("programme").focus({ focusVisible: false });
   status.say(restarts ? `vp8serve was started again ${restarts} times` : "ready");
   document.body.dataset.ready = "yes";
 }
 
 // For tests.
-window.wokureti = { engine, model, frames, viewer, macroblocks, player, sound, timeline, editing, findings, editList, scriptPanel, cutting, thumbs, curves, strip };
+window.wokureti = { engine, model, frames, viewer, macroblocks, player, sound, timeline, editing, findings, editList, scriptPanel, cutting, thumbs, curves, programme };
 begin().catch((error) => {
   status.say(error.message);
   notice(error.message, { isBad: true });

@@ -1,8 +1,8 @@
-// What all parts of the page share: the state of the session on the server, the current frame, and the selection.
+// What all parts of the page share: the state of the session, the current frame, and the selections: of frames that are shown, and of packets.
 
 import { engine, remember } from "./engine.js";
 
-/** Sends `session` when the stream was changed, `frame` when another frame is current, and `selection`. */
+/** Sends `session` when the stream was changed, `frame` when another frame is current, `range` and `selection` when other frames or packets are selected, and `lane`. */
 export class Model extends EventTarget {
   constructor() {
     super();
@@ -17,7 +17,11 @@ export class Model extends EventTarget {
     // Until the frame of a packet is known.
     this.going = null;
     this.isPlaying = false;
+    // The frames that are selected, in the order in which they are shown; and the packets of the source.
+    this.range = null;
     this.selection = null;
+    // The lane that keys act on: `programme`, the frames that are shown, or `packets`.
+    this.lane = "programme";
     this.blocks = new Map();
     // The milliseconds of each frame, if the rate varies, and the revision that they are of.
     this.times = null;
@@ -26,8 +30,9 @@ export class Model extends EventTarget {
     // A change whose answer is not here yet, and what an answer had of the state after it: the place of the packet, and tiles of the timeline.
     this.changing = null;
     this.given = null;
-    // The tiles that the timeline shows.
+    // The tiles that the lane of packets shows, and the next key packet that it knows from a packet on.
     this.tilesShown = () => [];
+    this.keyFrom = () => undefined;
   }
 
   send(name) {
@@ -78,7 +83,8 @@ export class Model extends EventTarget {
     remember(session);
     if (!old || old.revision !== session.revision || old.instance !== session.instance) this.blocks.clear();
     this.time().catch(() => {});
-    if (this.selection && this.selection.end > this.packets) this.selection = null;
+    if (this.selection && this.selection.end > this.packets) this.select(null);
+    if (this.range && this.range.end > this.frames) this.selectFrames(null);
     this.send("session");
     if (old && old.revision !== session.revision && !this.isPlaying) this.stay(old.script !== session.script);
   }
@@ -239,6 +245,19 @@ export class Model extends EventTarget {
   select(first, end) {
     this.selection = first === null || end <= first ? null : { first, end };
     this.send("selection");
+  }
+
+  /** Selects frames. `mark` is the one of In and Out, `begin` or `end`, that is the only one. */
+  selectFrames(first, end, mark = null) {
+    this.range = first === null || end <= first ? null : { first, end, mark };
+    this.send("range");
+  }
+
+  /** The lane that keys act on. */
+  activate(lane) {
+    if (this.lane === lane) return;
+    this.lane = lane;
+    this.send("lane");
   }
 
   /** The packets that an edit acts on: the selection, or the current packet. */

@@ -10,9 +10,10 @@ from typing import NamedTuple
 from .. import system
 from ..server import serve
 from ..session.errors import Ended
-from . import doors
+from . import doors, recent
 from .opened import Opened
 from .pages import PageRoutes
+from ..tools import rooms
 from ..tools.progress import say
 from ..server.web import Server
 
@@ -24,6 +25,8 @@ def stem_of(stream):
     """The beginning of the names of the list of edits and of the file to save to: next to the stream, or in the state folder if nothing can be
     written there."""
     stem = "stream" if stream == "-" else os.path.splitext(stream)[0]
+    if is_copy(stream):
+        return os.path.join(system.state_folder(), f"{os.path.basename(stem)}-{os.path.basename(os.path.dirname(stem))}")
     if system.is_device(stream):
         stem = os.path.basename(stem)
     if system.is_writable(os.path.dirname(stem)):
@@ -31,6 +34,12 @@ def stem_of(stream):
     # Streams of other folders may have the same name.
     mark = hashlib.sha256(os.fsencode(os.path.realpath(stem))).hexdigest()[:8]
     return os.path.join(system.state_folder(), f"{os.path.basename(stem)}-{mark}")
+
+
+def is_copy(stream):
+    """Whether a stream is a copy that the start page made: it goes with the folder that it is in."""
+    room = os.path.dirname(os.path.dirname(os.path.realpath(stream)))
+    return os.path.basename(room).startswith(rooms.PREFIX) and os.path.isfile(os.path.join(room, rooms.LOCK))
 
 
 def show(url, folder):
@@ -72,7 +81,8 @@ def run(options, titles, how, port, has_browser):
     path = how.edits or f"{stems[0]}.edits"
     if any(os.path.dirname(stem) == system.state_folder() for stem in stems):
         os.makedirs(system.state_folder(), mode=0o700, exist_ok=True)
-        say(f"nothing can be written next to {titles[0]}: what is edited is in {path}")
+        if not is_copy(titles[0]):
+            say(f"nothing can be written next to {titles[0]}: what is edited is in {path}")
     try:
         live = Opened(options, path, how.save, how.pad, stems)
         live.keeps_stamps, live.sound = how.keeps_stamps, how.sound
@@ -80,6 +90,8 @@ def run(options, titles, how, port, has_browser):
         if ": input " in str(error):
             raise Ended(error.status, f"{error}\n`wokureti repair {titles[0]} OUT` searches the packets of a damaged file") from None
         raise
+    if os.path.isfile(titles[0]):
+        recent.note(titles[0], path, titles[1:], is_copy(titles[0]))
     count = len(live.session.edits)
     if count:
         say(f"{path}: {edits_text(count)} made")

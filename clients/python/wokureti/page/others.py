@@ -17,9 +17,9 @@ class Others:
     def __init__(self):
         self.running, self.lock, self.closed = [], threading.Lock(), False
 
-    def open(self, path):
+    def open(self, path, sources=()):
         """The address of the page of another stream. `Cannot` with what the command says if it does not start."""
-        words = [sys.executable, "-m", "wokureti", "open", "--no-browser", "--", path]
+        words = [sys.executable, "-m", "wokureti", "open", "--no-browser", *(word for source in sources for word in ("--source", source)), "--", path]
         with self.lock:
             if self.closed:
                 raise Cannot("the server ends")

@@ -1,7 +1,5 @@
 // Playback at the stream's rate, in both directions. Frames are fetched ahead; those that come late are dropped.
 
-import { engine } from "./engine.js";
-
 // Frames that are asked for at a time, and how far ahead.
 const AT_ONCE = 2;
 const TOGETHER_AT_ONCE = 4;
@@ -70,7 +68,7 @@ export class Player {
   /** Plays at a speed: 1 is that of the stream, -1 the same backward. */
   async play(speed) {
     if (!this.model.frames) return;
-    const range = await this.rangeOf();
+    const range = this.played;
     let start = this.model.frame;
     const isOutside = start < range.first || start >= range.end;
     if (isOutside || (speed > 0 && start === range.end - 1) || (speed < 0 && start === range.first)) {
@@ -97,13 +95,10 @@ export class Player {
     this.window = [];
   }
 
-  /** The frames that are played: those of the selection if there is one and it loops, else all. */
-  async rangeOf() {
-    const { selection, source, frames } = this.model;
-    if (!this.isLoop || !selection) return { first: 0, end: frames };
-    const [first, last] = await Promise.all([selection.first, selection.end - 1].map((packet) => engine.look("place", { packet, source })));
-    if (first.frame === null || last.frame === null || last.frame < first.frame) return { first: 0, end: frames };
-    return { first: first.frame, end: Math.min(frames, last.frame + 1) };
+  /** The frames that are played: those that are selected if it loops, else all. */
+  get played() {
+    const { range, frames } = this.model;
+    return this.isLoop && range ? range : { first: 0, end: frames };
   }
 
   async restart() {

@@ -73,38 +73,71 @@ function unfaded(shots) {
   return shots.map((one) => ({ ...one, fadeIn: 0, fadeOut: 0 }));
 }
 
-/** The shots of a script, and whether they are all of it: a crop, or a fade in the middle, is not in them. `frames` has the number of frames of each source. */
-export function shotsOf(script, frames) {
+/** The shots of each node of a script, from node 0 on, the stream; and whether they are all of it. */
+function resultsOf(script, frames) {
   let isAll = true;
   const results = [[shot(0, 0, frames[0])]];
-  for (const text of script === "-" ? [] : nodesOf(script)) {
+  for (const text of nodesIn(script)) {
     const [word, ...rest] = text.split(" ");
     const [node, ...numbers] = rest.map(Number);
     if (word === "source") {
       results.push([shot(node, 0, frames[node])]);
       continue;
     }
-    if (word === "parts") {
-      const shots = ofParts(results, [node, ...numbers]);
-      isAll = isAll && shots !== null;
-      results.push(shots || ofParts(results.map(unfaded), [node, ...numbers]));
+    if (word === "splice") {
+      results.push([...results[node], ...results[numbers[0]]]);
       continue;
     }
-    let found = results[node];
-    if (word === "splice") found = [...results[node], ...results[numbers[0]]];
-    else if (word === "trim") {
-      const end = Math.min(numbers[0] + numbers[1], lengthOf(results[node]));
-      const part = slice(results[node], numbers[0], end);
-      isAll = isAll && part !== null;
-      found = part || slice(unfaded(results[node]), numbers[0], end);
-    } else {
-      const part = word === "fade" ? faded(results[node], numbers) : null;
-      isAll = isAll && part !== null;
-      found = part || found;
-    }
-    results.push(found);
+    const [found, without] =
+      word === "trim" || word === "parts"
+        ? [ofParts(results, [node, ...numbers]), () => ofParts(results.map(unfaded), [node, ...numbers])]
+        : [word === "fade" ? faded(results[node], numbers) : null, () => results[node]];
+    isAll = isAll && found !== null;
+    results.push(found || without());
   }
+  return { results, isAll };
+}
+
+/** The nodes of a script as it is in a session. */
+function nodesIn(script) {
+  return script === "-" ? [] : nodesOf(script);
+}
+
+/** The shots of a script, and whether they are all of it: a crop, or a fade in the middle, is not in them. `frames` has the number of frames of each source. */
+export function shotsOf(script, frames) {
+  const { results, isAll } = resultsOf(script, frames);
   return { shots: joined(results[results.length - 1].filter(({ count }) => count > 0)), isAll };
+}
+
+/** The nodes of a script with these frames of what it shows, one range after the other, each the first frame and the one after the last. If the last node is
+ * parts itself, they are parts of its nodes, so cut after cut adds no node. */
+export function partsOver(script, ranges, frames) {
+  const nodes = nodesIn(script);
+  const { results } = resultsOf(script, frames);
+  const [word, ...rest] = (nodes[nodes.length - 1] ?? "").split(" ");
+  let [inner, before] = [[[nodes.length, 0, lengthOf(results[nodes.length])]], nodes];
+  if (word === "trim" || word === "parts") {
+    before = nodes.slice(0, -1);
+    inner = [];
+    for (let at = 0; at < rest.length; at += 3) {
+      const [node, first, count] = rest.slice(at, at + 3).map(Number);
+      inner.push([node, first, Math.max(0, Math.min(count, lengthOf(results[node]) - first))]);
+    }
+  }
+  const found = ranges.flatMap(([from, end]) => within(inner, from, end));
+  return [...before, partsText(found.length ? found : [[inner[0][0], 0, 0]])];
+}
+
+/** Parts of nodes that are frames `from` to `end` - 1 of parts of nodes. */
+function within(parts, from, end) {
+  const found = [];
+  let at = 0;
+  for (const [node, first, count] of parts) {
+    const [one, other] = [Math.max(from - at, 0), Math.min(end - at, count)];
+    at += count;
+    if (one < other) found.push([node, first + one, other - one]);
+  }
+  return found;
 }
 
 /** The nodes of a script that shows these shots. */
@@ -141,18 +174,10 @@ export function partsText(parts) {
   return `${parts.length === 1 ? "trim" : "parts"} ${parts.flat().join(" ")}`;
 }
 
-/** The shots with frames `first` to `end` - 1 only; with all others; with these before frame `at`. Null if a boundary is inside a fade. */
-export function kept(shots, { first, end }) {
-  return slice(shots, first, end);
-}
-
-export function without(shots, { first, end }) {
-  return together([slice(shots, 0, first), slice(shots, end, lengthOf(shots))]);
-}
-
-export function moved(shots, { first, end }, at) {
-  const parts = at < first ? [[0, at], [first, end], [at, first], [end, Infinity]] : [[0, first], [end, at], [first, end], [at, Infinity]];
-  return together(parts.map(([from, to]) => slice(shots, from, to)));
+/** The shots of ranges of frames, one after the other. Null if a boundary is inside a fade. */
+export function picked(shots, ranges) {
+  const found = ranges.map(([first, end]) => slice(shots, first, end));
+  return found.includes(null) ? null : joined(found.flat());
 }
 
 /** The shots, and then all frames of a source. */
@@ -167,8 +192,4 @@ export function fading(shots, { first, end }, isIn) {
   const [one] = middle;
   if (isIn ? one.fadeIn || one.fadeOut : one.fadeOut || one.fadeIn) return null;
   return joined([...before, { ...one, [isIn ? "fadeIn" : "fadeOut"]: one.count }, ...after]);
-}
-
-function together(parts) {
-  return parts.includes(null) ? null : joined(parts.flat());
 }

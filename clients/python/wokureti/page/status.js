@@ -112,8 +112,8 @@ export function withdraw(id) {
   for (const old of [...find("notices").children]) if (old.dataset.id === id) old.remove();
 }
 
-/** Shows a notice, which goes by itself if it is not bad. */
-export function notice(text, { isBad = false, id = "" } = {}) {
+/** Shows a notice, which goes by itself if it is not bad. `act` is what it offers: the text of a button, and what that does. */
+export function notice(text, { isBad = false, id = "", act = null } = {}) {
   const place = find("notices");
   // The same sentence is there once, also if two tabs were told it.
   for (const old of [...place.children]) if ((id && old.dataset.id === id) || old.querySelector("span").textContent === text) old.remove();
@@ -126,7 +126,18 @@ export function notice(text, { isBad = false, id = "" } = {}) {
   close.textContent = "×";
   close.setAttribute("aria-label", "Close");
   close.addEventListener("click", () => box.remove());
-  box.append(said, close);
+  box.append(said);
+  if (act) {
+    const offered = document.createElement("button");
+    offered.className = "offered";
+    [offered.textContent] = act;
+    offered.addEventListener("click", () => {
+      box.remove();
+      act[1]();
+    });
+    box.append(offered);
+  }
+  box.append(close);
   place.append(box);
   while (place.children.length > 4) place.firstChild.remove();
   if (!isBad) setTimeout(() => box.remove(), 6000);

@@ -1,85 +1,131 @@
-// Small pictures along the timeline: those of the key packets that are seen, since each of these is decoded by itself.
+// Small pictures of the frames that are shown, along the programme. Each is that of a frame in its place: a key frame if there is one, since that is decoded by itself.
 
 import { toColour } from "./colours.js";
 import { engine } from "./engine.js";
+import { nodesOf } from "./script.js";
 
 const find = (id) => document.getElementById(id);
 // Pixels of a place, and how many pictures are stored.
 const WIDE = 76;
 const MOST_PICTURES = 300;
-// Milliseconds for which nothing changes before pictures are fetched.
+// Milliseconds for which nothing changes before pictures are fetched, and before those from before an edit of packets are fetched again.
 const QUIET = 350;
+const RENEW = 5000;
+// Frames that are decoded for a picture, at most: else it is that of the key frame before, of which there may be one in hours.
+const MOST_DECODED = 600;
+// Frames of a place of which any picture that is here will do, at most.
+const MOST_LOOKED = 256;
 
-/** The packets in the middle of the places that the timeline has room for. */
+/** The frames of the places that the programme has room for: pairs of the first one and the one after the last. */
 export function placesOf(window) {
   const found = [];
   for (let left = 0; left + WIDE / 2 <= window.width; left += WIDE) {
-    const packet = window.packetAt(left + WIDE / 2);
-    if (packet < 0 || packet >= window.count) break;
-    found.push(packet);
+    const [first, end] = [left, left + WIDE].map((pixel) => Math.min(window.count, Math.max(0, window.packetAt(pixel))));
+    if (first >= window.count) break;
+    found.push([first, Math.max(first + 1, end)]);
   }
   return found;
 }
 
+/** What of a session changes the pictures of its packets. */
+function packetsOf({ instance, edits, edits_before: before }) {
+  return `${instance} ${before} ${edits.filter((line) => !line.startsWith("script")).join("\n")}`;
+}
+
+/** What of a script changes pictures. */
+function looksOf(script) {
+  return nodesOf(script).filter((node) => /^(crop|fade) /.test(node)).join(";");
+}
+
 export class Thumbs {
-  constructor(model, timeline, player) {
-    Object.assign(this, { model, timeline, player });
-    this.canvas = find("thumbs");
+  constructor(model, programme, timeline) {
+    Object.assign(this, { model, programme, timeline });
+    // For each name the picture, or null if it is refused, and the packets that it is of.
     this.found = new Map();
-    this.shown = [];
+    [this.wanted, this.shown] = [[], []];
+    // The packets that were shown last, and whether a picture from near its place will do: packets were edited, and pictures are fetched again soon.
+    this.packets = null;
+    this.isLoose = false;
     this.isOn = true;
+    programme.thumbs = this;
     find("thumbs-switch").addEventListener("click", () => this.toggle());
-    model.addEventListener("session", () => this.soon());
-    new ResizeObserver(() => this.soon()).observe(this.canvas);
+    for (const name of ["session", "frame", "packet"]) model.addEventListener(name, () => this.later());
   }
 
   toggle() {
     this.isOn = !this.isOn;
     find("thumbs-switch").setAttribute("aria-pressed", String(this.isOn));
-    this.canvas.hidden = !this.isOn;
-    this.soon();
+    this.key = "";
+    this.programme.redraw();
   }
 
-  /** Pictures are fetched once nothing changes for a moment, and not in playback. */
+  /** Those that are here are shown. Others are fetched once nothing changes for a moment, and not in playback. */
   soon() {
-    const { from, scale, width } = this.timeline.window;
-    const key = `${from} ${scale} ${width} ${this.model.revision} ${this.model.source}`;
-    if (key === this.key || !this.isOn) return;
+    const { model, programme } = this;
+    const { from, scale, width, count } = programme.window;
+    const key = `${from} ${scale} ${width} ${count} ${model.session.script}`;
+    if (key === this.key || !this.isOn || !programme.box.clientHeight) return;
+    const keys = this.timeline.keys();
+    // The lanes are drawn again when packets are here, and when playback ends.
+    if (keys === undefined || model.isPlaying) return;
     this.key = key;
+    const packets = packetsOf(model.session);
+    this.isLoose = this.isLoose || (this.packets !== null && packets !== this.packets);
+    this.packets = packets;
+    const looks = looksOf(model.session.script);
+    let last = null;
+    this.wanted = placesOf(programme.window).map((place) => (last = this.wantedOf(place, keys, looks, last)));
+    this.shown = this.wanted.map((one) => one?.name ?? null);
+    programme.redraw();
     clearTimeout(this.timer);
     this.timer = setTimeout(() => this.fetch(key).catch(() => {}), QUIET);
   }
 
-  get isSeen() {
-    return this.isOn && this.canvas.clientHeight > 0 && this.model.session && this.model.packets > 0;
+  /** Pictures of packets that were edited since are fetched again once nothing is done. */
+  later() {
+    clearTimeout(this.renewing);
+    this.renewing = setTimeout(() => {
+      if (!this.isLoose || this.model.isPlaying) return;
+      for (const [name, { packets }] of this.found) if (packets !== this.packets) this.found.delete(name);
+      this.isLoose = false;
+      this.key = "";
+      this.soon();
+    }, RENEW);
   }
 
   async fetch(key) {
-    if (!this.isSeen) return;
-    if (this.player.isPlaying) {
-      this.key = "";
-      return;
-    }
-    const { source } = this.model;
-    const keys = placesOf(this.timeline.window).map((packet) => this.timeline.keyAt(packet));
-    if (keys.includes(undefined)) {
-      // The timeline says when its packets are here.
-      this.key = "";
-      return;
-    }
-    this.shown = keys.map((found) => found?.name ?? null);
-    this.draw();
-    for (const found of keys) {
+    const { packets } = this;
+    for (const one of this.wanted) {
       if (key !== this.key) return;
-      // The same key packet may be that of several places.
-      if (!found || this.found.has(found.name)) continue;
-      const { name, packet, frame } = found;
-      // Without a script the program of the stream has it, else the one beside it.
-      const isPlain = source === 0 && this.model.session.script === "-";
-      this.found.set(name, await (isPlain ? this.small(frame) : this.small(packet, { packets: source })));
+      if (!one || this.found.has(one.name)) continue;
+      this.found.set(one.name, { picture: await this.small(one.number, one.of), packets });
       this.trim();
-      this.draw();
+      this.programme.redraw();
     }
+  }
+
+  /** The frame whose picture is shown in a place: its name, and what is asked for. */
+  wantedOf([first, end], keys, looks, last) {
+    const { model, programme } = this;
+    const middle = (first + end) >> 1;
+    const shot = programme.at(middle);
+    if (!shot) return null;
+    const { source, number } = shot;
+    const [from, to] = [Math.max(first, shot.from), Math.min(end, shot.end)].map((frame) => frame - middle + number);
+    const mine = source === model.source ? keys : [];
+    const names = new Map(mine.map((key) => [key.frame, key.name]));
+    const nameOf = (frame) => `${names.get(frame) ?? `${source} ${frame}`} ${looks}`;
+    const found = (frame) => ({ name: nameOf(frame), number: middle + frame - number, source, frame });
+    const within = mine.find(({ frame }) => frame >= from && frame < to);
+    if (within) return found(within.frame);
+    const slack = this.isLoose ? to - from : 0;
+    for (let far = 0; far <= Math.min(MOST_LOOKED, to - from + slack); far++) {
+      for (const frame of [number - far, number + far]) if (frame >= from - slack && frame < to + slack && this.found.has(nameOf(frame))) return found(frame);
+    }
+    const key = mine.findLast(({ frame }) => frame <= number);
+    const before = Math.max(last?.source === source && last.frame <= number ? last.frame : 0, key?.frame ?? 0);
+    if (number - before <= MOST_DECODED) return found(number);
+    return key ? { name: `${key.name} ${looks}`, number: key.packet, of: { packets: source } } : null;
   }
 
   /** A small picture, or null if it is refused. */
@@ -88,8 +134,7 @@ export class Thumbs {
       const [frame] = await engine.frames([number], { of, low: true });
       const { width, height } = frame;
       const data = new ImageData(new Uint8ClampedArray(toColour(frame).buffer), width, height);
-      const tall = this.canvas.clientHeight * (devicePixelRatio || 1);
-      return await createImageBitmap(data, { resizeHeight: Math.max(1, Math.round(tall)), resizeQuality: "medium" });
+      return await createImageBitmap(data, { resizeHeight: 64 * Math.ceil(devicePixelRatio || 1), resizeQuality: "medium" });
     } catch {
       return null;
     }
@@ -102,19 +147,16 @@ export class Thumbs {
     }
   }
 
-  draw() {
-    const { canvas, shown } = this;
-    const ratio = devicePixelRatio || 1;
-    canvas.width = Math.round(canvas.clientWidth * ratio);
-    canvas.height = Math.round(canvas.clientHeight * ratio);
-    const context = canvas.getContext("2d");
-    shown.forEach((name, place) => {
-      const picture = this.found.get(name);
+  /** Draws them from a height on. */
+  draw(context, top, tall) {
+    const pictures = this.isOn ? this.shown.map((name) => this.found.get(name)?.picture) : [];
+    pictures.forEach((picture, place) => {
       if (!picture) return;
-      const room = (WIDE - 2) * ratio;
-      const wide = Math.min(room, picture.width);
-      context.drawImage(picture, (picture.width - wide) / 2, 0, wide, picture.height, place * WIDE * ratio + (room - wide) / 2, 0, wide, picture.height);
+      // The middle of a picture that is wider than its place.
+      const wide = Math.min(WIDE - 1, (picture.width * tall) / picture.height);
+      const part = (wide * picture.height) / tall;
+      context.drawImage(picture, (picture.width - part) / 2, 0, part, picture.height, place * WIDE + (WIDE - 1 - wide) / 2, top, wide, tall);
     });
-    canvas.dataset.pictures = shown.filter((name) => this.found.get(name)).length;
+    this.programme.canvas.dataset.pictures = pictures.filter(Boolean).length;
   }
 }

@@ -36,6 +36,11 @@ export class Tiles {
   /** The tile, if it is of the current state. */
   fresh(per, number) {
     this.get(per, number);
+    return this.peek(per, number);
+  }
+
+  /** The same, which asks for nothing. */
+  peek(per, number) {
     const entry = this.found.get(`${per}/${number}`);
     return entry?.state === this.state ? entry.tile : null;
   }

@@ -1,75 +1,74 @@
-// The timeline: a bar a packet, or a column for several.
+// The lane of packets: a bar a packet of a source, or a column for several.
 
-import { NAMES, theme } from "./kinds.js";
+import { NAMES } from "./kinds.js";
+import { Lane, drag } from "./lane.js";
 import { COLUMNS, Tiles, perOf } from "./tiles.js";
 import { timeText } from "./times.js";
-import { Window, bytesText, stepOf } from "./window.js";
+import { bytesText, stepOf } from "./window.js";
 
 const find = (id) => document.getElementById(id);
 const RULER = 20;
 const MARKS = 14;
-// Pixels within which a selection ends at a key packet.
-const SNAP = 6;
 // Tiles that are drawn, at most, besides that of the whole stream.
 const MOST_SHOWN = 4;
 // The kinds of packets that are better than damage inside.
 const BETTER = "ihkfd";
 
-export class Timeline {
+export class Timeline extends Lane {
   constructor(model) {
-    this.model = model;
-    this.box = find("timeline");
-    this.canvas = find("bars");
+    super(model, "packets", find("timeline"), [find("bars"), find("overview")]);
     this.overview = find("overview");
-    this.window = new Window();
     this.tiles = new Tiles(() => this.redraw());
     this.findings = [];
     // The packets that are damaged inside, and the columns that have them, by the packets of a column.
     this.inside = [];
     this.columns = new Map();
     this.state = "";
-    this.theme = theme();
-    this.isAll = true;
     this.drawn = 0;
-    matchMedia("(prefers-color-scheme: dark)").addEventListener("change", () => {
-      this.theme = theme();
-      this.redraw();
-    });
     model.tilesShown = () => this.tilesShown();
-    new ResizeObserver(() => this.resize()).observe(this.box);
+    model.keyFrom = (packet) => this.keyFrom(packet);
     model.addEventListener("session", () => this.changed());
     for (const name of ["frame", "packet"]) model.addEventListener(name, () => this.moved());
     model.addEventListener("selection", () => this.redraw());
-    this.box.addEventListener("wheel", (event) => this.wheel(event), { passive: false });
-    this.box.addEventListener("pointerdown", (event) => this.press(event));
     this.box.addEventListener("pointermove", (event) => this.hover(event));
     this.box.addEventListener("pointerleave", () => (find("tip").hidden = true));
     this.overview.addEventListener("pointerdown", (event) => this.scroll(event));
-    find("zoom-in").addEventListener("click", () => this.zoom(2));
-    find("zoom-out").addEventListener("click", () => this.zoom(0.5));
-    find("zoom-all").addEventListener("click", () => this.zoomAll());
   }
 
-  resize() {
-    const ratio = devicePixelRatio || 1;
-    for (const canvas of [this.canvas, this.overview]) {
-      canvas.width = Math.round(canvas.clientWidth * ratio);
-      canvas.height = Math.round(canvas.clientHeight * ratio);
-    }
-    this.window.width = Math.max(1, this.canvas.clientWidth);
-    if (this.isAll) this.window.all();
-    this.window.clamp();
-    this.redraw();
+  get current() {
+    return this.model.packet;
+  }
+
+  get selection() {
+    return this.model.selection;
+  }
+
+  select(first, end) {
+    this.model.select(first, end);
+  }
+
+  go(packet) {
+    this.model.goPacket(packet).catch(() => {});
+  }
+
+  clicked() {
+    this.model.select(null);
+  }
+
+  isRuler(event) {
+    return this.height(event) > this.canvas.clientHeight - RULER;
+  }
+
+  /** A selection snaps before key packets. */
+  isSnap(packet) {
+    return this.window.scale >= 1 && this.entry(packet)?.kind === "k";
   }
 
   changed() {
-    const { model, window } = this;
-    const isNew = window.count === 0;
-    window.count = model.packets;
+    const { model } = this;
+    this.recount(model.packets);
     this.tiles.use(model.revision, model.source, `${model.session.listed} ${this.state}`);
     for (const tile of model.takeTiles()) this.tiles.put(tile);
-    if (this.isAll || isNew) window.all();
-    window.clamp();
     this.describe();
     this.redraw();
   }
@@ -84,14 +83,23 @@ export class Timeline {
     return whole === per && first === 0 ? found : [...found, [whole, 0]];
   }
 
-  /** The key packet at or before a packet that is seen: a name that stays its own, its index, and its frame. Null if there is none, and undefined until that
-   * is known. */
-  keyAt(packet) {
-    const per = perOf(this.window.scale);
-    const tile = this.tiles.fresh(per, Math.floor(packet / per / COLUMNS));
-    if (!tile) return undefined;
-    const found = tile.keys.filter(([key]) => key <= packet).pop();
-    return found ? { name: `${tile.contents} ${found[1]}`, packet: found[0], frame: found[2] } : null;
+  /** The key packets that are known of the source that is shown, each with its index, its frame, and a name that stays its own; undefined until some are known. */
+  keys() {
+    if (!this.model.packets) return [];
+    const tiles = this.tilesShown().map(([per, number]) => this.tiles.fresh(per, number));
+    if (tiles.includes(null)) return undefined;
+    const found = new Map(tiles.flatMap(({ keys, contents }) => keys.map(([packet, number, frame]) => [packet, { packet, frame, name: `${contents} ${number}` }])));
+    return [...found.values()].sort((one, other) => one.packet - other.packet);
+  }
+
+  /** The next key packet from a packet on, or the number of packets if there is none; undefined if that is not known here. */
+  keyFrom(packet) {
+    for (let at = packet; at < this.window.count; at++) {
+      const found = this.tiles.peek(1, Math.floor(at / COLUMNS));
+      if (!found) return undefined;
+      if (found.kinds[at % COLUMNS] === "k") return at;
+    }
+    return this.window.count;
   }
 
   /** The findings of the check, those packets that are damaged inside, and a text that changes with what only the server has of these. */
@@ -120,114 +128,15 @@ export class Timeline {
     box.setAttribute("aria-valuetext", `frame ${model.frame}, packet ${model.packet} of ${model.packets}`);
   }
 
-  zoom(factor, pixel = this.window.pixelOf(this.model.packet + 0.5)) {
-    const inside = pixel >= 0 && pixel <= this.window.width ? pixel : this.window.width / 2;
-    this.window.zoom(factor, inside);
-    this.isAll = this.window.scale <= this.window.least * 1.0001;
-    this.redraw();
-    this.onview?.();
-  }
-
-  zoomAll() {
-    this.isAll = true;
-    this.window.all();
-    this.redraw();
-    this.onview?.();
-  }
-
-  /** Shows these packets: the first one, and the pixels of each. */
-  setView(from, scale) {
-    this.isAll = false;
-    this.window.scale = scale;
-    this.window.from = from;
-    this.window.clamp();
-    this.redraw();
-  }
-
-  wheel(event) {
-    event.preventDefault();
-    const unit = event.deltaMode === 1 ? 16 : event.deltaMode === 2 ? 120 : 1;
-    const across = event.shiftKey ? event.deltaY : event.deltaX;
-    if (Math.abs(across) > Math.abs(event.shiftKey ? 0 : event.deltaY)) {
-      this.window.pan(across * unit);
-      this.redraw();
-      this.onview?.();
-      return;
-    }
-    this.zoom(Math.exp((-event.deltaY * unit) / 300), event.clientX - this.box.getBoundingClientRect().left);
-  }
-
-  pixel(event, element = this.box) {
-    return event.clientX - element.getBoundingClientRect().left;
-  }
-
-  /** A click goes to a packet; a drag selects packets; on the numbers it goes along. */
-  press(event) {
-    if (event.button !== 0 || !this.model.packets) return;
-    this.box.focus();
-    this.box.setPointerCapture(event.pointerId);
-    const { model } = this;
-    const limit = (packet) => Math.max(0, Math.min(model.packets - 1, packet));
-    const start = limit(this.window.packetAt(this.pixel(event)));
-    const onNumbers = event.clientY - this.box.getBoundingClientRect().top > this.canvas.clientHeight - RULER;
-    const from = event.shiftKey ? (model.selection ? model.selection.first : model.packet) : start;
-    let dragged = event.shiftKey;
-    this.isHeld = true;
-    if (event.shiftKey) model.select(Math.min(from, start), Math.max(from, start) + 1);
-    else model.goPacket(start).catch(() => {});
-    const begun = event.clientX;
-    const move = (moved) => {
-      const here = limit(this.window.packetAt(this.pixel(moved)));
-      if (onNumbers && !event.shiftKey) {
-        if (here !== model.packet) model.goPacket(here).catch(() => {});
-        return;
-      }
-      dragged = dragged || Math.abs(moved.clientX - begun) > 3;
-      if (!dragged) return;
-      if (here < from) model.select(this.snapped(here, moved), from + 1);
-      else model.select(from, Math.max(from + 1, this.snapped(here + 1, moved)));
-    };
-    const end = () => {
-      this.isHeld = false;
-      this.box.removeEventListener("pointermove", move);
-      this.box.removeEventListener("pointerup", end);
-      this.box.removeEventListener("pointercancel", end);
-      if (!dragged && !onNumbers) model.select(null);
-    };
-    this.box.addEventListener("pointermove", move);
-    this.box.addEventListener("pointerup", end);
-    this.box.addEventListener("pointercancel", end);
-  }
-
-  /** The boundary of a selection: that before a key packet, if one is near. With Alt it stays. */
-  snapped(packet, event) {
-    if (event.altKey || this.window.scale < 1) return packet;
-    for (let far = 0; far * this.window.scale <= SNAP; far++) {
-      for (const near of [packet - far, packet + far]) {
-        if (this.entry(near)?.kind === "k") return near;
-      }
-    }
-    return packet;
-  }
-
   /** Drags the part of the overview that the timeline shows. */
   scroll(event) {
-    this.overview.setPointerCapture(event.pointerId);
     const go = (moved) => {
       const { window } = this;
       window.from = (this.pixel(moved, this.overview) / window.width) * window.count - window.span / 2;
       window.clamp();
-      this.redraw();
-      this.onview?.();
+      this.viewed();
     };
-    const end = () => {
-      this.overview.removeEventListener("pointermove", go);
-      this.overview.removeEventListener("pointerup", end);
-      this.overview.removeEventListener("pointercancel", end);
-    };
-    this.overview.addEventListener("pointermove", go);
-    this.overview.addEventListener("pointerup", end);
-    this.overview.addEventListener("pointercancel", end);
+    drag(this.overview, event, go);
     go(event);
   }
 
@@ -265,16 +174,7 @@ export class Timeline {
     return this.columns.get(per).has(first / per + place) ? "p" : kind;
   }
 
-  redraw() {
-    if (this.asked) return;
-    this.asked = requestAnimationFrame(() => {
-      this.asked = 0;
-      this.draw();
-    });
-  }
-
   draw() {
-    if (!this.model.session) return;
     const started = performance.now();
     const whole = this.wholeTile();
     const most = whole ? whole.bytes.reduce((one, other) => Math.max(one, other), 1) : 1;
@@ -292,11 +192,8 @@ export class Timeline {
   }
 
   drawBars(most) {
-    const { window, canvas, theme: colours } = this;
-    const ratio = canvas.width / window.width;
-    const height = canvas.height / ratio;
-    const context = canvas.getContext("2d", { alpha: false });
-    context.setTransform(ratio, 0, 0, ratio, 0, 0);
+    const { window, theme: colours } = this;
+    const [context, height] = this.begin(this.canvas);
     context.fillStyle = colours.panel;
     context.fillRect(0, 0, window.width, height);
     if (!window.count) return;
@@ -342,7 +239,7 @@ export class Timeline {
     this.drawNumbers(context, labels, base, height);
     this.drawFindings(context);
     this.drawSelection(context, base);
-    this.drawCursor(context, height, base);
+    this.drawCursor(context, 0, base, [[-6, base + 1], [6, base + 1], [0, base - 6]]);
   }
 
   /** A number of each packet: the top is its greatest value. */
@@ -427,40 +324,9 @@ export class Timeline {
     }
   }
 
-  drawSelection(context, base) {
-    const { selection } = this.model;
-    if (!selection) return;
-    const left = this.window.pixelOf(selection.first);
-    const right = Math.max(left + 1, this.window.pixelOf(selection.end));
-    context.fillStyle = this.theme.selection;
-    context.fillRect(left, 0, right - left, base);
-    context.fillStyle = this.theme.accent;
-    context.fillRect(left - 0.5, 0, 1.5, base);
-    context.fillRect(right - 1, 0, 1.5, base);
-  }
-
-  drawCursor(context, height, base) {
-    const { window, model, theme: colours } = this;
-    const left = window.pixelOf(model.packet);
-    const middle = left + Math.max(1, window.scale) / 2;
-    context.fillStyle = colours.cursor;
-    context.globalAlpha = 0.14;
-    if (window.scale > 2) context.fillRect(left, 0, window.scale, base);
-    context.globalAlpha = 1;
-    context.fillRect(Math.round(middle) - 0.5, 0, 1.5, height);
-    context.beginPath();
-    context.moveTo(middle - 6, base + 1);
-    context.lineTo(middle + 6, base + 1);
-    context.lineTo(middle, base - 6);
-    context.fill();
-  }
-
   drawOverview(whole, most) {
-    const { overview: canvas, window, theme: colours } = this;
-    const ratio = canvas.width / window.width;
-    const height = canvas.height / ratio;
-    const context = canvas.getContext("2d", { alpha: false });
-    context.setTransform(ratio, 0, 0, ratio, 0, 0);
+    const { window, theme: colours } = this;
+    const [context, height] = this.begin(this.overview);
     context.fillStyle = colours.back;
     context.fillRect(0, 0, window.width, height);
     if (!whole || !window.count) return;

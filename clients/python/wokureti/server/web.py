@@ -68,6 +68,16 @@ def as_json(members, status=200, headers=()):
     return Response(status, "application/json", json.dumps(members).encode() + b"\n", headers=headers)
 
 
+def as_text(refuse):
+    """A refusal that a person reads in a browser."""
+    return Response(refuse.status, "text/plain; charset=utf-8", f"Wokureti: {refuse.members['error']}\n".encode())
+
+
+def is_opened(request):
+    """Whether a browser opens the request as a page."""
+    return request.headers.get("sec-fetch-dest") == "document" or request.headers.get("accept", "").startswith("text/html")
+
+
 class Request:
     """A request: the method, the parts of the path, the query, the headers (names in small letters) and the body."""
 
@@ -191,7 +201,7 @@ class Connection:
         if length > MOST_BODY:
             raise Refuse(413, f"a body has at most {MOST_BODY} bytes")
         # What must not be answered is refused before its body is read.
-        request = Request(method, target, version, headers)
+        request = self.asked = Request(method, target, version, headers)
         self.server.check(request)
         self.server.admit(self)
         if length and headers.get("expect", "").lower() == "100-continue":
@@ -204,13 +214,13 @@ class Connection:
 
     def answer_one(self):
         """Answers a request. Whether another one may come."""
-        request = None
+        request = self.asked = None
         try:
             request = self.read_request()
             request.is_gone = self.is_gone
             response = self.server.answer(request)
         except Refuse as refuse:
-            response = as_json(refuse.members, refuse.status)
+            response = as_text(refuse) if self.asked is not None and is_opened(self.asked) else as_json(refuse.members, refuse.status)
             keeps = False
         else:
             keeps = request.keeps
@@ -287,7 +297,7 @@ class Server:
     def check(self, request):
         """Refuses what is not from this machine's own client."""
         if request.headers.get("host") != self.host:
-            raise Refuse(421, f"the Host is not {self.host}: open {self.origin}/. With ssh, forward this port to the same one: ssh -L {self.port}:{self.host} MACHINE")
+            raise Refuse(421, f"this address is not {self.origin}/, where the server is: open that. With ssh, forward the same port, and open that: ssh -L {self.port}:{self.host} MACHINE")
         origin = request.headers.get("origin")
         if origin is not None and origin != self.origin:
             raise Refuse(403, "the request comes from another site")

@@ -106,7 +106,7 @@ async function file(kind, given = {}) {
   return { file: await answer.blob(), name: nameIn(answer.headers.get("Content-Disposition")) };
 }
 
-const LINKS = { png: (frame) => `../frames/${frame}.png`, packets: () => "../download" };
+const LINKS = { png: (frame) => `../frames/${frame}.png` };
 
 async function task(kind, query, { signal } = {}) {
   if (kind === "costs") return look("costs", {}, { waits: "what an export costs", signal });

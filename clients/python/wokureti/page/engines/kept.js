@@ -29,11 +29,22 @@ export async function read(name) {
   return typeof found?.text === "string" ? found.text : null;
 }
 
-/** Keeps a text under a name: it is on the disk when this returns. */
-export async function write(name, text) {
+/** The lists that were kept last, with edits: the `name` of the stream, the number of `edits`, and `when`. */
+export async function recent(most) {
+  const base = await opened();
+  const found = await settled(base.transaction(STORE, "readonly").objectStore(STORE).getAll());
+  return found
+    .filter(({ title, edits, time }) => typeof title === "string" && edits > 0 && time > 0)
+    .sort((one, other) => other.time - one.time)
+    .slice(0, most)
+    .map(({ title, edits, time }) => ({ name: title, edits, when: time }));
+}
+
+/** Keeps a text under a name: it is on the disk when this returns. `title` is what the stream is called, and `edits` their number. */
+export async function write(name, text, title = null, edits = 0) {
   const base = await opened();
   const made = base.transaction(STORE, "readwrite", { durability: "strict" });
-  made.objectStore(STORE).put({ text, time: Date.now() }, name);
+  made.objectStore(STORE).put({ text, title, edits, time: Date.now() }, name);
   return new Promise((resolve, reject) => {
     made.oncomplete = () => resolve();
     made.onabort = made.onerror = () => reject(made.error ?? new Error("the store is full"));

@@ -3,6 +3,7 @@
 
 import { toColour } from "../colours.js";
 import { OPENING, Refusal, offer, use, waited } from "../engine.js";
+import { writeRecent } from "../recent.js";
 import { notice } from "../status.js";
 import { Channel } from "./channel.js";
 import { NO_ENCODER, canEncode, check, encoded } from "./encoding.js";
@@ -16,6 +17,8 @@ const TOGETHER = 8;
 const USUAL = 45;
 // Bytes of a file above which the page says that it is large: its packets are in the memory, and while it is opened twice.
 const LARGE = 1 << 29;
+// Lists of edits that are offered before a file is open.
+const MOST_RECENT = 10;
 
 const find = (id) => document.getElementById(id);
 
@@ -155,7 +158,7 @@ async function add(file) {
 /** Keeps the list of edits before a change is shown. */
 async function keep({ text, ...found }) {
   try {
-    await kept.write(own.about.digest, text);
+    await kept.write(own.about.digest, text, own.about.name, found.session.edits_before + found.session.edits.length);
     if (found.session.unwritten) await own.main.call("unwritten", [0]);
     found.session.unwritten = 0;
   } catch (error) {
@@ -399,10 +402,14 @@ function welcome() {
   const input = find("welcome-file");
   for (const id of ["welcome", "about", "list-save"]) find(id).hidden = false;
   document.body.classList.add("is-empty");
-  find("download").hidden = true;
   find("add-source").title = "Open another stream, as the next source or in the place of this one";
   find("welcome-open").addEventListener("click", () => input.click());
   input.addEventListener("change", () => take([...input.files]));
+  const pick = ({ name }) => {
+    find("welcome-text").textContent = `Choose ${name} again: its edits are there then.`;
+    input.click();
+  };
+  kept.recent(MOST_RECENT).then((entries) => writeRecent(entries, pick)).catch(() => {});
 }
 
 welcome();
