@@ -156,7 +156,8 @@ class Lists(BrowserCase):
         path = self.folder() / "list.csv"
         path.write_text(text.splitlines()[1])
         BROWSER.type("#cuts-file", str(path))
-        self.wait("wokureti.model.session.script === 'trim 0 7 2'")
+        wanted = exports.known("parts 0 7 2", programs.find("vp8serve"))
+        self.wait(f"wokureti.model.session.script === '{wanted}'")
         path.write_text("soon")
         BROWSER.type("#cuts-file", str(path))
         self.wait("document.querySelector('#notices [data-id=cuts]')")
