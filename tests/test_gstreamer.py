@@ -153,6 +153,9 @@ def sought(room, whole):
     ):
         commands += ["play", *words]
         wanted += numbers
+    # Loops, and a pipeline that is started again.
+    commands += ["loop", "1", 3, 6, "loop", "-1", 3, 6, "again", "frame", 7]
+    wanted += [3, 4, 5] * 2 + [5, 4, 3] * 2 + [0, 7]
     lines = room.run(source, "length", *commands)
     if frames_of(lines) != [(number, digests[number]) for number in wanted]:
         yield f"seeks: {lines[-30:]}, wanted {wanted}"
