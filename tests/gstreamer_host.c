@@ -3,7 +3,8 @@
  *     gstreamer_host PIPELINE COMMAND ..
  *
  * `caps` prints the caps, `length` the durations in nanoseconds and frames, `frame N` and `time NS` seek and print the frame that is shown then, `play RATE FORMAT FROM TO`
- * (a rate, `time` or `frame`, and two positions, of which the last may be -1) seeks and prints the frames up to the end, `long NS` seeks to a frame that takes long, seeks to 0
+ * (a rate, `time` or `frame`, and two positions, of which the last may be -1) seeks and prints the frames up to the end, `loop RATE FROM TO` plays frames twice as a loop does, without
+ * a flush between, `again` ends the pipeline and starts it again, `long NS` seeks to a frame that takes long, seeks to 0
  * meanwhile and prints how many milliseconds the second call and the frame of the first one took. A frame is its number, its time, its duration and the MD5 of its samples.
  * The last line, `buffers N`, has the number of different buffers. */
 #include <gst/gst.h>
@@ -63,9 +64,22 @@ static void preroll(void) {
     if (gst_element_get_state(pipeline, NULL, NULL, 60 * GST_SECOND) != GST_STATE_CHANGE_SUCCESS) fail("the pipeline does not pause");
 }
 
-static void seek(gdouble rate, GstFormat format, gint64 from, gint64 to) {
-    GstSeekFlags flags = GST_SEEK_FLAG_FLUSH | GST_SEEK_FLAG_ACCURATE;
+static void seek_with(GstSeekFlags flags, gdouble rate, GstFormat format, gint64 from, gint64 to) {
     if (!gst_element_seek(pipeline, rate, format, flags, GST_SEEK_TYPE_SET, from, to < 0 ? GST_SEEK_TYPE_NONE : GST_SEEK_TYPE_SET, to)) fail("a seek is refused");
+}
+
+static void seek(gdouble rate, GstFormat format, gint64 from, gint64 to) {
+    seek_with(GST_SEEK_FLAG_FLUSH | GST_SEEK_FLAG_ACCURATE, rate, format, from, to);
+}
+
+/* Waits for the end of the frames, or of a part of a loop. */
+static void wait_for(GstMessageType wanted) {
+    GstBus *bus = gst_element_get_bus(pipeline);
+    GstMessage *message = gst_bus_timed_pop_filtered(bus, 60 * GST_SECOND, wanted | GST_MESSAGE_ERROR);
+    if (!message || GST_MESSAGE_TYPE(message) != wanted) fail("the frames do not end");
+    gst_message_unref(message);
+    gst_object_unref(bus);
+    printf("end\n");
 }
 
 static void show(GstFormat format, const char *at) {
@@ -80,15 +94,32 @@ static void play(char **words) {
     is_played = TRUE;
     seek(rate, strcmp(words[1], "time") ? GST_FORMAT_DEFAULT : GST_FORMAT_TIME, g_ascii_strtoll(words[2], NULL, 10), g_ascii_strtoll(words[3], NULL, 10));
     gst_element_set_state(pipeline, GST_STATE_PLAYING);
-    GstBus *bus = gst_element_get_bus(pipeline);
-    GstMessage *message = gst_bus_timed_pop_filtered(bus, 60 * GST_SECOND, GST_MESSAGE_EOS | GST_MESSAGE_ERROR);
-    if (!message || GST_MESSAGE_TYPE(message) != GST_MESSAGE_EOS) fail("the frames do not end");
-    gst_message_unref(message);
-    gst_object_unref(bus);
+    wait_for(GST_MESSAGE_EOS);
     gst_element_set_state(pipeline, GST_STATE_PAUSED);
     preroll();
     is_played = FALSE;
-    printf("end\n");
+}
+
+static void loop(char **words) {
+    gdouble rate = g_ascii_strtod(words[0], NULL);
+    gint64 from = g_ascii_strtoll(words[1], NULL, 10), to = g_ascii_strtoll(words[2], NULL, 10);
+    is_played = TRUE;
+    seek_with(GST_SEEK_FLAG_FLUSH | GST_SEEK_FLAG_ACCURATE | GST_SEEK_FLAG_SEGMENT, rate, GST_FORMAT_DEFAULT, from, to);
+    gst_element_set_state(pipeline, GST_STATE_PLAYING);
+    wait_for(GST_MESSAGE_SEGMENT_DONE);
+    seek_with(GST_SEEK_FLAG_ACCURATE | GST_SEEK_FLAG_SEGMENT, rate, GST_FORMAT_DEFAULT, from, to);
+    wait_for(GST_MESSAGE_SEGMENT_DONE);
+    is_played = FALSE;
+    seek(1, GST_FORMAT_TIME, 0, -1);
+    gst_element_set_state(pipeline, GST_STATE_PAUSED);
+    preroll();
+}
+
+static void start_again(void) {
+    gst_element_set_state(pipeline, GST_STATE_NULL);
+    gst_element_set_state(pipeline, GST_STATE_PAUSED);
+    preroll();
+    printf("%s\n", last);
 }
 
 /* Milliseconds of the second of two seeks, and until the frame of the first one would have been there. */
@@ -147,6 +178,8 @@ int main(int argc, char **argv) {
         else if (!strcmp(argv[k], "length")) print_length();
         else if (!strcmp(argv[k], "frame") && k + 1 < argc) show(GST_FORMAT_DEFAULT, argv[++k]);
         else if (!strcmp(argv[k], "time") && k + 1 < argc) show(GST_FORMAT_TIME, argv[++k]);
+        else if (!strcmp(argv[k], "loop") && k + 3 < argc) loop(argv + k + 1), k += 3;
+        else if (!strcmp(argv[k], "again")) start_again();
         else if (!strcmp(argv[k], "long") && k + 1 < argc) wait_long(argv[++k]);
         else if (!strcmp(argv[k], "play") && k + 4 < argc) play(argv + k + 1), k += 4;
         else fail("there is no such command");

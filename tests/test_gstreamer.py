@@ -153,6 +153,9 @@ def sought(room, whole):
     ):
         commands += ["play", *words]
         wanted += numbers
+    # Loops, and a pipeline that is started again.
+    commands += ["loop", "1", 3, 6, "loop", "-1", 3, 6, "again", "frame", 7]
+    wanted += [3, 4, 5] * 2 + [5, 4, 3] * 2 + [0, 7]
     lines = room.run(source, "length", *commands)
     if frames_of(lines) != [(number, digests[number]) for number in wanted]:
         yield f"seeks: {lines[-30:]}, wanted {wanted}"
@@ -195,6 +198,31 @@ def rates(room):
         wanted = ["17", str(int(17 * NANO / many))]
         if f"framerate=(fraction){many.numerator}/{many.denominator}" not in lines[0] or lines[1].split()[1:3] != wanted or lines[2].split()[1:3] != wanted or lines[3].split()[1:3] != [str(int(count * NANO / many)), str(count)]:
             yield f"{path.name}: {lines}, wanted {many}"
+
+
+def varying(room):
+    """Frames whose time stamps vary have their own times, also those of a script, and are found by them."""
+    packets = [data for _, data in ivf.read_packets(CLIP)[1]]
+    steps = [40] * 10 + [300] + [40] * 10 + [1000, 20, 20] + [40] * 23
+    stamps = [1000 + sum(steps[:place]) for place in range(48)]
+    path, milli = room.folder / "varying.ivf", NANO // 1000
+    path.write_bytes(b"".join(ivf.pieces(ivf.Head(320, 180, 1000, 1), 48, list(zip(stamps, packets)))))
+    for script, shown in ((None, range(48)), ("trim 0 5 30", range(5, 35)), ("trim 0 5 30; crop 1 0 0 320 90; fade 2 0 9 0 256", range(5, 35)), ("parts 0 20 4 0 8 4", [*range(20, 24), *range(8, 12)])):
+        if script and script.startswith("parts") and not reads_webm():
+            continue
+        begins = [sum(steps[number] for number in shown[:place]) * milli for place in range(len(shown))]
+        # The last one lasts as long as one of the rate.
+        ends = [*begins[1:], begins[-1] + 40 * milli]
+        numbers, source = range(len(shown)), f"wokuretisrc location={path}" + (f' script="{script}"' if script else "")
+        commands = ["length", "play", "1", "frame", 0, -1, "play", "-1", "frame", 0, -1]
+        for number in numbers:
+            commands += ["frame", number, "time", begins[number], "time", ends[number] - 1]
+        lines = room.run(source, *commands)
+        found = [tuple(map(int, line.split()[1:4])) for line in lines if line.startswith("frame ")]
+        wanted = [*numbers, *reversed(numbers), *(number for number in numbers for _ in range(3))]
+        if lines[0].split()[1:3] != [str(ends[-1]), str(len(shown))] or found != [(number, begins[number], ends[number] - begins[number]) for number in wanted]:
+            differing = [pair for pair in zip(found, ((number, begins[number], ends[number] - begins[number]) for number in wanted)) if pair[0] != pair[1]]
+            yield f"times that vary, {script}: {lines[0]}, {len(found)} of {len(wanted)}, {differing[:3]}"
 
 
 def colours(room):
@@ -340,7 +368,7 @@ def main():
     with tempfile.TemporaryDirectory() as name:
         folder = pathlib.Path(name)
         room, (whole, _) = Room(folder / "room"), served("".join(f"frame {number}\n" for number in range(48)))
-        wrong = [*launched(room, whole), *sought(room, whole), *beyond(room), *rates(room), *colours(room), *errors(room), *addresses(room), *long(room), *facts(room)]
+        wrong = [*launched(room, whole), *sought(room, whole), *beyond(room), *rates(room), *varying(room), *colours(room), *errors(room), *addresses(room), *long(room), *facts(room)]
         wrong += [*limits(folder / "limits"), *guide(folder / "guide")]
     print("".join(line + "\n" for line in wrong), end="")
     return 1 if wrong else 0

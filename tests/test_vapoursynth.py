@@ -8,6 +8,7 @@ bin/libwokureti.so.0. It prints what differs and ends with 1, or prints nothing 
 
 import copy
 import ctypes
+import itertools
 import os
 import pathlib
 import random
@@ -105,8 +106,23 @@ def rate(path):
     return found.numerator, found.denominator
 
 
-def frames(host, path, chance, script=None, sources=(), cache=()):
-    """What is wrong with the frames of a clip, which are asked for three times each."""
+def times(path, shown, many, one):
+    """When each of these frames of a file begins, and how long it lasts, in seconds: by its packets' time stamps, or by the rate if that is never a frame away."""
+    head, packets = ivf.read_packets(path)
+    stamps = [stamp for stamp, data in packets if ivf.is_shown(data)]
+    steps = [after - before for before, after in zip(stamps, stamps[1:])]
+    median = statistics.median_low([step for step in steps if step > 0])
+    lasting = [Fraction((step if step > 0 else median) * head.scale, head.rate) for step in [*steps, 0]]
+    begins = list(itertools.accumulate((lasting[number] for number in shown), initial=Fraction(0)))
+    frame = Fraction(one, many)
+    if all(abs(begin - number * frame) < frame for number, begin in enumerate(begins[:-1])):
+        return [(number * frame, frame) for number in range(len(shown))]
+    # The last frame lasts as long as one of the rate.
+    return [*((begin, lasting[number]) for begin, number in zip(begins, shown[:-1])), (begins[-2], frame)]
+
+
+def frames(host, path, chance, script=None, sources=(), cache=(), shown=None):
+    """What is wrong with the frames of a clip, which are asked for three times each. They are these of the file, in order, or all."""
     given = [f"path={path}", *(f"sources={one}" for one in sources), *([f"script={script}"] if script else []), *cache]
     status, lines, _ = host.run([], *given)
     if status or not lines or not lines[0].startswith("clip "):
@@ -117,9 +133,11 @@ def frames(host, path, chance, script=None, sources=(), cache=()):
     replies, samples, size = served([path, *sources], numbers, script)
     kind, (many, one) = kinds(path), rate(path)
     wanted = [f"clip {size[0]}x{size[1]} frames {count} rate {many}/{one}"]
+    is_whole = all(reply.startswith("served ") for reply in replies)
+    timed = times(path, shown or range(count), many, one) if is_whole else [(Fraction(number * one, many), Fraction(one, many)) for number in range(count)]
     for number, reply in zip(numbers, replies):
-        shown = "" if script else f" _PictType={kind[number]}"
-        properties = f"{PROPERTIES} _DurationNum={one} _DurationDen={many} _AbsoluteTime={number * one / many:.17g}{shown}"
+        picture, (begin, lasts) = "" if script else f" _PictType={kind[number]}", timed[number]
+        properties = f"{PROPERTIES} _DurationNum={lasts.numerator} _DurationDen={lasts.denominator} _AbsoluteTime={float(begin):.17g}{picture}"
         source = int(reply.split()[2]) if reply.startswith("refused source ") else 0
         wanted.append(f"{number} {properties}" if reply == f"served {number}" else f"{number} error wokureti: {[path, *sources][source]}: frame {number}: {reply}")
     wrong = []
@@ -287,8 +305,8 @@ def main():
         clip, other, key = DATA / "hidden-altref.ivf", DATA / "scene-cuts.ivf", ivf.read_packets(DATA / "scene-cuts.ivf")[1][0][1]
         wrong = [*order(), *frames(host, clip, chance), *frames(host, other, chance, cache=["cache=2"]), *refusals(host, folder), *limits(folder / "limits")]
         wrong += frames(host, other, chance, cache=["cache_bytes=1"])
-        wrong += frames(host, clip, chance, script="crop 0 2 2 16 8; trim 1 3 4")
-        wrong += frames(host, clip, chance, script="source 1; trim 1 0 4; splice 2 1; fade 3 0 4 256 0", sources=[clip])
+        wrong += frames(host, clip, chance, script="crop 0 2 2 16 8; trim 1 3 4", shown=range(3, 7))
+        wrong += frames(host, clip, chance, script="source 1; trim 1 0 4; splice 2 1; fade 3 0 4 256 0", sources=[clip], shown=[*range(4), *range(len(kinds(clip)))])
         wrong += frames(host, written(folder, "middle.ivf", {4: bytes(2), 7: key}), chance)
         wrong += [*sizes(host, folder), *rates(host, folder), *guide(host, folder / "guide")]
         wrong += frames(host, written(folder, "first.ivf", {0: b"\x10\x00", 2: key}, step=5), chance)

@@ -209,4 +209,80 @@ static inline bool clip_look(wk_handle *handle, const clip_files *files, clip_fa
     return is_seen;
 }
 
+/* The current script with a trim of all frames for each crop and each fade, which change no times: a request line for the caller to free, or NULL. */
+static inline char *clip_plain_script(const char *script) {
+    static const char all[] = " 0 4294967295";
+    size_t nodes = 1, at = 0;
+    for (const char *end = script; (end = strchr(end, ';')); end++) nodes++;
+    char *plain = malloc(strlen(script) + nodes * sizeof all + 1);
+    for (const char *node = script; plain && *node; node += strcspn(node, ";"), node += *node == ';') {
+        const char *name = strncmp(node, "script ", 7) ? node : node + 7;
+        size_t size = strcspn(node, ";");
+        bool changes = !strncmp(name, "crop ", 5) || !strncmp(name, "fade ", 5);
+        if (changes) at += (size_t)sprintf(plain + at, "%.*strim %.*s%s", (int)(name - node), node, (int)strcspn(name + 5, " "), name + 5, all);
+        else memcpy(plain + at, node, size), at += size;
+        if (node[size]) plain[at++] = ';';
+        plain[at] = 0;
+    }
+    return plain;
+}
+
+/* The frames of the current script as an IVF file without crops and fades, or NULL. The script is set again, and lost if there is no memory for that. */
+static inline uint8_t *clip_export(wk_handle *handle, size_t *length, bool *is_lost) {
+    wk_unexported found;
+    char *script = clip_ask(handle, "script"), *plain = script ? clip_plain_script(script) : NULL;
+    bool is_other = plain && strcmp(plain, script);
+    char *why = is_other ? clip_refusal(handle, plain) : NULL, *again = NULL;
+    uint8_t *file = NULL;
+    if (plain && !why && !wk_export(handle, false, length, &found)) file = malloc(*length);
+    if (file && wk_text(handle, file, *length, length)) free(file), file = NULL;
+    if (is_other) again = clip_refusal(handle, script);
+    *is_lost = !script || !plain || again;
+    free(why);
+    free(again);
+    free(script);
+    free(plain);
+    return file;
+}
+
+/* When each frame of a script begins, and the last one ends, in units of one/many seconds, for the caller to free; NULL if they come by the rate. If the
+ * session has lost its script, it serves other frames and is of no use. */
+typedef struct {
+    uint64_t *stamps, many, one;
+    bool is_lost;
+} clip_times;
+
+__extension__ typedef unsigned __int128 clip_wide;
+
+/* Whether a time is a frame or more away from that of the rate. */
+static inline bool clip_is_away(const clip_times *times, clip_rate rate, uint64_t frame, uint64_t stamp) {
+    clip_wide here = (clip_wide)stamp * times->one * (uint64_t)rate.many, even = (clip_wide)frame * (uint64_t)rate.one * times->many;
+    return (here > even ? here - even : even - here) >= (clip_wide)(uint64_t)rate.one * times->many;
+}
+
+/* The times of `count` frames of the current script. None if all are within a frame of the constant rate, or if they are not known: a frame is refused, or there
+ * is no memory. */
+static inline clip_times clip_times_of(wk_handle *handle, clip_rate rate, uint64_t count) {
+    size_t length = 0, shown = 0;
+    bool varies = false, is_lost = false;
+    uint8_t *file = clip_export(handle, &length, &is_lost);
+    clip_times times = {NULL, file ? clip_number(file + 16, 4) : 0, file ? clip_number(file + 20, 4) : 0, is_lost};
+    if (file && times.many && times.one && count && count < length) times.stamps = malloc((count + 1) * sizeof *times.stamps);
+    clip_packet packet;
+    for (size_t at = 32; times.stamps && shown < count && clip_packet_at(file, length, at, &packet); at = packet.next) {
+        if (!clip_is_shown(&packet)) continue;
+        varies = varies || clip_is_away(&times, rate, shown, packet.stamp);
+        times.stamps[shown++] = packet.stamp;
+    }
+    free(file);
+    if (times.stamps && varies && shown == count) {
+        uint64_t last = (uint64_t)((clip_wide)times.many * (uint64_t)rate.one / times.one / (uint64_t)rate.many);
+        times.stamps[count] = times.stamps[count - 1] + (last ? last : 1);
+        return times;
+    }
+    free(times.stamps);
+    times.stamps = NULL;
+    return times;
+}
+
 #endif

@@ -49,6 +49,8 @@ struct _WokuretiSrc {
     GstVideoInfo info;
     gint rate, scale;
     guint64 frames;
+    /* When each frame begins, and the last one ends, if that is not by the rate. */
+    guint64 *times;
     /* The next frame; in reverse, the one after it. */
     guint64 next;
     gboolean is_reverse;
@@ -188,9 +190,19 @@ static void find_rate(WokuretiSrc *src, Opening *opening) {
         return;
     }
     free(facts.kinds);
+    /* The session has the bytes. */
+    free(opening->files.bytes);
+    opening->files.bytes = NULL;
     while (facts.rate.many > G_MAXINT || facts.rate.one > G_MAXINT) facts.rate.many /= 2, facts.rate.one /= 2;
     src->rate = MAX((gint)facts.rate.many, 1);
     src->scale = MAX((gint)facts.rate.one, 1);
+}
+
+static void find_times(WokuretiSrc *src, Opening *opening) {
+    clip_times found = clip_times_of(&src->handle, (clip_rate){src->rate, src->scale}, src->frames);
+    src->times = found.stamps;
+    if (found.is_lost) opening->wrong = g_strdup("out of memory");
+    for (guint64 n = 0; src->times && n <= src->frames; n++) src->times[n] = gst_util_uint64_scale(src->times[n], GST_SECOND * found.one, found.many);
 }
 
 static uint32_t open_handle(WokuretiSrc *src, const clip_files *files, wk_fault *fault) {
@@ -211,6 +223,7 @@ static void open_session(WokuretiSrc *src, gpointer given) {
         find_rate(src, opening);
         if (!opening->wrong && src->script) set_script(src, opening);
         if (!opening->wrong) find_frames(src, opening);
+        if (!opening->wrong) find_times(src, opening);
     }
 }
 
@@ -270,13 +283,24 @@ static void set_info(WokuretiSrc *src, const Opening *opening) {
 
 /* When a frame begins. */
 static GstClockTime time_of(WokuretiSrc *src, guint64 frame) {
+    if (src->times) return src->times[MIN(frame, src->frames)];
     return gst_util_uint64_scale(frame, GST_SECOND * (guint64)src->scale, (guint64)src->rate);
 }
 
-/* The frame that is shown at a time: the last one that begins by then. The times of frames are rounded down, so a nanosecond is added, which may be one too many. */
+/* The frame that is shown at a time: the last one that begins by then, or the number of frames after their end. */
 static guint64 frame_at(WokuretiSrc *src, GstClockTime time) {
-    guint64 frame = gst_util_uint64_scale(time + 1, (guint64)src->rate, GST_SECOND * (guint64)src->scale);
-    return frame && time_of(src, frame) > time ? frame - 1 : frame;
+    if (!src->times) {
+        /* The times of frames are rounded down, so a nanosecond is added, which may be one too many. */
+        guint64 frame = gst_util_uint64_scale(time + 1, (guint64)src->rate, GST_SECOND * (guint64)src->scale);
+        return frame && time_of(src, frame) > time ? frame - 1 : frame;
+    }
+    guint64 first = 0, after = src->frames + 1;
+    while (after - first > 1) {
+        guint64 middle = first + (after - first) / 2;
+        if (src->times[middle] <= time) first = middle;
+        else after = middle;
+    }
+    return first;
 }
 
 static gboolean stop(GstBaseSrc *base) {
@@ -291,6 +315,8 @@ static gboolean stop(GstBaseSrc *base) {
         src->worker = NULL;
     }
     g_clear_pointer(&src->names, g_strfreev);
+    free(src->times);
+    src->times = NULL;
     gst_video_info_init(&src->info);
     return TRUE;
 }

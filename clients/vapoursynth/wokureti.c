@@ -39,6 +39,7 @@ struct Source {
     /* What is known once the session is open. `kinds` has I or P for each frame, and is NULL with a script. */
     VSVideoInfo info;
     char *kinds, *paths[CLIP_SOURCES];
+    clip_times times;
 };
 
 static void *work(void *given) {
@@ -88,6 +89,7 @@ static void end_source(Source *source) {
     pthread_cond_destroy(&source->changed);
     pthread_mutex_destroy(&source->lock);
     free(source->kinds);
+    free(source->times.stamps);
     for (int k = 0; k < CLIP_SOURCES; k++) free(source->paths[k]);
     free(source);
 }
@@ -171,7 +173,11 @@ static bool find_facts(Source *source, Opening *opening) {
     free(script);
     if (has_kinds) source->kinds = facts.kinds;
     else free(facts.kinds);
-    return true;
+    /* The session has the bytes. */
+    free(opening->files.bytes);
+    opening->files.bytes = NULL;
+    source->times = clip_times_of(&source->handle, facts.rate, (uint64_t)source->info.numFrames);
+    return source->times.is_lost ? fails(opening, "out of memory") : true;
 }
 
 static uint32_t open_handle(wk_handle *handle, const Opening *opening, wk_fault *fault) {
@@ -266,9 +272,16 @@ static void set_properties(const Source *source, int number, VSMap *properties, 
     api->mapSetInt(properties, "_ColorRange", 1, maReplace);
     api->mapSetInt(properties, "_ChromaLocation", 1, maReplace);
     api->mapSetInt(properties, "_FieldBased", 0, maReplace);
-    api->mapSetInt(properties, "_DurationNum", source->info.fpsDen, maReplace);
-    api->mapSetInt(properties, "_DurationDen", source->info.fpsNum, maReplace);
-    api->mapSetFloat(properties, "_AbsoluteTime", (double)number * (double)source->info.fpsDen / (double)source->info.fpsNum, maReplace);
+    clip_rate lasts = {source->info.fpsDen, source->info.fpsNum};
+    double begins = (double)number * (double)lasts.many / (double)lasts.one;
+    const clip_times *times = &source->times;
+    if (times->stamps) {
+        lasts = clip_reduced((times->stamps[number + 1] - times->stamps[number]) * times->one, times->many);
+        begins = (double)times->stamps[number] * (double)times->one / (double)times->many;
+    }
+    api->mapSetInt(properties, "_DurationNum", lasts.many, maReplace);
+    api->mapSetInt(properties, "_DurationDen", lasts.one, maReplace);
+    api->mapSetFloat(properties, "_AbsoluteTime", begins, maReplace);
     if (source->kinds) api->mapSetData(properties, "_PictType", source->kinds + number, 1, dtUtf8, maReplace);
 }
 

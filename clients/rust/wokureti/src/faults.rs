@@ -4,7 +4,7 @@ use std::fmt;
 use std::io;
 use std::path::PathBuf;
 
-/// Why a call has no result. The session is as before, except that a refused frame may leave decoded packets in the cache.
+/// Why a call has no result. Packets, script and current source are as before, except with [`Fault::Memory`].
 #[derive(Clone, Debug, PartialEq, Eq)]
 #[non_exhaustive]
 pub enum Fault {
@@ -28,7 +28,7 @@ pub enum Fault {
         /// Why.
         cause: FileCause,
     },
-    /// Out of memory.
+    /// Out of memory. An edit may have been made, if there was none for its reply only: [`Session::count`](crate::Session::count) tells.
     Memory,
     /// The request was refused.
     Refused(Refused),
