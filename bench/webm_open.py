@@ -1,5 +1,5 @@
 #!/usr/bin/env python3
-"""Times how a long WebM file is opened: `wokureti list`, `wokureti open` up to its first answer, and vp8serve alone, next to copies by ffmpeg and mkvmerge.
+"""Times how a long WebM file is opened: `wokureti list`, `wokureti open` up to its address and up to its first answer, and vp8serve alone, next to copies by ffmpeg and mkvmerge.
 
     bench/webm_open.py [--hours H] [--turns N] [--tree FOLDER ..] [FILE]
 
@@ -79,13 +79,14 @@ def used(pid):
     return seconds, most
 
 
-def opened(words, **more):
-    """The same of `wokureti open`, until it has answered what the page asks first."""
+def opened(words, asks, **more):
+    """The same of `wokureti open`, until it prints its address, or until it has answered what the page asks first."""
     with subprocess.Popen(list(map(str, words)), stdin=subprocess.DEVNULL, stdout=subprocess.PIPE, stderr=subprocess.DEVNULL, text=True, **more) as process:
         try:
             address = process.stdout.readline().strip().removesuffix("page/")
-            with urllib.request.urlopen(f"{address}session", timeout=600) as reply:
-                json.load(reply)
+            if asks:
+                with urllib.request.urlopen(f"{address}session", timeout=600) as reply:
+                    json.load(reply)
             return used(process.pid)
         finally:
             process.terminate()
@@ -104,7 +105,8 @@ def measures(path, trees, folder):
         words = [sys.executable, "-m", "wokureti"]
         found[f"wokureti list{name}"] = lambda room=room: finished([*words, "list", path], env=room, stderr=subprocess.DEVNULL)
         edits = folder / f"edits{len(found)}"
-        found[f"wokureti open{name}"] = lambda room=room, edits=edits: opened([*words, "open", path, "--no-browser", "--edits", edits], env=room)
+        for what, asks in (("address", False), ("first answer", True)):
+            found[f"wokureti open, {what}{name}"] = lambda room=room, edits=edits, asks=asks: opened([*words, "open", path, "--no-browser", "--edits", edits], asks, env=room)
     return found
 
 
@@ -124,7 +126,7 @@ def main():
     print(f"{path.name}, {path.stat().st_size / 1e6:,.0f} MB")
     for name in ways:
         seconds, memory = (statistics.median(column) for column in zip(*results[name]))
-        print(f"{name:32} {seconds:6.2f} s {memory / 1e6:8,.0f} MB")
+        print(f"{name:36} {seconds:6.2f} s {memory / 1e6:8,.0f} MB")
 
 
 if __name__ == "__main__":

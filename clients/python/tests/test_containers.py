@@ -820,6 +820,15 @@ class Blocks(Case):
         [track] = containers.media_of(room / "out.ivf").sounds
         self.assertEqual((track.codec, track.channels, sound_packets(track)), ("opus", 1, [data for number, _, data in made if number == 2]))
 
+    def test_numbers_that_damage_made_great(self):
+        """The time of a cluster, the rate, the channels and the delay of sound."""
+        data, made = self.file()
+        for mark, value in (("e788", b"\xff" * 8), ("b588", b"\x7f\xf0" + bytes(6)), ("b588", b"\x7f\xf8" + bytes(6)), ("9f88", b"\xff" * 8), ("56aa88", b"\xff" * 8)):
+            place = data.index(bytes.fromhex(mark)) + len(mark) // 2
+            found = blocks.find(data[:place] + value + data[place + 8 :])
+            _, packets, _ = blocks.as_file(found, "", str(self.folder() / "out.ivf"))
+            self.assertEqual(len(packets), sum(number == 1 for number, _, _ in made), mark)
+
     def test_bytes_that_are_no_file(self):
         for data in (b"", b"\xa3", random.Random(1).randbytes(20000), bytes(20000), b"\xa3\x84\x81\x00\x00" * 40):
             blocks.find(data)

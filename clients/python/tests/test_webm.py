@@ -297,7 +297,11 @@ class Damaged(Case):
         for length in (len(data) - 1, len(data) // 2):
             path.write_bytes(data[:length])
             status, _, errors = command("list", path)
-            self.assertEqual((status, errors), (1, f"wokureti: {path} ends in the middle, after {length:,} bytes: the packets that followed are missing. `wokureti repair` searches a damaged file for all its packets\n"))
+            said = f"ends in the middle, after {length:,} bytes: the packets that followed are missing. `wokureti repair` searches a damaged file for all its packets\n"
+            self.assertEqual((status, errors), (1, f"wokureti: {path} {said}"))
+            for words in (("list", "-"), ("check", "-"), ("export", "-", path.parent / "out.ivf", "-y")):
+                status, _, errors = command(*words, given=data[:length])
+                self.assertEqual((status, errors), (1, f"wokureti: standard input {said}"), words)
 
 
 if __name__ == "__main__":

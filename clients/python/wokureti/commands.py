@@ -586,8 +586,8 @@ def run_lister(given, words):
             print(one.json() if "--json" in given.options else f"damage: {one.text()}", flush=True)
         done = subprocess.run([programs.find("vp8list"), path, *words, *given.options], stdin=subprocess.DEVNULL, check=False)
         damage = containers.damage_of(path)
-        if not damage and webm.media_of(path) is not None:
-            damage = webm.damage_of(programs.find("vp8serve"), path, (), given.stream)
+        if isinstance(webm.media_of(path), webm.Around):
+            damage = webm.damage_of(programs.find("vp8serve"), path, (), containers.name_of(path))
             convert.say_damage(damage)
         return max(done.returncode, int(bool(damage)))
 

@@ -176,7 +176,7 @@ class Input:
             return containers.damage_of(self.path)
         with self.damaging:
             if self.found_damage is None:
-                self.found_damage = webm.damage_of(self.tools[0], *self.readable(), os.fsdecode(self.path))
+                self.found_damage = webm.damage_of(self.tools[0], *self.readable(), containers.name_of(self.path))
             return self.found_damage
 
     def left(self):

@@ -29,6 +29,10 @@ LONGEST = 16
 CHAIN, MOST_TRACK = 3, 16
 # Elements between two looks at how far reading is.
 MANY = 1 << 12
+# The longest time in milliseconds from one block to the next cluster, and the greatest one of the first cluster: a time after it was made so by damage.
+MOST_LEAP, MOST_START = 24 * 3600 * 1000, 1 << 48
+# The greatest time in milliseconds, delay in nanoseconds, rate of samples and number of channels that are taken for one: damage may make them greater.
+MOST_TIME, MOST_DELAY, MOST_RATE, MOST_CHANNELS = (1 << 62) // MS, 1 << 61, 1 << 20, 255
 CODECS = {"V_VP8": "vp8", "A_OPUS": "opus", "A_VORBIS": "vorbis", "A_AAC": "aac", "A_MPEG/L3": "mp3"}
 # The header of Opus where that of the file is lost, for one channel and for two.
 OPUS_HEADS = tuple(b"OpusHead\x01" + bytes([count]) + (312).to_bytes(2, "little") + (48000).to_bytes(4, "little") + bytes(3) for count in (1, 2))
@@ -197,7 +201,9 @@ def find(data, watch=containers.NOBODY):
             continue
         number, start, end = found
         if number == TIME:
-            base, is_sure = int.from_bytes(data[start:end], "big"), True
+            value, latest = int.from_bytes(data[start:end], "big"), max((last for last, _ in clocks.values()), default=None)
+            is_sure = value * scale // MS <= (MOST_START if latest is None else latest * scale // MS + MOST_LEAP)
+            base = value if is_sure else base
         elif number == INFO:
             scale = int.from_bytes(dict(children(data, start, end)).get(SCALE, b""), "big") or MS
         elif number == TRACKS:
@@ -210,7 +216,7 @@ def find(data, watch=containers.NOBODY):
             track, last = data[start] & 0x7F, base + time
             clocks[track] = (last, last - clocks.get(track, (last, 0))[0])
             if not data[start + 3] & LACING:
-                blocks.append(Block(track, last * scale // MS, place, bytes(data[start + 4 : end])))
+                blocks.append(Block(track, min(last * scale // MS, MOST_TIME), place, bytes(data[start + 4 : end])))
         place = start if number in INSIDE or end is None else end
     return Found(blocks, gaps, tracks)
 
@@ -234,11 +240,12 @@ def entries(data, start, end):
         facts = dict(children(text, 0, len(text)))
         sound = dict(children(facts.get(0xE1, b""), 0, len(facts.get(0xE1, b""))))
         rate = sound.get(0xB5, b"")
-        hertz = struct.unpack(">d" if len(rate) == 8 else ">f", rate)[0] if len(rate) in (4, 8) else 48000
+        hertz = struct.unpack(">d" if len(rate) == 8 else ">f", rate)[0] if len(rate) in (4, 8) else 0
         names = [bytes(facts.get(key, b"")).decode(errors="replace") for key in (0x86, 0x22B59C, 0x536E)]
         values = [int.from_bytes(source.get(key, other), "big") for source, key, other in ((facts, 0xD7, b""), (sound, 0x9F, b"\x01"), (facts, 0x56AA, b""))]
         private = bytes(facts.get(0x63A2, b""))
-        yield values[0], Entry(CODECS.get(names[0], names[0]), private, int(hertz), values[1], values[2], names[1] or "und", names[2])
+        hertz = int(hertz) if 0 < hertz <= MOST_RATE else 48000
+        yield values[0], Entry(CODECS.get(names[0], names[0]), private, hertz, min(values[1], MOST_CHANNELS), min(values[2], MOST_DELAY), names[1] or "und", names[2])
 
 
 def video_track(found):

@@ -104,6 +104,12 @@ def damage_of(path):
     return damaged.get(os.fspath(path), [])
 
 
+def name_of(path):
+    """What a file is called in messages: the path that was given for it, or standard input."""
+    found = origins.get(path, path)
+    return "standard input" if found == system.STANDARD_INPUT else os.fsdecode(found)
+
+
 def has_av():
     try:
         import av  # noqa: F401

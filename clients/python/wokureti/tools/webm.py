@@ -170,8 +170,8 @@ def parsed(file):
 
 
 def blocks_of(path, data):
-    """The packets of a file with these bytes, as `blocks.Block` has them, as vp8list reads them; None if it reads none. In a damaged file it finds more of them than
-    `blocks.find`, unless the beginning is damaged: then it reads nothing."""
+    """The packets of a file with these bytes, as `blocks.Block` has them, as vp8list reads them; None if it does not, or if their times cannot be right. In a damaged
+    file it finds more of them than `blocks.find`, unless the beginning is damaged: then it reads nothing."""
     if not is_read(path):
         return None
     with open(path, "rb") as file:
@@ -180,7 +180,11 @@ def blocks_of(path, data):
         index = read_index(programs.find("vp8list"), checks.path(path), ())
     except OSError:
         return None
-    return [blocks.Block(0, stamp * head.scale * 1000 // head.rate, start, data[start : start + size]) for start, size, stamp in zip(index.starts, index.sizes, index.stamps)]
+    times = [stamp * head.scale * 1000 // head.rate for stamp in index.stamps]
+    if any(after > before + blocks.MOST_LEAP for before, after in zip(times, times[1:])) or times[:1] > [blocks.MOST_START]:
+        # The time of a cluster is damaged, which the search does without.
+        return None
+    return [blocks.Block(0, time, start, data[start : start + size]) for start, size, time in zip(index.starts, index.sizes, times)]
 
 
 # Damage
