@@ -564,6 +564,16 @@ class Exports(BrowserCase):
         self.wait("document.getElementById('ask').open")
         BROWSER.click("#ask button[value=yes]")
         self.wait("/in 40 packets, 30 of them hidden/.test(document.getElementById('status').textContent)")
+        # The choice is of all parts, also of those that begin soon after a key packet.
+        self.step("script trim 0 30 10; trim 0 5 3; splice 1 2")
+        self.wait("wokureti.model.revision === 3")
+        BROWSER.click("#export")
+        self.wait("document.getElementById('ask').open")
+        hidden, own = hidden + sum(map(len, packets[:5])), own + sum(map(len, packets[5:8]))
+        text = f"hidden: 35 packets, {hidden:,} bytes. Or their first 13 frames, {own:,} bytes now, are coded again"
+        self.assertIn(text, self.text("#ask .note"))
+        self.assertIn("2 parts begin between key frames, one of them 12 s after one.", self.text("#ask .note"))
+        BROWSER.click("#ask button[value=no]")
 
     def test_a_download_says_that_the_script_is_left_out(self):
         self.open(SMALL)

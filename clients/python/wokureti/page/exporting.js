@@ -21,28 +21,30 @@ export function codedText({ coded, frames }) {
   return `${coded.toLocaleString("en")} of ${many(frames, "frame")} ${coded === 1 ? "is" : "are"} coded again; all others stay as they are.`;
 }
 
-/** What each way costs for parts that begin long after a key packet. */
+/** What each way costs for parts that begin between key packets. */
 export function leadText(leads) {
   const sum = (name) => leads.reduce((all, lead) => all + lead[name], 0);
   const frames = leads.reduce((all, { first, end }) => all + end - first, 0);
   const isOne = leads.length === 1;
-  const begin = isOne ? `Frame ${leads[0].first} is ${(leads[0].length / 1e9).toFixed(0)} s after a key frame.` : `${leads.length} parts begin more than ${LONG / 1e9} s after a key frame.`;
-  const exact = `The packets from there on can come before ${isOne ? "it" : "them"}, hidden: ${many(sum("packets"), "packet")}, ${many(sum("bytes"), "byte")}.`;
+  const longest = (Math.max(...leads.map(({ length }) => length)) / 1e9).toFixed(0);
+  const begin = isOne ? `Frame ${leads[0].first} is ${longest} s after a key frame.` : `${leads.length} parts begin between key frames, one of them ${longest} s after one.`;
+  const exact = `The packets from ${isOne ? "there" : "the key frames"} on can come before ${isOne ? "it" : "them"}, hidden: ${many(sum("packets"), "packet")}, ${many(sum("bytes"), "byte")}.`;
   return `${begin} ${exact} Or ${isOne ? "its" : "their"} first ${many(frames, "frame")}, ${many(sum("coded_bytes"), "byte")} now, ${frames === 1 ? "is" : "are"} coded again, and nothing is hidden.`;
 }
 
-function longOf({ leads }) {
-  return leads.filter(({ length }) => length > LONG);
+/** Whether a part begins so long after a key packet that there is a choice. It is of all parts. */
+function hasLong({ leads }) {
+  return leads.some(({ length }) => length > LONG);
 }
 
 /** The fields of the dialog for what an export costs; none if there is nothing to choose. */
 function fieldsOf(costs) {
   const { coded, sounds, encoder } = costs;
-  const long = longOf(costs);
-  if (!encoder || (!coded && !long.length)) return [];
+  const isLong = hasLong(costs);
+  if (!encoder || (!coded && !isLong)) return [];
   const fields = [{ name: "psnr", label: "Decibels that each coded frame has at least", value: USUAL, most: 60 }];
   if (sounds) fields.push({ name: "sound", label: "Sound", value: "fade", choices: [["fades with the picture", "fade"], ["stays as it is", "copy"]] });
-  if (long.length) fields.push({ name: "lead", label: "Packets before a part", value: "exact", choices: [["hidden", "exact"], ["none: coded again", "coded"]] });
+  if (isLong) fields.push({ name: "lead", label: "Packets before a part", value: "exact", choices: [["hidden", "exact"], ["none: coded again", "coded"]] });
   return fields;
 }
 
@@ -52,8 +54,7 @@ async function chosen(signal) {
   if (costs.coded && !costs.encoder) throw new Error(`${codedText(costs)} ${costs.why}`);
   const fields = fieldsOf(costs);
   if (!fields.length) return {};
-  const long = longOf(costs);
-  const how = await ask("Export", "Export", fields, [costs.coded ? codedText(costs) : "", long.length ? leadText(long) : ""].join(" ").trim());
+  const how = await ask("Export", "Export", fields, [costs.coded ? codedText(costs) : "", hasLong(costs) ? leadText(costs.leads) : ""].join(" ").trim());
   // Nothing is coded.
   if (how && !costs.coded && how.lead !== "coded") return {};
   return how && { how };
