@@ -1,5 +1,5 @@
 #!/usr/bin/env python3
-"""Captures of calls with losses, as wokureti reads them, next to GStreamer's depayloader; two captures of one call; and captures that are cut and flipped.
+"""Captures of calls with losses, as wokureti reads them, next to GStreamer's depayloader and to ffmpeg, which is sent them; two captures of one call; and captures that are cut and flipped.
 
     compare/calls.py [--captures N] [--seed S]
 
@@ -10,12 +10,16 @@ sent. It needs Debian's ffmpeg, vpx-tools and gstreamer1.0-plugins-good, and the
 
 import argparse
 import collections
+import hashlib
 import math
 import pathlib
 import random
+import signal
+import socket
 import subprocess
 import sys
 import tempfile
+import time
 from unittest import mock
 
 TOP = pathlib.Path(__file__).resolve().parent.parent
@@ -29,6 +33,10 @@ from wokureti.calls import recordings  # noqa: E402
 from wokureti.tools import ivf  # noqa: E402
 
 PARTS = (0.0, 0.01, 0.02, 0.05, 0.1, 0.2)
+# Those that ffmpeg is sent: as long as a call takes, so not all.
+SENT = (0.0, 0.02)
+# Seconds between two packets that it is sent, and for which it is waited for before and after them.
+STEP, PATIENCE, AFTER = 0.0005, 20, 2
 # What GStreamer makes of its packets for the tests: bytes that a packet of RTP may have.
 SIZE = 500
 # Bytes between two that are flipped: more than a packet has.
@@ -52,6 +60,33 @@ def kept_by_gstreamer(packets, room):
     caps = "application/x-rtp-stream,media=video,clock-rate=90000,encoding-name=VP8,payload=96"
     words = f"filesrc location={given} ! {caps} ! rtpstreamdepay ! rtpvp8depay ! fakesink silent=false"
     return subprocess.run(["gst-launch-1.0", "-v", *words.split()], check=True, timeout=LIMIT, capture_output=True).stdout.count(b"chain")
+
+
+def is_bound(port):
+    """Whether a program waits for datagrams at a port."""
+    lines = pathlib.Path("/proc/net/udp").read_text().splitlines()[1:]
+    return any(int(line.split()[1].split(":")[1], 16) == port for line in lines)
+
+
+def kept_by_ffmpeg(packets, room):
+    """The MD5 of each frame that ffmpeg takes out of these packets when it is sent them."""
+    with socket.socket(socket.AF_INET, socket.SOCK_DGRAM) as out:
+        out.bind(("127.0.0.1", 0))
+        port = out.getsockname()[1] & ~1
+    call = room / "call.sdp"
+    call.write_text(f"v=0\no=- 0 0 IN IP4 127.0.0.1\ns=call\nc=IN IP4 127.0.0.1\nt=0 0\nm=video {port} RTP/AVP 96\na=rtpmap:96 VP8/90000\n")
+    words = ["ffmpeg", "-nostdin", "-v", "quiet", "-protocol_whitelist", "file,udp,rtp", "-i", call, "-c", "copy", "-copyinkf", "-f", "framemd5", "-"]
+    with subprocess.Popen(words, stdout=subprocess.PIPE, text=True) as process, socket.socket(socket.AF_INET, socket.SOCK_DGRAM) as out:
+        limit = time.monotonic() + PATIENCE
+        while not is_bound(port) and time.monotonic() < limit:
+            time.sleep(0.01)
+        for one in packets:
+            out.sendto(one, ("127.0.0.1", port))
+            time.sleep(STEP)
+        time.sleep(AFTER)
+        process.send_signal(signal.SIGINT)
+        text = process.communicate(timeout=LIMIT)[0]
+    return [line.rpartition(",")[2].strip() for line in text.splitlines() if not line.startswith("#")]
 
 
 def capture(packets, path):
@@ -107,6 +142,9 @@ def measure(path, room, seed, counts, wrong):
         found["whole"] += len(whole)
         found["decoded"] += len(numbers)
         found["gstreamer"] += kept_by_gstreamer(left, room)
+        if part in SENT:
+            sums = {hashlib.md5(data).hexdigest() for data in true}
+            found["ffmpeg"] += sum(one in sums for one in kept_by_ffmpeg(left, room))
         found["cut"] += len(cut)
         found["psnr"] += sum(cut)
         found["joined"] += sum(frame.is_whole for frame in joined)
@@ -152,15 +190,17 @@ def main():
         for number, path in enumerate(clips(room)):
             measure(path, room, given.seed + number, counts, wrong)
         whole = damage(given.captures, given.seed, room, wrong)
-    print("lost, frames, whole, decoded, by GStreamer, cut off and shown, their mean luma PSNR, whole with a second capture")
+    print("lost, frames, whole, decoded, by GStreamer, by ffmpeg, cut off and shown, their mean luma PSNR, whole with a second capture")
     for part, found in counts.items():
         mean = f"{found['psnr'] / found['cut']:.1f}" if found["cut"] else "-"
-        print(f"{part:.0%} {found['frames']} {found['whole']} {found['decoded']} {found['gstreamer']} {found['cut']} {mean} {found['joined']}")
+        print(f"{part:.0%} {found['frames']} {found['whole']} {found['decoded']} {found['gstreamer']} {found['ffmpeg'] if part in SENT else '-'} {found['cut']} {mean} {found['joined']}")
+    if counts[0.0]["ffmpeg"] != counts[0.0]["frames"]:
+        wrong.append(f"without losses ffmpeg has {counts[0.0]['ffmpeg']} of {counts[0.0]['frames']} frames: it was sent them too fast")
     for text in wrong[:20]:
         print(text)
     two = counts[0.02]
     mean = two["psnr"] / max(1, two["cut"])
-    text = f"of {two['frames']} frames with 2 % of RTP lost {two['whole']} whole, {two['decoded']} decoded (PSNR of the {two['cut']} cut ones {mean:.1f}), GStreamer {two['gstreamer']}, whole with a second capture {two['joined']}"
+    text = f"of {two['frames']} frames with 2 % of RTP lost {two['whole']} whole, {two['decoded']} decoded (PSNR of the {two['cut']} cut ones {mean:.1f}), GStreamer {two['gstreamer']}, ffmpeg {two['ffmpeg']}, whole with a second capture {two['joined']}"
     results.total(f"{text}; {given.captures} damaged captures, {whole} whole frames; {len(wrong)} wrong", len(wrong))
     return 1 if wrong else 0
 

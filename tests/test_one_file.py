@@ -248,7 +248,7 @@ def long_lead(engine, clip, folder):
     with engine.opened(path) as page:
         page.set_script("trim 0 30 10")
         said = exports(page, 36, "coded")
-        for text in ("Frame 0 is 12 s after a key frame", f"30 hidden packets before them, {hidden:,} bytes", f"coded again: 10 frames, {own:,} bytes now, and no hidden packet"):
+        for text in ("Frame 0 is 12 s after a key frame", f"hidden: 30 packets, {hidden:,} bytes", f"its first 10 frames, {own:,} bytes now, are coded again, and nothing is hidden"):
             if text not in said:
                 yield f"{page.browser.name}: a long lead: {said}"
         page.wait("/in 10 packets, none of them hidden; 10 of 10 frames are coded again/.test(document.getElementById('status').textContent)")

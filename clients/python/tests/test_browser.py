@@ -706,9 +706,9 @@ class Exports(BrowserCase):
         BROWSER.click("#export")
         self.wait("document.getElementById('ask').open")
         hidden, own = sum(map(len, packets[:30])), sum(map(len, packets[30:40]))
-        options = self.js("return [...document.querySelectorAll('#ask option')].map((one) => one.textContent)")
-        self.assertEqual(options, [f"as they are: 30 hidden packets before them, {hidden:,} bytes", f"coded again: 10 frames, {own:,} bytes now, and no hidden packet"])
-        self.assertIn("Frame 0 is 12 s after a key frame: the frames from there on", self.text("#ask .fields"))
+        self.assertEqual(self.js("return [...document.querySelectorAll('#ask option')].map((one) => one.textContent)"), ["hidden", "none: coded again"])
+        text = f"Frame 0 is 12 s after a key frame. The packets from there on can come before it, hidden: 30 packets, {hidden:,} bytes. Or its first 10 frames, {own:,} bytes now, are coded again, and nothing is hidden."
+        self.assertEqual(self.text("#ask .note"), text)
         self.js("document.querySelector('#ask select').value = 'coded'; document.querySelector('#ask input').value = 36")
         BROWSER.click("#ask button[value=yes]")
         self.wait("/in 10 packets, none of them hidden; 10 of 10 frames are coded again, in [\\d,]+ bytes/.test(document.getElementById('status').textContent)")
@@ -716,6 +716,16 @@ class Exports(BrowserCase):
         self.wait("document.getElementById('ask').open")
         BROWSER.click("#ask button[value=yes]")
         self.wait("/in 40 packets, 30 of them hidden/.test(document.getElementById('status').textContent)")
+        # The choice is of all parts, also of those that begin soon after a key packet.
+        self.step("script trim 0 30 10; trim 0 5 3; splice 1 2")
+        self.wait("wokureti.model.revision === 3")
+        BROWSER.click("#export")
+        self.wait("document.getElementById('ask').open")
+        hidden, own = hidden + sum(map(len, packets[:5])), own + sum(map(len, packets[5:8]))
+        text = f"hidden: 35 packets, {hidden:,} bytes. Or their first 13 frames, {own:,} bytes now, are coded again"
+        self.assertIn(text, self.text("#ask .note"))
+        self.assertIn("2 parts begin between key frames, one of them 12 s after one.", self.text("#ask .note"))
+        BROWSER.click("#ask button[value=no]")
 
     def offered(self, act):
         """The name and the bytes of the file that an act offers."""

@@ -18,7 +18,7 @@ from support import CLIP, SLOW, Case, command, frames_of, packets_of, start
 from test_page import PageCase
 from wokureti import Session
 from wokureti.session.origins import Run
-from wokureti.tools import coding, containers, exports, fades, ivf, opus, programs, progress
+from wokureti.tools import coding, containers, convert, exports, fades, ivf, opus, programs, progress
 from wokureti.tools.coding import Piece
 
 FRAMES = len([data for data in packets_of(CLIP) if ivf.is_shown(data)])
@@ -236,7 +236,8 @@ class Levels(Case):
         weights = fades.Weights("trim 0 0 4; fade 1 0 3 256 0; parts 2 0 4 0 10 3", [FRAMES])
         levels = fades.levels_of([Run(1, 0, 0, ()), Run(3, 0, 1, (2,)), Run(3, 0, 10, ())], weights)
         wanted = [(1, 2 / 3), (2 / 3, 1 / 3), (1 / 3, 0), (0, 0), (1, 1), (1, 1), (1, 1)]
-        for found, pair in zip(levels, wanted, strict=True):
+        self.assertEqual(len(levels), len(wanted))
+        for found, pair in zip(levels, wanted):
             self.assertAlmostEqual(found[0], pair[0])
             self.assertAlmostEqual(found[1], pair[1])
 
@@ -290,7 +291,8 @@ class Sound(Case):
         (times, ours), (plain_times, theirs) = self.packets(one), self.packets(other)
         self.assertEqual(times, plain_times)
         self.assertEqual({after - before for before, after in zip(times, times[1:])}, {20_000_000})
-        changed = [number for number, pair in enumerate(zip(ours, theirs, strict=True)) if pair[0] != pair[1]]
+        self.assertEqual(len(ours), len(theirs))
+        changed = [number for number, pair in enumerate(zip(ours, theirs)) if pair[0] != pair[1]]
         # The fade in is over at 0.36 s, and the fade out begins at 0.96 s.
         for number in changed:
             self.assertTrue(times[number] < 360_000_000 or times[number] + 20_000_000 > 960_000_000, times[number])
@@ -369,6 +371,21 @@ class Pages(PageCase):
         for query in ("psnr=70", "psnr=x", "lead=other", "sound=loud", "more=1"):
             self.assertEqual(self.ask(f"/exported?code=1&{query}")[0], 400, query)
         self.assertEqual(self.ask("/exported")[0], 409)
+
+    def test_sound_fades_with_the_picture(self):
+        room = self.folder()
+        clip, out = room / "clip.webm", room / "out.webm"
+        words = ["ffmpeg", "-nostdin", "-v", "error", "-i", CLIP, "-f", "lavfi", "-i", "sine=440:d=2:r=48000", "-c:v", "copy", "-c:a", "libopus", "-shortest", clip]
+        subprocess.run(words, check=True, timeout=20 * SLOW)
+        script = f"fade 0 {FRAMES - 6} 5 256 0"
+        self.serve(convert.as_ivf(clip, str(room), is_quiet=True))
+        self.step(f"script {script}")
+        self.assertTrue(self.members("/costs")["sounds"])
+        status, headers, body = self.ask("/exported?code=1&psnr=36&sound=fade")
+        self.assertEqual((status, headers["Content-Type"]), (200, "video/webm"))
+        self.assertEqual(command("export", clip, out, "--code-changed", "--psnr", "36", "--fade-sound", "--script", script)[0], 0)
+        self.assertTrue(body == out.read_bytes())
+        self.assertNotEqual(self.ask("/exported?code=1&psnr=36")[2], body)
 
     def test_no_encoder(self):
         self.script("fade 0 0 5 0 256")

@@ -21,26 +21,30 @@ export function codedText({ coded, frames }) {
   return `${coded.toLocaleString("en")} of ${many(frames, "frame")} ${coded === 1 ? "is" : "are"} coded again; all others stay as they are.`;
 }
 
-/** What each way costs for parts that begin long after a key packet. */
-export function leadChoices(leads) {
+/** What each way costs for parts that begin between key packets. */
+export function leadText(leads) {
   const sum = (name) => leads.reduce((all, lead) => all + lead[name], 0);
   const frames = leads.reduce((all, { first, end }) => all + end - first, 0);
-  return [
-    [`as they are: ${many(sum("packets"), "hidden packet")} before them, ${many(sum("bytes"), "byte")}`, "exact"],
-    [`coded again: ${many(frames, "frame")}, ${many(sum("coded_bytes"), "byte")} now, and no hidden packet`, "coded"],
-  ];
+  const isOne = leads.length === 1;
+  const longest = (Math.max(...leads.map(({ length }) => length)) / 1e9).toFixed(0);
+  const begin = isOne ? `Frame ${leads[0].first} is ${longest} s after a key frame.` : `${leads.length} parts begin between key frames, one of them ${longest} s after one.`;
+  const exact = `The packets from ${isOne ? "there" : "the key frames"} on can come before ${isOne ? "it" : "them"}, hidden: ${many(sum("packets"), "packet")}, ${many(sum("bytes"), "byte")}.`;
+  return `${begin} ${exact} Or ${isOne ? "its" : "their"} first ${many(frames, "frame")}, ${many(sum("coded_bytes"), "byte")} now, ${frames === 1 ? "is" : "are"} coded again, and nothing is hidden.`;
+}
+
+/** Whether a part begins so long after a key packet that there is a choice. It is of all parts. */
+function hasLong({ leads }) {
+  return leads.some(({ length }) => length > LONG);
 }
 
 /** The fields of the dialog for what an export costs; none if there is nothing to choose. */
-function fieldsOf({ coded, leads, sounds, encoder }) {
-  const long = leads.filter(({ length }) => length > LONG);
-  if (!encoder || (!coded && !long.length)) return [];
+function fieldsOf(costs) {
+  const { coded, sounds, encoder } = costs;
+  const isLong = hasLong(costs);
+  if (!encoder || (!coded && !isLong)) return [];
   const fields = [{ name: "psnr", label: "Decibels that each coded frame has at least", value: USUAL, most: 60 }];
   if (sounds) fields.push({ name: "sound", label: "Sound", value: "fade", choices: [["fades with the picture", "fade"], ["stays as it is", "copy"]] });
-  if (long.length) {
-    const label = long.length === 1 ? `Frame ${long[0].first} is ${(long[0].length / 1e9).toFixed(0)} s after a key frame: the frames from there on` : `${long.length} parts begin long after a key frame: their frames`;
-    fields.push({ name: "lead", label, value: "exact", choices: leadChoices(long) });
-  }
+  if (isLong) fields.push({ name: "lead", label: "Packets before a part", value: "exact", choices: [["hidden", "exact"], ["none: coded again", "coded"]] });
   return fields;
 }
 
@@ -50,7 +54,7 @@ async function chosen(signal) {
   if (costs.coded && !costs.encoder) throw new Error(`${codedText(costs)} ${costs.why}`);
   const fields = fieldsOf(costs);
   if (!fields.length) return {};
-  const how = await ask("Export", "Export", fields, costs.coded ? codedText(costs) : "");
+  const how = await ask("Export", "Export", fields, [costs.coded ? codedText(costs) : "", hasLong(costs) ? leadText(costs.leads) : ""].join(" ").trim());
   // Nothing is coded.
   if (how && !costs.coded && how.lead !== "coded") return {};
   return how && { how };

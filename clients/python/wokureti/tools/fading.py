@@ -10,8 +10,8 @@ from . import fades, opus, opus_coding
 NANO = 10**9
 # Packets before a fade that are decoded, so that the decoder has converged; nanoseconds of them that the encoder is given too; packets after it by which the end is measured.
 LEAD, MOST_LEAD, AFTER = 60, 200 * opus.MS, 5
-# How loud a step between two samples is that nobody hears.
-QUIET = 100
+# How loud a step between two samples is that nobody hears, and the seconds of both ends of a fade that are measured.
+QUIET, ENDS = 100, 1
 
 
 class Way(NamedTuple):
@@ -91,10 +91,16 @@ class Group(NamedTuple):
         return samples
 
     def score(self, heard, wanted):
-        """How bad samples are: how much greater their greatest step is, roughly, for that is a click; and how far they are from what they are to be."""
-        click, step = (max(map(abs, map(operator.sub, samples[self.channels :], samples)), default=0) for samples in (heard, wanted))
-        far = map(operator.sub, heard, wanted)
-        return max(0, round(4 * (click / max(QUIET, step) - 1))), sum(one * one for one in far)
+        """How bad the ends of samples are: how much greater their greatest step is, roughly, for that is a click; and how far they are from what they are to be."""
+        edge, count = ENDS * opus_coding.RATE * self.channels, len(wanted)
+        parts = [slice(0, count)] if count <= 2 * edge else [slice(0, edge), slice(count - edge, count)]
+        click, step = (max(self.steepest(samples[part]) for part in parts) for samples in (heard, wanted))
+        far = sum(sum((one - other) ** 2 for one, other in zip(heard[part], wanted[part])) for part in parts)
+        return max(0, round(4 * (click / max(QUIET, step) - 1))), far
+
+    def steepest(self, samples):
+        """The greatest step between two samples of a channel."""
+        return max(map(abs, map(operator.sub, samples[self.channels :], samples)), default=0)
 
     def decoded(self, packets, decoder):
         return opus_coding.decode([data for _, data in packets], self.channels, os.path.join(self.room, "faded"), decoder)
