@@ -325,7 +325,7 @@ def look(page):
     browser.type("#frame", "42")
     browser.key("Enter")
     page.at(42)
-    box = browser.run("const box = document.getElementById('timeline').getBoundingClientRect(); return [box.left, box.top, box.width, box.height]")
+    box = browser.run("const box = document.getElementById('bars').getBoundingClientRect(); return [box.left, box.top, box.width, box.height]")
     before = browser.run("return wokureti.timeline.window.scale")
     for _ in range(4):
         browser.wheel(box[0] + box[2] / 4, box[1] + 40, -200)
@@ -359,7 +359,7 @@ def move_about(page):
     """A selection that ends near a key packet ends there, the picture is enlarged and dragged, fills the screen, and J, K and L play."""
     browser = page.browser
     browser.run("wokureti.timeline.zoomAll(); document.getElementById('timeline').focus()")
-    box = browser.run("const box = document.getElementById('timeline').getBoundingClientRect(); return [box.left, box.top]")
+    box = browser.run("const box = document.getElementById('bars').getBoundingClientRect(); return [box.left, box.top]")
     at = lambda packet: (box[0] + browser.run("return wokureti.timeline.window.pixelOf(arguments[0])".replace("arguments", "args"), packet), box[1] + 60)  # noqa: E731
     browser.drag([at(120.5), at(140.5), at(150.9)])
     expect(browser.run("return wokureti.model.selection") == {"first": 120, "end": 150}, "a selection does not end at the key packet next to it")
@@ -1490,7 +1490,7 @@ def million(browser, room):
     opened = time.monotonic() - since
     browser.wait("wokureti.timeline.window.count === 1048576 && wokureti.timeline.wholeTile()", seconds=60)
     whole = time.monotonic() - since
-    box = browser.run("const box = document.getElementById('timeline').getBoundingClientRect(); return [box.left, box.top, box.width]")
+    box = browser.run("const box = document.getElementById('bars').getBoundingClientRect(); return [box.left, box.top, box.width]")
     steps = """
         const box = document.getElementById("timeline");
         const { left, top, width } = box.getBoundingClientRect();
