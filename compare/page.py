@@ -206,10 +206,11 @@ def colours(browser, room):
 # What the functions of the modules return, for arguments whose results are known.
 FUNCTIONS = """
     const modules = {};
-    for (const name of ["steps", "player", "script", "window", "fragment", "colours", "timeline", "tiles", "findings", "keys", "engine", "loupe", "shots", "strip", "curves", "cutting", "times", "sound"]) {
+    for (const name of ["steps", "player", "script", "window", "fragment", "colours", "timeline", "tiles", "findings", "keys", "engine", "loupe", "shots", "programme", "curves", "cutting", "times", "sound"]) {
       modules[name] = await import(new URL(`${name}.js`, document.baseURI));
     }
-    const { steps, player, script, window: part, fragment, colours, timeline, tiles, findings, keys, engine, loupe, shots, strip, curves, cutting, times, sound } = modules;
+    const { steps, player, script, window: part, fragment, colours, timeline, tiles, findings, keys, engine, loupe, shots, programme, curves, cutting, times, sound } = modules;
+    const { ranges } = cutting;
     const anew = (script, frames = [100, 40]) => {
       const { shots: found, isAll } = shots.shotsOf(script, frames);
       return [shots.nodesFor(found, frames).join("; "), isAll];
@@ -257,12 +258,12 @@ FUNCTIONS = """
       engine.sizeOf(175, 143), loupe.textAt(frame, other, 1, 1),
       anew("-"), anew("trim 0 10 20; trim 1 5 100"), anew("source 1; splice 0 1; trim 2 90 20; trim 2 110 20; splice 3 4"), anew("trim 0 0 50; fade 1 40 10 256 0; trim 0 50 50; fade 3 0 5 0 256; splice 2 4"),
       anew("crop 0 0 0 2 2; trim 1 0 5"), anew("fade 0 10 10 256 0"), anew("fade 0 0 10 0 256; trim 1 5 20"), anew("trim 0 0 0"), anew("trim 0 0 5; splice 1 1"), anew("source 1; splice 0 1; trim 2 0 0; splice 2 0"), anew("parts 0 5 10 0 0 0 0 40 90; parts 1 2 10 1 20 5"),
-      after((found) => shots.kept(found, { first: 5, end: 9 })), after((found) => shots.without(found, { first: 5, end: 9 })), after((found) => shots.moved(found, { first: 5, end: 9 }, 20)), after((found) => shots.moved(found, { first: 20, end: 22 }, 3)),
-      after((found) => shots.moved(found, { first: 5, end: 9 }, 100)), after((found) => shots.without(found, { first: 5, end: 9 }), "fade 0 0 10 0 256"), after((found) => shots.without(found, { first: 10, end: 12 }), "fade 0 0 10 0 256"),
+      after((found) => shots.picked(found, ranges.kept({ first: 5, end: 9 }))), after((found) => shots.picked(found, ranges.without({ first: 5, end: 9 }, 100))), after((found) => shots.picked(found, ranges.moved({ first: 5, end: 9 }, 100, 20))), after((found) => shots.picked(found, ranges.moved({ first: 20, end: 22 }, 100, 3))),
+      after((found) => shots.picked(found, ranges.moved({ first: 5, end: 9 }, 100, 100))), after((found) => shots.picked(found, ranges.without({ first: 5, end: 9 }, 100)), "fade 0 0 10 0 256"), after((found) => shots.picked(found, ranges.without({ first: 10, end: 12 }, 100)), "fade 0 0 10 0 256"),
       after((found) => shots.fading(found, { first: 90, end: 100 }, false)), after((found) => shots.fading(found, { first: 0, end: 100 }, true)),
-      cutting.moved("-", 100, { first: 5, end: 9 }, 20).join("; "), cutting.moved("crop 0 0 0 2 2", 10, { first: 0, end: 2 }, 10).join("; "),
-      strip.blocksOf([{ count: 30 }, { count: 10 }], 80).map(({ left, right }) => [left, right]), strip.handleAt([block], 121, 5), strip.handleAt([block], 199, 5), strip.handleAt([block], 150, 5), strip.handleAt([block], 121, 30),
-      [strip.fadeAt(block, "fadeIn", 130), strip.fadeAt(block, "fadeIn", 0), strip.fadeAt(block, "fadeOut", 150), strip.fadeAt(block, "fadeOut", 0)],
+      shots.partsOver("-", ranges.moved({ first: 5, end: 9 }, 100, 20), [100]).join("; "), shots.partsOver("crop 0 0 0 2 2", ranges.moved({ first: 0, end: 2 }, 10, 10), [10]).join("; "), shots.partsOver("fade 0 3 4 256 128; parts 1 0 20 1 30 90", [[5, 25]], [100]).join("; "), shots.partsOver("fade 0 3 4 256 128; trim 1 10 200", [[80, 90], [0, 1]], [100]).join("; "),
+      programme.blocksOf([{ count: 30 }, { count: 10 }], { pixelOf: (frame) => 2 * frame }).map(({ left, right }) => [left, right]), programme.handleAt([block], 121), programme.handleAt([block], 199), programme.handleAt([block], 150),
+      [programme.fadeAt(block, "fadeIn", 130), programme.fadeAt(block, "fadeIn", 0), programme.fadeAt(block, "fadeOut", 150), programme.fadeAt(block, "fadeOut", 0)],
       curves.spread(0, 10, 3), curves.spread(5, 8, 300), curves.psnrOf(frame, frame), curves.psnrOf(frame, { ...other, width: 1 }),
       ["5", "-5", "+2", "−1", "1:02.5", "12.7", "0:03,3", "", " ", "x", "1:2:3:4", "-9", "1e3"].map((text) => times.frameOf(text, 7, 25)), times.frameOf("0.5", 0, 25, [0, 100, 400, 600]), times.timeText(90062.5 * 2, 2),
       [sound.secondOf(50, 25), sound.secondOf(1, 25, [0, 120])], ["crop 0 3 0 4 4", "crop 0 2 1 4 4", "crop 0 2 0 5 7", "trim 0 3 3"].map(script.isOddCrop),
@@ -291,8 +292,8 @@ RESULTS = [
     "trim 0 5 4", "parts 0 0 5 0 9 91", "parts 0 0 5 0 9 11 0 5 4 0 20 80", "parts 0 0 3 0 20 2 0 3 17 0 22 78",
     "parts 0 0 5 0 9 91 0 5 4", None, "trim 0 0 10; fade 1 0 10 0 256; parts 2 0 10 0 12 88",
     "fade 0 90 10 256 0", "fade 0 0 100 0 256",
-    "parts 0 0 5 0 9 11 0 5 4 0 20 80", "crop 0 0 0 2 2; parts 1 2 8 1 0 2",
-    [[0, 60], [60, 80]], {"block": 0, "name": "fadeIn"}, {"block": 0, "name": "fadeOut"}, None, None,
+    "parts 0 0 5 0 9 11 0 5 4 0 20 80", "crop 0 0 0 2 2; parts 1 2 8 1 0 2", "fade 0 3 4 256 128; parts 1 5 15 1 30 5", "fade 0 3 4 256 128; parts 1 90 10 1 10 1",
+    [[0, 60], [60, 80]], {"block": 0, "name": "fadeIn"}, {"block": 0, "name": "fadeOut"}, None,
     [15, 0, 25, 40],
     [0, 3, 6, 9], [5, 6, 7], 60, None,
     [5, 2, 9, 6, 1562, 317, 82, None, None, None, None, 0, None], 2, "25:01:02.500",
@@ -324,7 +325,7 @@ def look(page):
     browser.type("#frame", "42")
     browser.key("Enter")
     page.at(42)
-    box = browser.run("const box = document.getElementById('timeline').getBoundingClientRect(); return [box.left, box.top, box.width, box.height]")
+    box = browser.run("const box = document.getElementById('bars').getBoundingClientRect(); return [box.left, box.top, box.width, box.height]")
     before = browser.run("return wokureti.timeline.window.scale")
     for _ in range(4):
         browser.wheel(box[0] + box[2] / 4, box[1] + 40, -200)
@@ -348,10 +349,8 @@ def look(page):
     browser.key("i")
     browser.run("await wokureti.model.go(35)")
     browser.key("o")
-    # What is between the marks is asked for.
-    browser.run("await wokureti.cutting.marking")
-    found = browser.run("return wokureti.model.selection")
-    expect(found == {"first": 30, "end": 36}, f"I and O select {found}")
+    found = browser.run("return wokureti.model.range")
+    expect(found == {"first": 30, "end": 36, "mark": None}, f"I and O select {found}")
     browser.key("Escape")
     say("looking: keys, the number of a frame, wheel, click, drag, I and O")
 
@@ -360,7 +359,7 @@ def move_about(page):
     """A selection that ends near a key packet ends there, the picture is enlarged and dragged, fills the screen, and J, K and L play."""
     browser = page.browser
     browser.run("wokureti.timeline.zoomAll(); document.getElementById('timeline').focus()")
-    box = browser.run("const box = document.getElementById('timeline').getBoundingClientRect(); return [box.left, box.top]")
+    box = browser.run("const box = document.getElementById('bars').getBoundingClientRect(); return [box.left, box.top]")
     at = lambda packet: (box[0] + browser.run("return wokureti.timeline.window.pixelOf(arguments[0])".replace("arguments", "args"), packet), box[1] + 60)  # noqa: E731
     browser.drag([at(120.5), at(140.5), at(150.9)])
     expect(browser.run("return wokureti.model.selection") == {"first": 120, "end": 150}, "a selection does not end at the key packet next to it")
@@ -794,7 +793,7 @@ def save_and_reload(page, path, clip):
     browser.run("document.getElementById('timeline').focus()")
     leaves = "const event = new Event('beforeunload', { cancelable: true }); window.dispatchEvent(event); return event.defaultPrevented"
     expect(browser.run(leaves) is True, "closing does not ask although edits are not saved")
-    browser.key("Control", "s")
+    browser.key("Control", "Shift", "s")
     browser.wait("wokureti.model.session.saved")
     expect(browser.run(leaves) is False, "closing asks although all is saved")
     expect(path.read_bytes() == clip.read_bytes(), "the saved stream is not the whole clip")
@@ -867,7 +866,7 @@ def keep_and_export(page, room, samples, shot):
     browser.key("Escape")
     select_frames(browser, ("0:03.32", 83), ("131", 131))
     browser.key("e")
-    browser.wait("wokureti.model.frames === 49 && wokureti.model.session.script === 'trim 0 83 49' && wokureti.model.selection === null")
+    browser.wait("wokureti.model.frames === 49 && wokureti.model.session.script === 'trim 0 83 49' && wokureti.model.range === null")
     browser.run("window.clicked = null; document.addEventListener('click', ({ target }) => (clicked = target.download || clicked), true)")
     tab_to(browser, "#export")
     shot("kept")
@@ -935,7 +934,7 @@ def by_keyboard(browser, room, clip, broken, place, size, looks):
         samples = [frame.i420() for frame in session.frames(range(83, 132))]
     select_frames(browser, ("0.8", 20), ("29", 29))
     browser.key("x")
-    browser.wait("wokureti.model.frames === 240 && wokureti.model.selection === null")
+    browser.wait("wokureti.model.frames === 240 && wokureti.model.range === null")
     go_to(browser, "20", 20)
     page.at(20)
     page.shows(pictures[30], "frame 30 does not follow frame 19 after a cut")
@@ -945,17 +944,14 @@ def by_keyboard(browser, room, clip, broken, place, size, looks):
     join_by_keys(page, pictures[0], shot)
     select_frames(browser, ("20", 20), ("29", 29))
     browser.key("x")
-    browser.wait("wokureti.model.frames === 240 && wokureti.model.selection === null")
+    browser.wait("wokureti.model.frames === 240 && wokureti.model.range === null")
     # The shot of the second key packet is moved to the beginning.
     browser.key("Home")
     browser.key("Down")
     browser.wait("wokureti.model.packet === 50")
-    browser.key("i")
-    browser.key("Down")
-    browser.wait("wokureti.model.packet === 100")
-    browser.key("Left")
-    browser.wait("wokureti.model.packet === 99")
-    browser.key("o")
+    tab_to(browser, "#timeline")
+    for _ in range(49):
+        browser.key("Shift", "Right")
     browser.wait("wokureti.model.selection && wokureti.model.selection.first === 50 && wokureti.model.selection.end === 100")
     browser.key("Control", "x")
     browser.wait("!document.getElementById('paste').disabled")
@@ -977,15 +973,12 @@ def by_keyboard(browser, room, clip, broken, place, size, looks):
     shot("fade")
     tab_to(browser, "#ask button[value=yes]")
     browser.key("Enter")
-    browser.wait("wokureti.model.session.script.includes('fade') && wokureti.model.selection === null")
+    browser.wait("wokureti.model.session.script.includes('fade') && wokureti.model.range === null")
     go_to(browser, "0", 0)
     page.at(0)
     page.shows(bytes(len(pictures[0])), "the first frame of the fade is not black")
     edits = page.members("session")
-    browser.key("Control", "s")
-    browser.wait("document.getElementById('ask').open")
-    tab_to(browser, "#ask button[value=yes]")
-    browser.key("Enter")
+    browser.key("Control", "Shift", "s")
     browser.wait("document.getElementById('saved').textContent.includes('without the script')")
     browser.wait("document.getElementById('status').textContent.endsWith('-edited.ivf; times were numbered anew')")
     shot("saved")
@@ -1155,12 +1148,10 @@ def asides(browser, room, clip, other):
 def along(page, clip):
     """Small pictures and a curve along the timeline."""
     browser = page.browser
-    keys = sum(ivf.is_key(data) for _, data in ivf.read_packets(clip)[1])
-    browser.wait("Number(document.getElementById('thumbs').dataset.pictures) > 10", seconds=60)
-    stored = "[...wokureti.thumbs.found.values()].filter((picture) => picture).length"
-    browser.wait(f"{stored} >= {keys}", seconds=60)
-    found = browser.run(f"return {stored}")
-    expect(found == keys, f"{found} small pictures of {keys} key packets")
+    count = "Number(document.getElementById('programme-canvas').dataset.pictures)"
+    browser.wait(f"{count} > 10 && wokureti.thumbs.wanted.length === {count}", seconds=60)
+    shown = browser.run("return wokureti.thumbs.wanted.map(({ number }, place) => [number, ...[place, place + 1].map((at) => wokureti.programme.window.packetAt(76 * at))])")
+    expect(all(first <= number <= end for number, first, end in shown), f"small pictures are not of the frames of their places: {shown}")
     browser.run("const select = document.getElementById('curve'); select.value = 'quantizer'; select.dispatchEvent(new Event('change'))")
     browser.wait("wokureti.timeline.curve")
     found = browser.run("return wokureti.timeline.curve.lines.flat().map(([packet, part]) => [Math.floor(packet), Math.round(part * 127)])")
@@ -1169,20 +1160,20 @@ def along(page, clip):
     browser.run("const select = document.getElementById('curve'); select.value = 'none'; select.dispatchEvent(new Event('change'))")
     browser.wait("!wokureti.timeline.curve")
     browser.click("#thumbs-switch")
-    browser.wait("document.getElementById('thumbs').hidden")
+    browser.wait(f"{count} === 0")
     browser.click("#thumbs-switch")
+    browser.wait(f"{count} > 10")
     page.quiet("pictures and curves")
-    say(f"along the timeline: small pictures of {keys} key packets, and the quantizer of {len(found)} packets")
+    say(f"along the timeline: {len(shown)} small pictures, each of a frame of its place, and the quantizer of {len(found)} packets")
 
 
 def shots_and_fades(browser, room, clip, other):
-    """Shots are moved and cut by the script, fades are dragged on the strip of shots, and the PSNR of frames is a curve."""
+    """Shots are moved and cut by the script, fades are dragged on the programme, and the PSNR of frames is a curve."""
     link = room / "shots.ivf"
     link.symlink_to(clip)
     page = Page(browser, link, "--source", other)
     page.open()
-    expect(browser.run("return document.getElementById('strip').hidden"), "there is a strip without a script")
-    browser.run("document.getElementById('timeline').focus(); wokureti.model.select(60, 80); await wokureti.model.go(20)")
+    browser.run("document.getElementById('programme').focus(); wokureti.model.selectFrames(60, 80); await wokureti.model.go(20)")
     browser.key("v")
     browser.wait("wokureti.model.session.script !== '-'")
     wanted = "parts 0 0 20 0 60 20 0 20 40 0 80 170"
@@ -1192,7 +1183,7 @@ def shots_and_fades(browser, room, clip, other):
     for keys, frame in ((("Shift", "PageDown"), 40), (("Shift", "PageDown"), 80), (("Shift", "PageUp"), 40), (("Shift", "PageUp"), 20)):
         browser.key(*keys)
         browser.wait(f"wokureti.model.frame === {frame}")
-    browser.run("wokureti.model.select(100, 250)")
+    browser.run("wokureti.model.selectFrames(100, 250)")
     browser.key("x")
     browser.wait("wokureti.model.frames === 100")
     wanted = "parts 0 0 20 0 60 20 0 20 40 0 80 20"
@@ -1201,8 +1192,9 @@ def shots_and_fades(browser, room, clip, other):
     if exports:
         export_shots(browser, room, clip, wanted)
     # Four shots: 20, 20, 40 and 20 frames. The handle at the end of the third one is dragged to the left, that at the beginning of the first to the right.
-    browser.wait("document.getElementById('strip').dataset.shots === '4'")
-    box = browser.run("const box = document.getElementById('strip').getBoundingClientRect(); return [box.left, box.top, box.width]")
+    browser.wait("document.getElementById('programme-canvas').dataset.shots === '4'")
+    # The handles are in the band at the bottom.
+    box = browser.run("const box = document.getElementById('programme-canvas').getBoundingClientRect(); return [box.left, box.bottom - 19, box.width]")
     browser.drag([(box[0] + 0.8 * box[2] - 4, box[1] + 6), (box[0] + 0.75 * box[2], box[1] + 6), (box[0] + 0.7 * box[2], box[1] + 6)])
     browser.wait("wokureti.model.session.script.includes('fade')")
     browser.drag([(box[0] + 4, box[1] + 6), (box[0] + 0.02 * box[2], box[1] + 6), (box[0] + 0.05 * box[2], box[1] + 6)])
@@ -1210,7 +1202,7 @@ def shots_and_fades(browser, room, clip, other):
     script = page.members("session")["script"]
     wanted = "trim 0 0 20; fade 1 0 5 0 256; trim 0 20 40; fade 3 30 10 256 0; parts 2 0 20 0 60 20 4 0 40 0 80 20"
     expect(script == wanted, f"the script with fades is {script}")
-    expect(not exports or browser.run("return document.getElementById('export').classList.contains('off')"), "a fade can be exported")
+    expect(not exports or "changes the picture" in browser.run("return document.getElementById('export').title"), "a fade can be exported")
     with Session(clip) as session:
         session.script(*script.split("; "))
         for frame in (0, 3, 39, 75, 79, 80):
@@ -1220,13 +1212,13 @@ def shots_and_fades(browser, room, clip, other):
     # A fade that is dragged back is none, and a click goes to a frame.
     browser.drag([(box[0] + 0.7 * box[2], box[1] + 6), (box[0] + 0.8 * box[2], box[1] + 6), (box[0] + 0.85 * box[2], box[1] + 6)])
     browser.wait("wokureti.model.session.script.split('fade').length === 2")
-    browser.drag([(box[0] + 0.305 * box[2], box[1] + 24)])
+    browser.drag([(box[0] + 0.305 * box[2], box[1] - 20)])
     browser.wait("wokureti.model.frame === 30 && wokureti.model.packet === 70")
     browser.key("Control", "z")
     browser.wait(f"wokureti.model.session.script === '{script}'")
     # A picture is changed, so those after it are others up to the next key packet.
     browser.run("await wokureti.editing.make(['script -', 'hold 120', 'delete 121'], '')")
-    browser.wait("wokureti.model.session.script === '-' && document.getElementById('strip').hidden")
+    browser.wait("wokureti.model.session.script === '-'")
     browser.run("const select = document.getElementById('curve'); select.value = 'psnr'; select.dispatchEvent(new Event('change'))")
     browser.wait("document.getElementById('status').textContent.startsWith('PSNR of 250')", seconds=60)
     found = dict(browser.run("return [...wokureti.timeline.curve.values]"))
@@ -1239,7 +1231,7 @@ def shots_and_fades(browser, room, clip, other):
     expect(wanted[119] == wanted[150] == 60 and wanted[121] < 60, f"the PSNR is {wanted}")
     page.quiet("shots, fades and PSNR")
     page.end()
-    say("shots: moved and cut out by keys, fades dragged on the strip, frames as vp8serve serves them; the PSNR of 250 frames as a curve")
+    say("shots: moved and cut out by keys, fades dragged on the programme, frames as vp8serve serves them; the PSNR of 250 frames as a curve")
 
 
 # The bytes of the export.
@@ -1279,7 +1271,9 @@ MISSING = """
     }
     scrollTo(0, 0);
     return found;"""
-NEEDED = ["header button:not([hidden])", "header a:not([hidden])", "[role=tab]", "#viewer .tools button:not([hidden])", "#overlay", "#png", "#frame", "#lower .tools button:not([hidden], #thumbs-switch)", "#curve", "#source", "#timeline"]
+NEEDED = ["header > button:not([hidden])", "header .group button", "[role=tab]", "#viewer .tools button:not([hidden])", "#overlay", "#png", "#frame", "#lower > .tools button:not([hidden])", "#programme"]
+# What is there if the lane of packets is shown.
+OF_PACKETS = ["#packets-lane .tools button:not([hidden])", "#curve", "#source", "#timeline"]
 
 
 def small_windows(browser, room, clip, looks):
@@ -1292,9 +1286,9 @@ def small_windows(browser, room, clip, looks):
         page.open()
         page.at(0)
         browser.run("await wokureti.editing.make(['script trim 0 5 100'], '')")
-        browser.wait("!document.getElementById('strip').hidden && !document.getElementById('export').hidden")
+        browser.wait("wokureti.model.session.script !== '-'")
         # What is seen at once.
-        seen = browser.run("""return ["#save", "#undo", "#now-canvas", "#play", "#timeline"].filter((css) => {
+        seen = browser.run("""return ["#export", "#undo", "#now-canvas", "#play", "#programme"].filter((css) => {
             const box = document.querySelector(css).getBoundingClientRect();
             return !(box.left >= -1 && box.right <= innerWidth + 1 && box.top >= -1 && box.top + Math.min(box.height, 60) <= innerHeight + 1 && box.width >= 20 && box.height >= 20);
         });""")
@@ -1303,6 +1297,14 @@ def small_windows(browser, room, clip, looks):
         expect(covered <= 1, f"{width}x{height}: the timeline covers {covered} pixels of the picture")
         missing = browser.run(MISSING, NEEDED)
         expect(not missing, f"{width}x{height}: cannot be reached: {missing}")
+        hidden = browser.run("return document.getElementById('packets-lane').hidden")
+        expect(hidden == (height < 560), f"{width}x{height}: the lane of packets is {'not ' * (not hidden)}hidden")
+        if hidden:
+            browser.run("document.getElementById('packets-switch').click()")
+        missing = browser.run(MISSING, OF_PACKETS)
+        expect(not missing, f"{width}x{height}: cannot be reached: {missing}")
+        if hidden:
+            browser.run("document.getElementById('packets-switch').click()")
         across = browser.run("return document.documentElement.scrollWidth - innerWidth")
         expect(across <= 0, f"{width}x{height}: the page is {across} pixels too wide")
         if looks is not None:
@@ -1443,6 +1445,7 @@ def kill(browser, room, clip):
     """vp8serve is killed: the page says so, and goes on."""
     page = Page(browser, clip, "--edits", room / "list-of-kill", WOKURETI_ENGINE="program")
     page.open()
+    browser.run("document.getElementById('timeline').focus()")
     browser.key("Delete")
     browser.wait("wokureti.model.packets === 249")
     children = subprocess.run(["pgrep", "-P", str(page.process.pid)], capture_output=True, text=True, check=False).stdout.split()
@@ -1487,7 +1490,7 @@ def million(browser, room):
     opened = time.monotonic() - since
     browser.wait("wokureti.timeline.window.count === 1048576 && wokureti.timeline.wholeTile()", seconds=60)
     whole = time.monotonic() - since
-    box = browser.run("const box = document.getElementById('timeline').getBoundingClientRect(); return [box.left, box.top, box.width]")
+    box = browser.run("const box = document.getElementById('bars').getBoundingClientRect(); return [box.left, box.top, box.width]")
     steps = """
         const box = document.getElementById("timeline");
         const { left, top, width } = box.getBoundingClientRect();
@@ -1606,11 +1609,11 @@ def cutting_shot(browser, folder, clip):
     link.symlink_to(clip)
     page = Page(browser, link)
     page.open()
-    browser.run("wokureti.model.select(170, 210); await wokureti.model.go(40); await wokureti.cutting.moveHere()")
-    browser.run("wokureti.model.select(95, 120); await wokureti.cutting.cutOut()")
-    browser.run("await wokureti.model.go(97); wokureti.model.select(60, 84); document.getElementById('tab-script').click()")
-    browser.wait("document.getElementById('strip').dataset.shots === '5' && wokureti.findings.check && wokureti.findings.check.over", seconds=60)
-    browser.wait("Number(document.getElementById('thumbs').dataset.pictures) > 8", seconds=30)
+    browser.run("wokureti.model.selectFrames(170, 210); await wokureti.model.go(40); await wokureti.cutting.moveHere()")
+    browser.run("wokureti.model.selectFrames(95, 120); await wokureti.cutting.cutOut()")
+    browser.run("await wokureti.model.go(97); wokureti.model.selectFrames(60, 104); document.getElementById('tab-script').click()")
+    browser.wait("document.getElementById('programme-canvas').dataset.shots === '5' && wokureti.findings.check && wokureti.findings.check.over", seconds=60)
+    browser.wait("Number(document.getElementById('programme-canvas').dataset.pictures) > 8", seconds=30)
     time.sleep(0.5)
     (folder / "page-cut.png").write_bytes(browser.screenshot())
     page.end()

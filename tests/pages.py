@@ -115,7 +115,36 @@ class Page:
             self.wait("wokureti.model.revision > args[0]", before)
 
     def select(self, first, end):
+        """Selects packets."""
         self.js("wokureti.model.select(args[0], args[1])", first, end)
+
+    def select_frames(self, first, end):
+        self.js("wokureti.model.selectFrames(args[0], args[1])", first, end)
+
+    def key(self, key, revises=False, **held):
+        """Presses a key where the keys go, and waits for the revision after it."""
+        before = self.js("return wokureti.model.revision")
+        self.js("(document.activeElement ?? document.body).dispatchEvent(new KeyboardEvent('keydown', { key: args[0], bubbles: true, cancelable: true, ...args[1] }))", key, held)
+        if revises:
+            self.wait("wokureti.model.revision > args[0]", before)
+
+    def mark(self, first, last):
+        """In and Out at frames."""
+        for frame, key in ((first, "i"), (last, "o")):
+            self.go(frame)
+            self.key(key)
+
+    def shown(self):
+        """The source and the packet of each frame that is shown."""
+        found = self.js("return wokureti.engine.look('origins', { from: 0, count: wokureti.model.frames })")
+        return list(zip(found["sources"], found["packets"]))
+
+    def drag(self, first, last):
+        """Drags over the programme from one boundary of frames to another, with pointer events."""
+        self.js("""const canvas = document.getElementById('programme-canvas'); const { left, top, height } = canvas.getBoundingClientRect();
+            const box = document.getElementById('programme'); box.setPointerCapture = () => {};
+            const send = (kind, frame) => box.dispatchEvent(new PointerEvent(kind, { pointerId: 1, button: 0, clientX: left + wokureti.programme.window.pixelOf(frame), clientY: top + height / 2, bubbles: true, cancelable: true }));
+            send('pointerdown', args[0]); for (const part of [0.5, 1]) send('pointermove', args[0] + part * (args[1] - args[0])); send('pointerup', args[1]);""", first, last)
 
     def go(self, frame):
         self.js("await wokureti.model.go(args[0])", frame)
@@ -174,16 +203,74 @@ def edited(page):
 
 def scripted(page):
     """Frames are cut out, moved and faded."""
-    page.select(4, 7)
+    page.select_frames(4, 7)
     page.press("cut-out")
-    page.wait("!wokureti.model.selection")
-    page.js("wokureti.model.select(9, 12); await wokureti.model.go(1)")
+    page.wait("!wokureti.model.range")
+    page.js("wokureti.model.selectFrames(9, 12); await wokureti.model.go(1)")
     page.press("move-here")
-    page.wait("!wokureti.model.selection")
+    page.wait("!wokureti.model.range")
     page.set_script(f"{page.session()['script']}; fade 0 2 3 256 0")
     page.press("undo")
     page.press("redo")
     return state(page)
+
+
+def programme(page):
+    """What is done with the frames that are shown; returned with what is wrong, and the state. The page has two sources."""
+    wrong = []
+
+    def expect(name, found, wanted):
+        if found != wanted:
+            wrong.append(f"{name}: {found}, not {wanted}")
+
+    def cut(name, first, last, act):
+        before = page.shown()
+        page.mark(first, last)
+        act()
+        expect(name, page.shown(), before[:first] + before[last + 1 :])
+
+    count = page.session()["source_frames"][0]
+    page.select_frames(20, 30)
+    page.go(0)
+    page.key("v", True)
+    cut("frames of both sides of a move", 5, 14, lambda: page.key("x", True))
+    page.js("await wokureti.cutting.join(1)")
+    joined = count - 10
+    cut("frames of both sides of a join of sources", joined - 3, joined + 3, lambda: page.key("Delete", True))
+    # A fade in the middle is no shot: the last node becomes parts of itself.
+    page.select_frames(6, 12)
+    page.set_script(f"{page.session()['script']}; fade {len(page.session()['script'].split(';'))} 3 4 256 128")
+    samples = page.frames()
+    cut("frames in a fade", 4, 8, lambda: page.press("cut-out"))
+    expect("the frames after a cut in a fade", page.frames(), samples[:4] + samples[9:])
+    nodes = len(page.session()["script"].split(";"))
+    cut("frames in a fade again", 2, 3, lambda: page.press("cut-out"))
+    expect("nodes of a script that is cut again", len(page.session()["script"].split(";")), nodes)
+    page.mark(9, 5)
+    expect("Out before In", page.js("const { first, end, mark } = wokureti.model.range; return [first, end, mark, document.getElementById('status').textContent]"), [5, 6, "end", "Out, frame 5, is before In, frame 9: In is dropped. Press I at the first frame"])
+    page.js("wokureti.model.selectFrames(null)")
+    page.key("x")
+    expect("a key without a selection", page.js("return document.getElementById('status').textContent"), "Nothing is selected to cut out. Select the frames first: I at the first frame and O at the last one, or drag over them on the programme")
+    page.drag(2.5, 6.5)
+    expect("a drag", page.js("const { first, end } = wokureti.model.range; return [first, end]"), [2, 7])
+    page.drag(7, 9)
+    expect("an edge that is dragged", page.js("const { first, end } = wokureti.model.range; return [first, end]"), [2, 9])
+    shown = page.shown()
+    page.press("keep")
+    expect("frames that are kept", page.shown(), shown[2:9])
+    return wrong, state(page)
+
+
+def packets(page):
+    """Packets are deleted on their own lane, and then cut out instead."""
+    page.js("await wokureti.model.useSource(0); document.getElementById('timeline').focus(); wokureti.model.activate('packets'); wokureti.model.select(3, 5)")
+    page.key("Delete", True)
+    said = page.wait("document.querySelector('#notices [data-id=broken] span')?.textContent")
+    deleted = state(page)
+    before = page.js("return wokureti.model.revision")
+    page.js("document.querySelector('#notices .offered').click()")
+    page.wait("wokureti.model.revision >= args[0] + 2", before)
+    return said, deleted, state(page)
 
 
 def looked(page):

@@ -167,7 +167,7 @@ def files(engine, clip, folder):
         page.select(5, 9)
         page.press("hold")
         saved = engine.saved(folder)
-        page.select(8, 11)
+        page.select_frames(8, 11)
         page.press("cut-out")
         export = engine.exported()
         return page.session()["edits"], saved, export
@@ -275,6 +275,23 @@ def uncoded(engine, clip):
             yield f"{page.browser.name}: no encoder: {said}"
 
 
+def shown(engine, clip, other):
+    """The lane of the frames that are shown, and that of packets, in each size of window."""
+    found = {}
+    browser = engine.page.browser.browser
+    for width, height in SIZES:
+        if hasattr(browser, "set_size"):
+            browser.set_size(width, height)
+        with engine.opened(clip, other) as page:
+            wrong, made = pages.programme(page)
+            found[f"{width}x{height}"] = made
+            found[f"wrong at {width}x{height}"] = wrong
+            found[f"pictures at {width}x{height}"] = page.frames()
+        with engine.opened(clip) as page:
+            found[f"packets at {width}x{height}"] = pages.packets(page)
+    return found
+
+
 def played(engine, clip):
     """Playback shows frames as time passes."""
     with engine.opened(clip) as page:
@@ -310,6 +327,9 @@ def same(alone, served, folder):
             yield f"{clip.name}: the files are not vp8serve's with {lines}"
     yield from compare("repairs", repaired(alone, broken), repaired(served, broken))
     yield from compare("costs", *(costs(one, EXAMPLE, CLIPS / "scene-cuts.ivf") for one in (alone, served)))
+    mine, other = (shown(one, EXAMPLE, CLIPS / "scene-cuts.ivf") for one in (alone, served))
+    yield from (f"{engine}, {name}: {found[name]}" for engine, found in (("one file", mine), ("server", other)) for name in found if name.startswith("wrong") and found[name])
+    yield from compare("the programme", mine, other)
     yield from compare("two streams", *(others(one, EXAMPLE, CLIPS / "scene-cuts.ivf") for one in (alone, served)))
 
 
@@ -328,6 +348,16 @@ def kept(alone, clip):
     page.ready()
     if page.session()["edits"] != before:
         yield f"{page.browser.name}: edits are not kept: {page.session()['edits']}, not {before}"
+    page.js("addEventListener('beforeunload', (event) => event.stopImmediatePropagation(), { capture: true })")
+    page.browser.open("about:blank")
+    page.browser.open(alone.address)
+    found = page.wait("document.querySelector('#recent-list .row .text')?.textContent")
+    about = page.js("return [document.querySelector('#recent-list .row .sub').textContent.split(' · ')[0], document.getElementById('recent').hidden]")
+    if found != clip.name or about != [f"{len(before)} edits", False]:
+        yield f"{page.browser.name}: what was edited before is {found}, {about}"
+    page.js("window.asked = 0; document.getElementById('welcome-file').click = () => window.asked++; document.querySelector('#recent-list .row').click()")
+    if page.js("return [window.asked, document.getElementById('welcome-text').textContent]") != [1, f"Choose {clip.name} again: its edits are there then."]:
+        yield f"{page.browser.name}: a stream that was edited before is not asked for"
 
 
 def tabs(alone, clip):
@@ -489,7 +519,7 @@ def shots(folder, alone):
         alone.page.wait("document.getElementById('welcome')")
         (folder / f"{width}x{height}-welcome.png").write_bytes(browser.screenshot())
         with alone.opened(EXAMPLE) as page:
-            page.select(10, 20)
+            page.select_frames(10, 20)
             page.press("cut-out")
             page.wait("wokureti.findings.check?.over")
             page.js("await new Promise((done) => setTimeout(done, 1500))")

@@ -60,6 +60,10 @@ class Firefox:
             raise OSError(f"firefox: {error['error']}: {error['message']}")
         return found
 
+    def set_size(self, width, height):
+        """The window has this size, as far as it may be that narrow."""
+        self.send("WebDriver:SetWindowRect", width=width, height=height)
+
     def open(self, address):
         self.send("WebDriver:Navigate", url=address)
 

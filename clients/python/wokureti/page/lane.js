@@ -199,10 +199,14 @@ export class Lane {
     if (window.scale > 2) context.fillRect(left, from, window.scale, end - from);
     context.globalAlpha = 1;
     context.fillRect(Math.round(middle) - 0.5, from, 1.5, end - from);
-    context.beginPath();
-    for (const [x, y] of arrow) context.lineTo(middle + x, y);
-    context.fill();
+    polygon(context, arrow.map(([x, y]) => [middle + x, y]));
   }
+}
+
+export function polygon(context, points) {
+  context.beginPath();
+  for (const point of points) context.lineTo(...point);
+  context.fill();
 }
 
 /** Follows a pointer that was pressed on an element until it is let go. */

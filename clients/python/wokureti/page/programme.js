@@ -1,6 +1,6 @@
 // The programme: the frames that are shown, in their order. Its selection is of frames, whatever packets they are of.
 
-import { Lane, drag } from "./lane.js";
+import { Lane, drag, polygon } from "./lane.js";
 import { MOST_NODES, lengthOf, nodesFor, shotsOf } from "./shots.js";
 import { timeText } from "./times.js";
 import { stepOf } from "./window.js";
@@ -222,7 +222,8 @@ export class Programme extends Lane {
     }
   }
 
-  drawBlock(context, { shot, left, right }, place, height) {
+  drawBlock(context, block, place, height) {
+    const { shot, left, right } = block;
     const colours = this.theme;
     const [from, end] = [Math.max(-9, left), Math.min(this.window.width + 9, right)];
     const [top, wide] = [height - BAND, Math.max(1, end - from - 1)];
@@ -234,32 +235,29 @@ export class Programme extends Lane {
     // What is dark of a fade.
     context.fillStyle = "#000000b0";
     for (const [one, other] of [[left, left + shot.fadeIn * scale], [right - 1, right - 1 - shot.fadeOut * scale]]) {
-      context.beginPath();
-      context.moveTo(one, RULER);
-      context.lineTo(other, RULER);
-      context.lineTo(one, height);
-      context.fill();
+      polygon(context, [[one, RULER], [other, RULER], [one, height]]);
     }
-    // A join.
     if (place) {
       context.fillStyle = colours.edit;
       context.fillRect(left - 1, RULER, 2, height - RULER);
-      context.beginPath();
-      for (const [x, y] of [[-5, 0], [5, 0], [0, 6]]) context.lineTo(left + x, RULER + y);
-      context.fill();
+      polygon(context, [[left - 5, RULER], [left + 5, RULER], [left, RULER + 6]]);
     }
     context.font = "11px system-ui, sans-serif";
     context.textAlign = "center";
     context.fillStyle = colours.text;
     const text = `${this.model.session.source_frames.length > 1 ? `${shot.source}: ` : ""}${shot.first} to ${shot.first + shot.count - 1}`;
     if (context.measureText(text).width + 8 < wide) context.fillText(text, (from + end) / 2, height - 5);
-    if (!this.isAllShots || right - left < LEAST) return;
+    if (this.isAllShots && right - left >= LEAST) this.drawHandles(context, block, top);
+  }
+
+  drawHandles(context, { shot, left, right }, top) {
+    const scale = (right - left) / shot.count;
     for (const x of [left + shot.fadeIn * scale, right - shot.fadeOut * scale]) {
       context.beginPath();
       context.arc(Math.min(right - 4, Math.max(left + 4, x)), top + 5, 3.5, 0, 2 * Math.PI);
-      context.fillStyle = colours.cursor;
+      context.fillStyle = this.theme.cursor;
       context.fill();
-      context.strokeStyle = colours.back;
+      context.strokeStyle = this.theme.back;
       context.lineWidth = 1;
       context.stroke();
     }

@@ -1,7 +1,7 @@
 // The lane of packets: a bar a packet of a source, or a column for several.
 
 import { NAMES } from "./kinds.js";
-import { Lane, drag } from "./lane.js";
+import { Lane, drag, polygon } from "./lane.js";
 import { COLUMNS, Tiles, perOf } from "./tiles.js";
 import { timeText } from "./times.js";
 import { bytesText, stepOf } from "./window.js";
@@ -355,11 +355,7 @@ export class Timeline extends Lane {
 /** A small triangle that says that an edit was here. */
 function mark(context, x, y, colour) {
   context.fillStyle = colour;
-  context.beginPath();
-  context.moveTo(x - 4, y - 5);
-  context.lineTo(x + 4, y - 5);
-  context.lineTo(x, y + 1);
-  context.fill();
+  polygon(context, [[x - 4, y - 5], [x + 4, y - 5], [x, y + 1]]);
 }
 
 /** The place of the first number that is at least a value, in a list that ascends. */
