@@ -35,7 +35,7 @@ from wokureti.tools import ivf  # noqa: E402
 CLIPS = TOP / "crates/gate_clips/data"
 MOST_TIME = 800
 SIZES = ((1280, 800), (390, 844))
-PARTS = ("chromium", "firefox", "engines-chromium", "engines-firefox", "streams", "kills")
+PARTS = ("chromium", "firefox", "engines-chromium", "engines-firefox", "streams-chromium", "streams-firefox", "kills")
 KILLS = int(os.environ.get("KILLS", "3"))
 
 
@@ -479,8 +479,8 @@ def run(folder, parts):
             yield from by_hand(begin, folder, address)
         if f"engines-{name}" in parts:
             yield from engines(begin, folder, address)
-    if "streams" in parts and "chromium" in here:
-        yield from streams(here["chromium"], address)
+        if f"streams-{name}" in parts:
+            yield from (f"{name}: {line}" for line in streams(begin, address))
     if "kills" in parts and "chromium" in here:
         yield from killed(folder, address, EXAMPLE, KILLS)
     if "--shots" in sys.argv and "chromium" in here:
