@@ -19,8 +19,8 @@ from browser import Browser
 from page import TOP, Page
 
 EXAMPLE = TOP / "examples/mandelbrot.ivf"
-# Seconds in which a kill comes, and the edits that are made, with one that is taken back.
-MOST, ACTS = 0.2, ("hold", "drop", "undo", "hold", "delete", "undo", "redo")
+# Seconds in which a kill comes, and what is done before: what was undone is not kept, so nothing is made again.
+MOST, ACTS = 0.2, ("hold", "drop", "undo", "hold", "delete")
 
 
 def shown(browser, act):
@@ -60,7 +60,8 @@ def turns(browser, room, count, chance):
 
 
 def main():
-    count, seed = [int(word) for word in sys.argv[1:]] + [100, 1][len(sys.argv) - 1 :]
+    given = [int(word) for word in sys.argv[1:] if word.isdecimal()]
+    count, seed = [*given, *(100, 1)[len(given) :]]
     with tempfile.TemporaryDirectory() as name, Browser() as browser:
         wrong = list(turns(browser, pathlib.Path(name), count, random.Random(seed)))
     for line in wrong:

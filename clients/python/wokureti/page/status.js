@@ -112,8 +112,8 @@ export function withdraw(id) {
   for (const old of [...find("notices").children]) if (old.dataset.id === id) old.remove();
 }
 
-/** Shows a notice, which goes by itself if it is not bad. */
-export function notice(text, { isBad = false, id = "" } = {}) {
+/** Shows a notice. It goes by itself, unless it is bad or stays. */
+export function notice(text, { isBad = false, id = "", stays = false } = {}) {
   const place = find("notices");
   // The same sentence is there once, also if two tabs were told it.
   for (const old of [...place.children]) if ((id && old.dataset.id === id) || old.querySelector("span").textContent === text) old.remove();
@@ -129,6 +129,6 @@ export function notice(text, { isBad = false, id = "" } = {}) {
   box.append(said, close);
   place.append(box);
   while (place.children.length > 4) place.firstChild.remove();
-  if (!isBad) setTimeout(() => box.remove(), 6000);
+  if (!isBad && !stays) setTimeout(() => box.remove(), 6000);
   return box;
 }
