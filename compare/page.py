@@ -82,11 +82,11 @@ class Page:
     # The commands that were started.
     started = []
 
-    def __init__(self, browser, *words, **more):
+    def __init__(self, browser, *words, start_new_session=False, **more):
         self.browser = browser
         command = [sys.executable, "-m", "wokureti", "open", *map(str, words), "--no-browser"]
         env = dict(os.environ, PYTHONPATH=str(TOP / "clients/python"), PYTHONDONTWRITEBYTECODE="1", **more)
-        self.process = subprocess.Popen(command, env=env, stdout=subprocess.PIPE, stderr=subprocess.PIPE, text=True)
+        self.process = subprocess.Popen(command, env=env, stdout=subprocess.PIPE, stderr=subprocess.PIPE, text=True, start_new_session=start_new_session)
         self.started.append(self.process)
         self.address = self.process.stdout.readline().strip()
 

@@ -32,7 +32,7 @@ LIMIT = 900
 # Tests whose parts are run side by side.
 PARTS = {
     "tests/test_arm.py": ("programs", "options", "saving", "library"),
-    "tests/test_one_file.py": ("chromium", "firefox", "engines-chromium", "engines-firefox", "streams", "kills"),
+    "tests/test_one_file.py": ("chromium", "firefox", "engines-chromium", "engines-firefox", "streams-chromium", "streams-firefox", "kills"),
 }
 # Tests of what the version in dist/ may not have yet, by a text of the help that has it.
 LATER = {"tests/test_questions.py": "check FIRST COUNT", "tests/test_long_lines.py": "--fail-refused"}

@@ -44,7 +44,7 @@ SCRIPTS = (
     "source 1; trim 0 11 9; splice 2 1; fade 3 0 4 0 256",
     "crop 0 16 16 64 48; trim 1 9 5",
 )
-PARTS = ("chromium", "firefox", "engines-chromium", "engines-firefox", "streams", "kills")
+PARTS = ("chromium", "firefox", "engines-chromium", "engines-firefox", "streams-chromium", "streams-firefox", "kills")
 KILLS = int(os.environ.get("KILLS", "3"))
 
 
@@ -600,8 +600,8 @@ def run(folder, parts):
             yield from by_hand(begin, folder, address)
         if f"engines-{name}" in parts:
             yield from engines(begin, folder, address)
-    if "streams" in parts and "chromium" in here:
-        yield from streams(here["chromium"], address)
+        if f"streams-{name}" in parts:
+            yield from (f"{name}: {line}" for line in streams(begin, address))
     if "kills" in parts and "chromium" in here:
         yield from killed(folder, address, EXAMPLE, KILLS)
     if "--shots" in sys.argv and "chromium" in here:

@@ -271,6 +271,59 @@ def planted(node):
         yield f"a memory that is full: {full}, {state['edits']}, {again['reply']}, {save}"
 
 
+# What may be refused for memory, after edits of which one was undone.
+BEGUN = [["ask", [["delete 7"], {}]], ["ask", [["hold 1", "hold 2"], {"title": "two"}]], ["ask", [["use 1"], {}]], ["ask", [["use 0"], {}]], ["ask", [["copy 1 0 4"], {}]], ["ask", ["undo", {}]]]
+ACTS = {
+    "delete": ["ask", [["delete 3"], {}]],
+    "several": ["ask", [["delete 9", "hold 2", "copy 0 3 9", "use 1", "delete 1"], {"title": "several"}]],
+    "a script": ["ask", [["script trim 0 0 9"], {}]],
+    "an edit and what is shown of it": ["ask", [["insert 5 7 110011"], {"page": {"source": 0, "packet": 3, "tiles": [[1, 0]]}}]],
+    "undo": ["ask", ["undo", {}]],
+    "redo": ["ask", ["redo", {}]],
+    "save": ["save", [0]],
+    "a frame": ["frames", [[9]]],
+    "a question about another source": ["answer", ["list 0 9", 1]],
+    "another file": ["add", [{"file": EXAMPLE}]],
+}
+
+
+def without_memory(node):
+    """Each request for memory that an act makes is refused in turn, and each answer is lost: a sentence, and edits, redo, packets and frames are as before."""
+    files = [EXAMPLE, TOP / "crates/gate_clips/data/scene-cuts.ivf"]
+    # A frame has its room from before.
+    kinds = [(act, refused) for name, act in ACTS.items() for refused in ("room", "checked") if (name, refused) != ("a frame", "room")]
+    tasks = [{"files": files, "asks": BEGUN, "act": act, "refused": refused} for act, refused in kinds]
+    for task, result in zip(tasks, node.tasks(tasks)):
+        what = next(name for name, act in ACTS.items() if act is task["act"])
+        if result.get("error") or result["wrong"] or not result["turns"]:
+            yield f"{what} without memory ({task['refused']}): {str(result.get('error') or result['wrong'] or 'nothing is refused')[:900]}"
+
+
+def few_pages(node, folder):
+    """A module whose memory may have few pages: each act is made, or is a sentence about memory, and the list has the edits that were made."""
+    edits = [["ask", [[f"insert 40 7 {'11' * size}"], {}]] for size in (400000,) * 4 + (9000,) * 6 + (60,) * 6]
+    asks = [*edits, ["lines", []], ["save", [0]], ["frames", [[20]]], ["ask", ["undo", {}]], ["lines", []]]
+    opened, refusals, turns = 0, 0, (17, 150, 200, 240, 280, 400)
+    for pages in turns:
+        (result,) = node.tasks([{"pages": pages, "files": [EXAMPLE], "asks": asks, "saves": [folder / "few.ivf"]}])
+        where, results = f"{pages} pages of memory", result.get("results", [{"refused": {}}])
+        if "refused" in results[0]:
+            if "memory" not in results[0]["refused"].get("error", ""):
+                yield f"{where}: {result.get('error') or results[0]}"
+            continue
+        said = [one["refused"]["error"] for one in results[2:] if isinstance(one, dict) and "refused" in one]
+        opened, refusals, lines = opened + 1, refusals + len(said), []
+        for ask, found in zip(asks, results[2:]):
+            if ask[0] == "ask" and "refused" not in found:
+                lines = lines[:-1] if ask[1][0] == "undo" else [*lines, *ask[1][0]]
+            elif ask[0] == "lines" and found != lines:
+                yield f"{where}: {len(found)} edits, and {len(lines)} were made"
+        if not all("memory" in one for one in said):
+            yield f"{where}: {[one for one in said if 'memory' not in one][:2]}"
+    if not refusals or not 0 < opened < len(turns):
+        yield f"few pages: {opened} of {len(turns)} are opened, {refusals} acts are refused"
+
+
 def progress(node, folder):
     """While a file is opened the worker says how much of it is read."""
     head, packets = ivf.read_packets(EXAMPLE)
@@ -330,7 +383,7 @@ def main():
         else:
             wrong += stale()
             node = Node()
-            wrong += [*frames(node), *lists(node, chance, folder), *questions(node, folder), *bounded(node, folder), *saved(node, chance, folder), *refused(node, folder), *previews(node), *planted(node), *progress(node, folder)]
+            wrong += [*frames(node), *lists(node, chance, folder), *questions(node, folder), *bounded(node, folder), *saved(node, chance, folder), *refused(node, folder), *previews(node), *planted(node), *without_memory(node), *few_pages(node, folder), *progress(node, folder)]
     print("".join(line + "\n" for line in wrong), end="")
     return 1 if wrong else 0
 

@@ -112,8 +112,8 @@ export function withdraw(id) {
   for (const old of [...find("notices").children]) if (old.dataset.id === id) old.remove();
 }
 
-/** Shows a notice, which goes by itself if it is not bad. `act` is what it offers: the text of a button, and what that does. */
-export function notice(text, { isBad = false, id = "", act = null } = {}) {
+/** Shows a notice, which goes by itself unless it is bad or stays. `act` is what it offers: the text of a button, and what that does. */
+export function notice(text, { isBad = false, id = "", stays = false, act = null } = {}) {
   const place = find("notices");
   // The same sentence is there once, also if two tabs were told it.
   for (const old of [...place.children]) if ((id && old.dataset.id === id) || old.querySelector("span").textContent === text) old.remove();
@@ -140,6 +140,6 @@ export function notice(text, { isBad = false, id = "", act = null } = {}) {
   box.append(close);
   place.append(box);
   while (place.children.length > 4) place.firstChild.remove();
-  if (!isBad) setTimeout(() => box.remove(), 6000);
+  if (!isBad && !stays) setTimeout(() => box.remove(), 6000);
   return box;
 }

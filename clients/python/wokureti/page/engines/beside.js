@@ -20,13 +20,16 @@ export class Beside {
   /** The session after these edits. */
   after(lines) {
     this.session ??= new Session(this.module, this.sources, MOST_STATES);
+    this.session.whole();
     this.session.follow(lines);
     return this.session;
   }
 
   /** A file as it was opened. */
   original(source) {
-    return (this.opened[source] ??= new Session(this.module, [this.sources[source]], MOST_STATES));
+    this.opened[source] ??= new Session(this.module, [this.sources[source]], MOST_STATES);
+    this.opened[source].whole();
+    return this.opened[source];
   }
 
   before(source, list) {

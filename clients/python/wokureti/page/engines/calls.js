@@ -20,6 +20,8 @@ const SLICE = 1 << 22;
 // Numbers of statuses.
 const [FILE, MEMORY, CLOSED, ROOM, LOST] = [2, 3, 4, 5, 7];
 const [PACKET, SIZE_DIFFERS, CHANGED] = [24, 26, 33];
+// The reply to a line that is out of memory, after which nothing is changed.
+const NO_MEMORY = "refused NoMemory";
 
 /** A call that is refused: the status of HTTP that a server would answer with, and `reply`, `reason` or `error`. */
 export class Refused extends Error {
@@ -29,9 +31,9 @@ export class Refused extends Error {
   }
 }
 
-/** The memory is full. */
-export function full() {
-  return new Refused(507, { error: "There is not memory enough for this. Nothing is lost: the edits are kept. Close other tabs, or open the file with `wokureti open`." });
+/** The memory is full. With `isUnsure` the line that was asked may have been made. */
+export function full(isUnsure = false) {
+  return Object.assign(new Refused(507, { error: "There is not memory enough for this. Nothing is lost: the edits are kept. Close other tabs, or open the file with `wokureti open`." }), { isUnsure });
 }
 
 /** Bytes of a file, or of an array. */
@@ -146,7 +148,7 @@ export class Calls {
   }
 
   checked(status) {
-    if (status === MEMORY || status === LOST) throw full();
+    if (status === MEMORY || status === LOST) throw full(status === LOST);
     if (status === CLOSED) throw new Refused(503, { error: "no file is open" });
     return status;
   }
@@ -154,7 +156,11 @@ export class Calls {
   /** The reply to a request line, without its last newline. */
   request(line) {
     this.checked(this.with(new TextEncoder().encode(line), (at, size) => this.calls.wk_request(this.handle, at, size, this.length)));
-    return this.text().replace(/\n$/, "");
+    try {
+      return this.text().replace(/\n$/, "");
+    } catch (error) {
+      throw error instanceof Refused ? full(true) : error;
+    }
   }
 
   /** Why the last line was refused, or an empty text. */
@@ -165,6 +171,7 @@ export class Calls {
   /** A reply that is no refusal. */
   answered(line) {
     const reply = this.request(line);
+    if (reply === NO_MEMORY) throw full();
     if (reply.startsWith("refused")) throw new Refused(reply === "refused NoSuchFrame" ? 404 : 409, { error: `${line.slice(0, 60)}: ${reply}`, reply, reason: this.why() });
     return reply;
   }
@@ -174,6 +181,7 @@ export class Calls {
     const status = this.checked(this.calls.wk_frame(this.handle, BigInt(n), 0, 0n, 0, 0n, 0, 0n, this.shown));
     if (status === ROOM) return [this.view(this.shown, 40).getUint32(16, true), this.view(this.shown, 40).getUint32(20, true)];
     const reply = this.request(`frame ${n}`);
+    if (reply === NO_MEMORY) throw full();
     const refused = new Refused(reply === "refused NoSuchFrame" ? 404 : 409, { error: `frame ${n}: ${reply}`, reply, reason: this.why() });
     refused.isOfOtherSize = status === SIZE_DIFFERS;
     refused.isOfPacket = status === PACKET;

@@ -15,7 +15,7 @@ function lastOf(lines, word, none) {
 export class Session {
   /** `most` bytes of pictures are cached, four for each state. */
   constructor(module, sources, most, look, told) {
-    Object.assign(this, { module, sources, most });
+    Object.assign(this, { module, sources, most, isLost: false });
     this.calls = new Calls(module);
     this.open(look, told);
   }
@@ -26,20 +26,54 @@ export class Session {
     this.current = 0;
   }
 
+  /** The session has these edits once it is whole again: what it has now is not known. */
+  lose(lines) {
+    this.lines = [...lines];
+    this.current = Number(wordsOf(lastOf(lines, "use", "use 0"))[1]);
+    this.isLost = true;
+  }
+
+  /** Opens a session again that was lost, with its edits: in the memory that it has, or in another one. If neither does, the next call tries again. */
+  whole() {
+    if (!this.isLost) return;
+    const { lines } = this;
+    try {
+      this.goTo(lines);
+    } catch {
+      this.lose(lines);
+      this.calls = new Calls(this.module);
+      try {
+        this.goTo(lines);
+      } catch (error) {
+        this.lose(lines);
+        throw error;
+      }
+    }
+  }
+
   /** After a fault of the library: another one, with the same edits. */
   restart() {
-    const { lines } = this;
+    this.lose(this.lines);
     this.calls = new Calls(this.module);
-    this.goTo(lines);
+    this.whole();
   }
 
   goTo(lines) {
+    const wanted = [...lines];
+    this.lose([]);
     this.open();
-    for (const line of lines) this.edit(line);
+    this.isLost = false;
+    for (const line of wanted) this.edit(line);
   }
 
   edit(line) {
-    const reply = this.calls.answered(line);
+    let reply = "";
+    try {
+      reply = this.calls.answered(line);
+    } catch (error) {
+      if (!(error instanceof Refused) || error.isUnsure) this.lose(this.lines);
+      throw error;
+    }
     this.lines.push(line);
     if (firstWord(line) === "use") this.current = Number(wordsOf(line)[1]);
     return reply;
@@ -52,7 +86,7 @@ export class Session {
     try {
       for (const line of lines) reply = this.edit(plain(line));
     } catch (error) {
-      if (this.lines.length !== before.length || !(error instanceof Refused)) this.goTo(before);
+      if (this.lines.length !== before.length) this.lose(before);
       throw error;
     }
     return reply;
@@ -69,7 +103,7 @@ export class Session {
     }
     this.lines.length = common;
     if (gone.length) {
-      for (const line of [lastOf(this.lines, "script", "script -"), lastOf(this.lines, "use", "use 0")]) this.calls.answered(line);
+      for (const line of [lastOf(this.lines, "script", "script -"), lastOf(this.lines, "use", "use 0")]) this.set(line);
       this.current = Number(wordsOf(lastOf(this.lines, "use", "use 0"))[1]);
     }
     for (const line of lines.slice(common)) this.edit(line);
@@ -78,11 +112,22 @@ export class Session {
   /** The reply to a question about a source; the current one stays as it is. */
   ask(line, source = this.current) {
     if (source === this.current) return this.calls.answered(line);
-    this.calls.answered(`use ${source}`);
+    const { current } = this;
+    this.set(`use ${source}`);
     try {
       return this.calls.answered(line);
     } finally {
-      this.calls.answered(`use ${this.current}`);
+      this.set(`use ${current}`);
+    }
+  }
+
+  /** Makes a line that is none of the edits. If it is refused, the session may have any source or script. */
+  set(line) {
+    try {
+      this.calls.answered(line);
+    } catch (error) {
+      this.lose(this.lines);
+      throw error;
     }
   }
 
@@ -97,7 +142,8 @@ export class Session {
       return this.calls.frame(n);
     } catch (error) {
       if (!error.isOfOtherSize) throw error;
-      this.goTo(this.lines);
+      this.lose(this.lines);
+      this.whole();
       return this.calls.frame(n);
     }
   }

@@ -132,24 +132,44 @@ export class Stream {
 
   /** Opens another file as the last source. If it is refused, all is as before. */
   add(source, report) {
-    const { sources, files, session, steps, undone, contents, causes } = this;
+    const { sources, files, session, steps, undone, contents, causes, saves, revision } = this;
     if (sources.length === 8) throw new Refused(409, { error: "a session has at most 8 streams" });
-    const { lines } = session;
     try {
       const opened = indexes(this.module, [...sources, source], report);
-      Object.assign(this, { session: opened.session, files: opened.found, sources: [...sources, source], steps: [], undone: [] });
+      Object.assign(this, { session: opened.session, files: opened.found, sources: [...sources, source], steps: [], undone: [], saves: [...saves, { stream: null, file: null }] });
       this.readAgain();
       for (const step of steps) this.makeStep(step.lines, step.title);
       this.undone = undone;
+      this.changed();
+      if (this.waits) this.take(this.waits);
+      return { source: this.sources.length - 1, ...this.told() };
     } catch (error) {
-      Object.assign(this, { session, files, sources, steps, undone, contents, causes });
-      session.goTo(lines);
+      Object.assign(this, { session, files, sources, steps, undone, contents, causes, saves, revision, isBehind: true });
       throw error;
     }
-    this.saves.push({ stream: null, file: null });
-    this.changed();
-    if (this.waits) this.take(this.waits);
-    return { source: this.sources.length - 1, ...this.told() };
+  }
+
+  /** Makes a change. If it is refused, in the middle of it too, steps, packets and the revision are as before. */
+  change(make) {
+    const { revision, session } = this;
+    const [steps, undone] = [[...this.steps], [...this.undone]];
+    const count = session.lines.length;
+    try {
+      return make();
+    } catch (error) {
+      if (this.revision !== revision || this.steps.length !== steps.length || this.undone.length !== undone.length || session.lines.length !== count) {
+        Object.assign(this, { steps, undone, revision, isBehind: true });
+        session.lose(steps.flatMap(({ lines }) => lines));
+        this.applyAgain();
+      }
+      throw error;
+    }
+  }
+
+  /** After a change that was refused in the middle: the session has its edits again, and what is known of the stream is of them. */
+  whole() {
+    this.session.whole();
+    if (this.isBehind) this.know();
   }
 
   /** The engine ended in the middle of a call: it is started again, with the same edits. */
@@ -180,6 +200,12 @@ export class Stream {
   /** The stream is another one now. */
   changed() {
     this.revision++;
+    this.know();
+  }
+
+  /** Asks for what is known of the stream. */
+  know() {
+    this.isBehind = true;
     this.contents.learn();
     this.causes.follow();
     this.timelines = [];
@@ -187,6 +213,13 @@ export class Stream {
     this.scriptText = spaced(this.session.calls.answered("script").slice("script ".length));
     this.frameCount = this.session.count();
     this.begun = null;
+    this.isBehind = false;
+  }
+
+  /** The packets after the steps. */
+  applyAgain() {
+    this.contents.begin();
+    for (const { lines, first } of this.steps) this.contents.apply(lines, first);
   }
 
   undo() {
@@ -194,8 +227,7 @@ export class Stream {
     if (!step) return [];
     this.undone.push(step);
     this.session.follow(this.steps.flatMap(({ lines }) => lines));
-    this.contents.begin();
-    for (const { lines, first } of this.steps) this.contents.apply(lines, first);
+    this.applyAgain();
     this.changed();
     return step.lines;
   }
@@ -213,11 +245,15 @@ export class Stream {
   /** Edits as one step, or the text `undo` or `redo`. If the stream is of another revision, nothing is done. */
   ask(lines, { revision, title = "", page } = {}) {
     if (revision !== undefined && revision !== this.revision) throw new Refused(412, { error: "the stream was changed" });
-    if (lines === "undo" || lines === "redo") return { reply: this[lines](), ...this.told(page) };
+    return this.change(() => ({ reply: lines === "undo" || lines === "redo" ? this[lines]() : this.step(lines, title), ...this.told(page) }));
+  }
+
+  /** Makes edits as one step, after which nothing can be made again. Returns the reply to the last one. */
+  step(lines, title) {
     const reply = this.makeStep(lines, title);
     this.undone = [];
     this.changed();
-    return { reply, ...this.told(page) };
+    return reply;
   }
 
   /** What is told after a change: the state, and what of the page is shown. */
@@ -238,12 +274,11 @@ export class Stream {
     const { lines, first } = move ? board.moves() : board.copies();
     const count = board.numbers.length;
     const { deleted } = board;
-    if (lines.length) {
-      this.makeStep(source === this.session.current ? lines : [`use ${source}`, ...lines], `${move ? "Move" : "Copy"} ${count} packets to ${first}`);
-      this.undone = [];
-      this.changed();
-    }
-    return { first, count, deleted, made: lines.length, ...this.told(page) };
+    const used = source === this.session.current ? lines : [`use ${source}`, ...lines];
+    return this.change(() => {
+      if (lines.length) this.step(used, `${move ? "Move" : "Copy"} ${count} packets to ${first}`);
+      return { first, count, deleted, made: lines.length, ...this.told(page) };
+    });
   }
 
   /** The line that inserts a packet that is in no stream any more: another session, with the edits up to the one after which it was there, has its bytes. */

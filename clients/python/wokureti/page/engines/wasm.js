@@ -129,26 +129,30 @@ async function open(sources) {
   own.heard("edit", own.session.changes);
 }
 
+/** A sentence about large files, which stays while they are read; or null. */
 function warnOf(files) {
   const size = files.reduce((sum, file) => sum + file.size, 0);
-  if (size > LARGE) notice(`${(size / 2 ** 30).toFixed(2)} GiB are read into the memory, and twice as much is needed while that goes on. If this tab ends, open the file with \`wokureti open\`.`, { id: "large" });
+  if (size <= LARGE) return null;
+  return notice(`${(size / 2 ** 30).toFixed(2)} GiB are read into the memory, and twice as much is needed while that goes on. If this tab ends, open the file with \`wokureti open\`.`, { id: "large", stays: true });
 }
 
 /** Opens files that were dropped or chosen, if none is open. */
 async function take(files) {
   if (own.session || !files.length) return false;
-  warnOf(files);
+  const warning = warnOf(files);
   try {
     await waited(OPENING, open(files));
   } catch (error) {
     notice(error.message, { isBad: true, id: "opened" });
+  } finally {
+    warning?.remove();
   }
   return true;
 }
 
 async function add(file) {
-  warnOf([file]);
-  const { about, ...found } = await waited(OPENING, own.main.call("add", [file])).finally(() => reading(null));
+  const warning = warnOf([file]);
+  const { about, ...found } = await waited(OPENING, own.main.call("add", [file])).finally(() => (reading(null), warning?.remove()));
   leave();
   own.sources = [...own.sources, file];
   own.about = about;

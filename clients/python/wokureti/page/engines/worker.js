@@ -60,6 +60,8 @@ const calls = {
     stream.unwritten = count;
   },
 };
+// What is answered also while the session cannot be opened again: the list of edits above all.
+const ALWAYS = new Set(["start", "open", "begin", "lines", "text", "unwritten"]);
 for (const name of ["before", "frames", "packet", "findings", "export", "coded", "measure", "exportCoded"]) calls[`beside.${name}`] = (...given) => beside[name](...given);
 
 /** Goes on with what nobody waits for. */
@@ -68,6 +70,7 @@ function goOn() {
   if (!stream || !isHeard) return;
   let isMore = false;
   try {
+    stream.whole();
     if (!stream.causes.isWhole) {
       isMore = stream.causes.goOn(PIECE);
       if (!isMore) stream.timelines = [];
@@ -106,7 +109,11 @@ function soon() {
 function reported(error) {
   if (error instanceof Refused) return { status: error.status, members: error.members };
   if (error instanceof WebAssembly.RuntimeError) {
-    stream?.restart();
+    try {
+      stream?.restart();
+    } catch {
+      // The next call tries again.
+    }
     return { status: 503, members: { error: `The engine ended at this request (${error.message}). It was started again, and all edits are there.` } };
   }
   if (error instanceof RangeError) return { status: 507, members: full().members };
@@ -121,6 +128,7 @@ function buffersOf(result) {
 
 self.onmessage = ({ data: { id, name, given } }) => {
   try {
+    if (!ALWAYS.has(name)) stream?.whole();
     const result = calls[name](...given);
     self.postMessage({ id, result }, buffersOf(result));
   } catch (error) {
