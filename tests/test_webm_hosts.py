@@ -36,7 +36,7 @@ RUST = f"""
 use std::io::Write;
 fn main() {{
     let text = std::fs::read(std::env::args().nth(1).unwrap()).unwrap();
-    let mut session = wokureti::Session::open(&[text.as_slice()], wokureti::Cache::States(4)).unwrap();
+    let mut session = wokureti::Session::from_bytes(&[text.as_slice()], wokureti::Cache::States(4)).unwrap();
     let frame = session.frame({NUMBER}).unwrap();
     for plane in [&frame.y, &frame.cb, &frame.cr] {{
         std::io::stdout().write_all(plane).unwrap();
