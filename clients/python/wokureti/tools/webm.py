@@ -218,6 +218,7 @@ class Around:
 
     def __init__(self, path, facts, item=None):
         self.path, self.facts, self.item = path, facts, item
+        self.lock, self.found_sounds = threading.Lock(), None
 
     @property
     def has_sound(self):
@@ -259,11 +260,16 @@ class Around:
     def language(self):
         return self.video.get("language", "und")
 
-    @functools.cached_property
+    @property
     def sounds(self):
+        """The tracks of sound, read once. Other threads that need them wait."""
+        with self.lock:
+            if self.found_sounds is None:
+                self.found_sounds = self.copied() if self.has_sound else []
+            return self.found_sounds
+
+    def copied(self):
         """The tracks of sound, in the folder of the input."""
-        if not self.has_sound:
-            return []
         path, shared = self.source
         found = containers.copy_tracks(path, self.probed["streams"], [], os.path.join(self.item.folder(), "sound"), shared=shared)[0]
         self.check()
