@@ -248,17 +248,17 @@ class Around:
         return containers.kept_tags(self.probed.get("format", {}).get("tags", {}))
 
     @property
-    def video(self):
-        """What ffprobe says of the video."""
+    def said_of_video(self):
+        """The tags of the video."""
         return next((one for one in self.probed["streams"] if one.get("codec_name") == "vp8"), {}).get("tags", {})
 
     @property
     def video_tags(self):
-        return containers.kept_tags(self.video)
+        return containers.kept_tags(self.said_of_video)
 
     @property
     def language(self):
-        return self.video.get("language", "und")
+        return self.said_of_video.get("language", "und")
 
     @property
     def sounds(self):
