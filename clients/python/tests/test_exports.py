@@ -454,7 +454,7 @@ class OnThePage(test_page.PageCase, EndlessCase):
     def test_a_webm_file_stays_one(self):
         source = clip("talk.webm")
         room = self.folder()
-        self.serve(convert.as_ivf(source, str(room), is_quiet=True), stems=[str(room / "talk")])
+        self.serve(convert.readable(source, str(room), is_quiet=True), stems=[str(room / "talk")])
         self.assertEqual(self.members("/session")["rate"], [25, 1])
         self.assertEqual(self.members("/session")["saves"][0]["next"], str(room / "talk-edited.webm"))
         self.step("delete 60")
@@ -469,7 +469,7 @@ class OnThePage(test_page.PageCase, EndlessCase):
     @needs_ffmpeg
     def test_frames_have_the_times_of_their_blocks(self):
         room = self.folder()
-        self.serve(convert.as_ivf(clip("varied.webm"), str(room), is_quiet=True))
+        self.serve(convert.readable(clip("varied.webm"), str(room), is_quiet=True))
         self.assertTrue(self.members("/session")["varies"])
         stamps = [stamp for stamp, _ in ivf.read_packets(media(clip("varied.webm"), room)[1])[1]]
         self.assertEqual(self.members("/times")["times"], [stamp - stamps[0] for stamp in stamps])
@@ -481,7 +481,7 @@ class OnThePage(test_page.PageCase, EndlessCase):
     @needs_ffmpeg
     def test_the_sound_of_playback_is_that_of_the_frames(self):
         room = self.folder()
-        self.serve(convert.as_ivf(clip("talk.webm"), str(room), is_quiet=True), sources=[SMALL])
+        self.serve(convert.readable(clip("talk.webm"), str(room), is_quiet=True), sources=[SMALL])
         before, packets = media(clip("talk.webm"), room)
         starts = [stamp for stamp, data in ivf.read_packets(packets)[1] if ivf.is_shown(data)]
         ours = sound_packets(before.sounds[0])

@@ -218,6 +218,7 @@ class Around:
 
     def __init__(self, path, facts, item=None):
         self.path, self.facts, self.item = path, facts, item
+        self.lock, self.found_sounds = threading.Lock(), None
 
     @property
     def has_sound(self):
@@ -247,23 +248,28 @@ class Around:
         return containers.kept_tags(self.probed.get("format", {}).get("tags", {}))
 
     @property
-    def video(self):
-        """What ffprobe says of the video."""
+    def said_of_video(self):
+        """The tags of the video."""
         return next((one for one in self.probed["streams"] if one.get("codec_name") == "vp8"), {}).get("tags", {})
 
     @property
     def video_tags(self):
-        return containers.kept_tags(self.video)
+        return containers.kept_tags(self.said_of_video)
 
     @property
     def language(self):
-        return self.video.get("language", "und")
+        return self.said_of_video.get("language", "und")
 
-    @functools.cached_property
+    @property
     def sounds(self):
+        """The tracks of sound, read once. Other threads that need them wait."""
+        with self.lock:
+            if self.found_sounds is None:
+                self.found_sounds = self.copied() if self.has_sound else []
+            return self.found_sounds
+
+    def copied(self):
         """The tracks of sound, in the folder of the input."""
-        if not self.has_sound:
-            return []
         path, shared = self.source
         found = containers.copy_tracks(path, self.probed["streams"], [], os.path.join(self.item.folder(), "sound"), shared=shared)[0]
         self.check()
