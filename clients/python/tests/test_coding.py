@@ -249,9 +249,10 @@ class Sound(Case):
     LIMIT = 120
 
     def clip(self, name, *words, source="sine=440:d=2:r=48000"):
+        """Two seconds of small pictures, 25 a second, with sound."""
         path = self.room / name
-        words = ["ffmpeg", "-nostdin", "-v", "error", "-i", CLIP, "-f", "lavfi", "-i", source, "-c:v", "copy", *words, "-shortest", path]
-        subprocess.run(words, check=True, timeout=20 * SLOW)
+        picture = ["-f", "lavfi", "-i", "testsrc=size=64x48:rate=25:duration=2", "-f", "lavfi", "-i", source, "-c:v", "libvpx", "-b:v", "100k"]
+        subprocess.run(["ffmpeg", "-nostdin", "-v", "error", *picture, *words, "-shortest", path], check=True, timeout=20 * SLOW)
         return path
 
     def setUp(self):
@@ -259,9 +260,12 @@ class Sound(Case):
         self.room = self.folder()
 
     def cut(self, clip, out, *words):
-        status, _, errors = command("cut", clip, out, "-y", "--from", "f6", "--to", "f42", "--fade-in", "f10", "--fade-out", "f12", "--psnr", "30", *words)
+        status, _, errors = command("cut", clip, out, "-y", "--from", "f6", "--to", "f42", *words)
         self.assertEqual(status, 0, errors)
         return errors
+
+    def fade(self, clip, out):
+        return self.cut(clip, out, "--fade-in", "f10", "--fade-out", "f12", "--psnr", "36", "--fade-sound")
 
     def packets(self, path):
         """The times and bytes of the packets of sound."""
@@ -301,7 +305,7 @@ class Sound(Case):
 
     def test_a_tone(self):
         clip, out, plain = self.clip("clip.webm", "-c:a", "libopus"), self.room / "out.webm", self.room / "plain.webm"
-        self.cut(clip, out, "--fade-sound")
+        self.fade(clip, out)
         self.cut(clip, plain)
         self.assertSamePackets(out, plain)
         found, whole = self.assertLevels(out, plain, 0.03)
@@ -314,7 +318,7 @@ class Sound(Case):
         voice = "aevalsrc='0.25*sin(2*PI*(140+9*sin(2*PI*3*t))*t)+0.15*sin(2*PI*420*t)+0.05*sin(4200*t)*sin(9*t):d=2:s=48000'"
         clip = self.clip("clip.webm", "-c:a", "libopus", "-b:a", "14k", "-application", "voip", source=voice)
         out, plain = self.room / "out.webm", self.room / "plain.webm"
-        self.cut(clip, out, "--fade-sound")
+        self.fade(clip, out)
         self.cut(clip, plain)
         changed = self.assertSamePackets(out, plain)
         kinds = [opus.is_silk(data) for data in self.packets(out)[1]]
@@ -325,7 +329,7 @@ class Sound(Case):
 
     def test_another_codec_is_coded_as_opus(self):
         clip, out, plain = self.clip("clip.webm", "-c:a", "libvorbis"), self.room / "out.webm", self.room / "plain.webm"
-        errors = self.cut(clip, out, "--fade-sound")
+        errors = self.fade(clip, out)
         self.assertIn("sound track 0 is coded again as Opus: it fades, and packets of vorbis are not coded here", errors)
         self.cut(clip, plain, "--sound", "encode")
         self.assertLevels(out, plain, 0.03)
