@@ -1362,6 +1362,7 @@ def not_written(browser, room, clip):
     """An edit that is not on the disk is marked, and written with the next."""
     page = Page(browser, clip, "--edits", room / "list-of-full")
     page.open()
+    browser.run("document.getElementById('timeline').focus()")
     browser.key("Delete")
     browser.wait("wokureti.model.packets === 249")
     size = (room / "list-of-full").stat().st_size

@@ -332,6 +332,7 @@ async function begin() {
   }
   if (start.scale) timeline.setView(start.from || 0, start.scale);
   if (start.zoom) programme.setView(start.left || 0, start.zoom);
+  fragment.soon();
   find("programme").focus({ focusVisible: false });
   status.say(restarts ? `vp8serve was started again ${restarts} times` : "ready");
   document.body.dataset.ready = "yes";

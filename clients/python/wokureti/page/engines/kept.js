@@ -16,7 +16,14 @@ function opened() {
   store ??= (() => {
     const request = indexedDB.open(NAME, 1);
     request.onupgradeneeded = () => request.result.createObjectStore(STORE);
-    return settled(request);
+    return settled(request).then((base) => {
+      // Whoever deletes the store need not wait for this page, which opens it again.
+      base.onversionchange = () => {
+        base.close();
+        store = null;
+      };
+      return base;
+    });
   })();
   store.catch(() => (store = null));
   return store;
