@@ -1,5 +1,5 @@
 #!/usr/bin/env python3
-"""Times the page in one file next to the page of `wokureti open` in Debian's chromium: one_file.py [TURNS]
+"""Times the page in one file next to the page of `wokureti open` in Debian's chromium: one_file.py [TURNS [CLIP-OF-640x360 CLIP-OF-1920x1080]]
 
 From a key to the next picture, from Delete to the new picture, from opening 1,048,576 packets to the drawn timeline, and playback of 1920x1080 at 8 times the speed, which is more than
 there can be. The pages take turns, each a new one; medians of 5 turns without TURNS. The page is that of WOKURETI_PAGE, or bin/wokureti.html; the programs and the library are those that
@@ -29,7 +29,7 @@ PAGE = pathlib.Path(os.environ.get("WOKURETI_PAGE") or TOP / "bin/wokureti.html"
 PACKETS, LIMIT = 1 << 20, 300
 DRAWN = "window.wokureti?.timeline?.window.count && wokureti.timeline.wholeTile()"
 CHECKED = "wokureti.findings.check && wokureti.findings.check.over"
-# From the key Delete to the picture after it, ten times, each after another packet.
+# From the key Delete to the picture after it, six times, each after another packet.
 DELETES = bench.EDITS.replace('press("d")', 'press("Delete")').replace("arguments_turns", "6")
 PLAYED = """await wokureti.model.go(0); wokureti.player.isLoop = true; await wokureti.player.play(8); await new Promise((done) => setTimeout(done, 1500));
     wokureti.player.shown = 0; const since = performance.now(); await new Promise((done) => setTimeout(done, 4000)); const { shown } = wokureti.player;
@@ -86,16 +86,15 @@ def played(browser, opened, path):
 
 
 def main():
-    turns = int(sys.argv[1]) if len(sys.argv) > 1 else 5
+    turns, clips = int((sys.argv[1:] or ["5"])[0]), sys.argv[2:4] or [clip_of("640x360", "1500k"), clip_of("1920x1080", "6M")]
     with tempfile.TemporaryDirectory() as name, Browser() as browser:
         room = pathlib.Path(name)
         pages.make_million(room / "million.ivf", PACKETS)
         small, large = room / "small.ivf", room / "large.ivf"
-        small.symlink_to(clip_of("640x360", "1500k"))
-        large.symlink_to(clip_of("1920x1080", "6M"))
+        for link, clip in zip((small, large), clips):
+            link.symlink_to(pathlib.Path(clip).resolve())
         acts = [
-            (quick, small, ("640x360: step, ms", "step back, ms", "Delete, ms", "undo, ms")),
-            (quick, large, ("1920x1080: step, ms", "step back, ms", "Delete, ms", "undo, ms")),
+            (quick, small, ("640x360: step, ms", "640x360: step back, ms", "640x360: Delete, ms", "640x360: undo, ms")),
             (drawn, room / "million.ivf", ("1,048,576 packets, timeline, s",)),
             (played, large, ("1920x1080, frames a second",)),
         ]
@@ -105,6 +104,7 @@ def main():
             for _ in range(turns):
                 for opened, times in found.items():
                     times.append(act(browser, opened, path))
+                    print(f"  {opened.__name__}: {' '.join(f'{one:.2f}' for one in times[-1])}", file=sys.stderr, flush=True)
             for place, what in enumerate(names):
                 columns = [[row[place] for row in times] for times in found.values()]
                 print(f"{what}: " + "; ".join(f"{statistics.median(column):.2f} ({min(column):.2f}, {max(column):.2f})" for column in columns), flush=True)

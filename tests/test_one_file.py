@@ -31,6 +31,7 @@ sys.dont_write_bytecode = True
 import pages  # noqa: E402
 import test_web  # noqa: E402
 from test_web import EXAMPLE, PAGE, SERVE, TOP, ran, webm  # noqa: E402
+from wokureti import Session  # noqa: E402
 from wokureti.tools import ivf  # noqa: E402
 
 CLIPS = TOP / "crates/gate_clips/data"
@@ -463,6 +464,7 @@ def in_browser(browser, folder, address):
     yield from long_lead(alone, EXAMPLE, folder)
     yield from uncoded(alone, EXAMPLE)
     yield from refused(alone, folder)
+    yield from hostile(alone, folder)
     errors = [line for line in browser.errors() if "beforeunload" not in line]
     if errors:
         yield f"{browser.name}: {errors[:3]}"
@@ -483,6 +485,52 @@ def refused(alone, folder):
             yield f"{page.browser.name}: {name}: {said!r}"
     page.drop(EXAMPLE)
     page.ready()
+
+
+# A name and a text that are an element where they are taken as HTML.
+ELEMENT = '<img src="x" onerror="window.injected = 1">'
+PUT = """await new Promise((done, failed) => {
+      const request = indexedDB.open("wokureti", 1);
+      request.onupgradeneeded = () => request.result.createObjectStore("lists");
+      request.onerror = () => failed(request.error);
+      request.onsuccess = () => {
+        const made = request.result.transaction("lists", "readwrite");
+        made.objectStore("lists").put({ text: args[0], time: 0 }, args[1]);
+        made.oncomplete = () => (request.result.close(), done());
+      };
+    })"""
+
+
+def hostile(alone, folder):
+    """Names of files, and lists that another page from the disk put into the store, have HTML: the page shows it as text."""
+    page, name = alone.page, f"{ELEMENT}.ivf"
+    (folder / name).write_bytes(EXAMPLE.read_bytes())
+    with Session(EXAMPLE) as session:
+        item = session.edits.contents().inputs.all[0]
+        first, digest = "# wokureti: edits of {} packets, {} bytes, sha256 {}\n".format(*item.extent(), item.digest()), item.digest()
+    lists = {
+        "a title": (f"{first}# step 2 {ELEMENT}\ndelete 4\nhold 2\n", ["delete 4", "hold 2"], "#edits-list"),
+        "a source": (f'{first}# source 1: 1 packets, 1 bytes, sha256 {64 * "0"}, "{ELEMENT}"\ndelete 4\n', [], "#notices"),
+        "no edit": (f"{first}{ELEMENT}\n", [], "#notices"),
+        "no stream": (ELEMENT, [], "#notices"),
+    }
+    for what, (text, edits, place) in lists.items():
+        with alone.opened(EXAMPLE):
+            pass
+        page.browser.open(alone.address)
+        page.wait("document.getElementById('welcome') && !document.getElementById('welcome').hidden")
+        page.js(PUT, text, digest)
+        page.drop(folder / name)
+        page.ready()
+        page.js("document.getElementById('tab-edits').click()")
+        page.wait("document.querySelector(args[0]).textContent.includes('<img src=')", place)
+        page.js("await wokureti.editing.step([args[0]], args[0]).catch(() => {})", ELEMENT)
+        page.select(3, 4)
+        page.press("delete")
+        found = page.js("return [document.querySelector('img[onerror], img[src=\"x\"]'), window.injected ?? null, wokureti.model.session.names, wokureti.model.session.edits]")
+        if found != [None, None, [name], [*edits, "delete 3"]]:
+            yield f"{page.browser.name}: HTML in {what}: {found}"
+        page.js("addEventListener('beforeunload', (event) => event.stopImmediatePropagation(), { capture: true })")
 
 
 @contextlib.contextmanager
