@@ -75,14 +75,15 @@ class Group(NamedTuple):
         step = next(frame for frame in reversed(opus.CELT) if length % frame == 0)
         # Nobody hears what is before the time 0.
         skipped = max(0, lead - opus.CELT[-1], lead - start) * opus_coding.RATE // NANO * self.channels
-        joins_silk = any(opus.is_silk(data) for _, data in (*self.before[-1:], *self.after[:1]))
-        best, least = None, None
-        for way in CELT + SILK * joins_silk:
-            found = [(start + number * step, data) for number, data in enumerate(self.code(given, lead, length, step, way))]
-            score = self.score(self.decoded([*self.before, *found, *self.after], "opus")[skipped:], wanted[skipped:])
-            if least is None or score < least:
-                best, least = found, score
-        return best
+        found = [self.tried(given, wanted[skipped:], step, way, skipped) for way in CELT]
+        if min(found)[0] and any(opus.is_silk(data) for _, data in (*self.before[-1:], *self.after[:1])):
+            found += [self.tried(given, wanted[skipped:], step, way, skipped) for way in SILK]
+        return min(found)[2]
+
+    def tried(self, given, wanted, step, way, skipped):
+        """How bad a way is, as `score` has it, and the packets that it makes."""
+        packets = [(self.packets[0][0] + number * step, data) for number, data in enumerate(self.code(given, step, way))]
+        return (*self.score(self.decoded([*self.before, *packets, *self.after], "opus")[skipped:], wanted), packets)
 
     def faded(self, decoder, time):
         """The samples of all packets, faded."""
@@ -105,8 +106,9 @@ class Group(NamedTuple):
     def decoded(self, packets, decoder):
         return opus_coding.decode([data for _, data in packets], self.channels, os.path.join(self.room, "faded"), decoder)
 
-    def code(self, samples, lead, length, step, way):
+    def code(self, samples, step, way):
         """Codes the samples from the first one of the group on, after a lead-in for the encoder, as packets of `step` nanoseconds."""
+        lead, length = length_of(self.before), length_of(self.packets)
         ahead = min(MOST_LEAD, lead) // step * step
         size, count = step * opus_coding.RATE // NANO, (ahead + length) // step
         # The encoder's sound comes later by its delay, so it is given later samples.
@@ -117,7 +119,7 @@ class Group(NamedTuple):
         track = opus_coding.code([given], self.channels, options, os.path.join(self.room, "faded-again"))
         delay = opus.pre_skip(track.private) * opus_coding.RATE // NANO
         if delay != way.delay:
-            return self.code(samples, lead, length, step, way._replace(delay=delay))
+            return self.code(samples, step, way._replace(delay=delay))
         packets = list(track.packets(range(len(track.sizes))))[:count]
         if len(packets) != count or any(opus.duration(data) != step for data in packets):
             raise opus_coding.Cannot("ffmpeg coded the sound of a fade in other packets than it was asked for")
