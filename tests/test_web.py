@@ -290,13 +290,12 @@ ACTS = {
 def without_memory(node):
     """Each request for memory that an act makes is refused in turn, and each answer is lost: a sentence, and edits, redo, packets and frames are as before."""
     files = [EXAMPLE, TOP / "crates/gate_clips/data/scene-cuts.ivf"]
-    # A frame has its room from before.
-    kinds = [(act, refused) for name, act in ACTS.items() for refused in ("room", "checked") if (name, refused) != ("a frame", "room")]
-    tasks = [{"files": files, "asks": BEGUN, "act": act, "refused": refused} for act, refused in kinds]
-    for task, result in zip(tasks, node.tasks(tasks)):
-        what = next(name for name, act in ACTS.items() if act is task["act"])
-        if result.get("error") or result["wrong"] or not result["turns"]:
-            yield f"{what} without memory ({task['refused']}): {str(result.get('error') or result['wrong'] or 'nothing is refused')[:900]}"
+    for what, act in ACTS.items():
+        # A frame has its room from before.
+        kinds = ("checked",) if what == "a frame" else ("room", "checked")
+        for kind, result in zip(kinds, node.tasks([{"files": files, "asks": BEGUN, "act": act, "refused": kind} for kind in kinds])):
+            if result.get("error") or result["wrong"] or not result["turns"]:
+                yield f"{what} without memory ({kind}): {str(result.get('error') or result['wrong'] or 'nothing is refused')[:900]}"
 
 
 def few_pages(node, folder):
