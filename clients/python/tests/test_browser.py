@@ -1,7 +1,6 @@
 """The page of wokureti open in chromium: what a person does there, and what is shown then."""
 
 import json
-import os
 import re
 import shutil
 import signal
@@ -58,7 +57,7 @@ class BrowserCase(PageCase):
         self.wait("document.body.dataset.ready === 'yes'")
 
     def wait(self, script):
-        return BROWSER.wait(script, seconds=float(os.environ.get("WAITS", 10)) * SLOW)
+        return BROWSER.wait(script, seconds=10 * SLOW)
 
     def js(self, script, *given):
         return BROWSER.run(script, *given)

@@ -143,7 +143,7 @@ function writeSelection() {
   const { range, selection } = model;
   const count = range ? range.end - range.first : 0;
   const mark = { begin: `In at frame ${range?.first}`, end: `Out at frame ${range?.first}` }[range?.mark];
-  find("selection-text").textContent = mark ?? (range ? `${framesText(count)}, ${range.first} to ${range.end - 1}, ${timeText(count, model.rate)}` : "");
+  find("selection-text").textContent = mark ?? (range ? `${framesText(count)} selected, ${range.first} to ${range.end - 1}, ${timeText(count, model.rate)}` : "");
   find("packets-text").textContent = selection ? `${packets(selection)} selected` : "";
 }
 
