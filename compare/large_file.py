@@ -1,7 +1,7 @@
 #!/usr/bin/env python3
 """Opens large files on the page in one file: large_file.py [MIB ..]
 
-For each size, 512, 513, 1024 and 1025 MiB without one: the seconds up to the page, the most memory of the process that has the page (VmHWM), the warning, an edit, and what saving comes to.
+For each size, 512, 513 and 1024 MiB without one: the seconds up to the page, the most memory of the process that has the page (VmHWM), the warning, an edit, and what saving comes to.
 Debian's chromium, chromium-driver and ffmpeg must be there. The page is that of WOKURETI_PAGE, or bin/wokureti.html.
 """
 
@@ -20,9 +20,9 @@ sys.path.insert(0, str(TOP / "clients/python"))
 from wokureti.tools import ivf  # noqa: E402
 
 PAGE = pathlib.Path(os.environ.get("WOKURETI_PAGE") or TOP / "bin/wokureti.html").resolve()
-SIZES, MIB, LIMIT = (512, 513, 1024, 1025), 1 << 20, 300
-# Files of more bytes are warned of, and of more are not opened. The memory of the process may be twice the file, and this.
-LARGE, MOST, MORE = 512 * MIB, 1024 * MIB, 400 * MIB
+SIZES, MIB, LIMIT = (512, 513, 1024), 1 << 20, 300
+# Files of more bytes are warned of, and those of so many are opened. The memory of the process may be twice the file, and this.
+LARGE, OPENED, MORE = 512 * MIB, 1024 * MIB, 400 * MIB
 READY = "document.body.dataset.ready === 'yes' || document.querySelector('#notices .bad span')?.textContent"
 # The warning is there while the file is read.
 WARNED = """window.warned = ""; const read = () => (window.warned ||= document.querySelector("#notices [data-id=large] span")?.textContent ?? "");
@@ -109,7 +109,7 @@ def measured(path, clip, size):
         said, warning, seconds = opened(browser, path)
         most = most_memory(browser)
         print(f"{size:,} bytes: {'opened' if said is True else said} after {seconds:.1f} s; the page's process had {most:,} bytes at most ({plain:,} before); {warning or 'no warning'}", flush=True)
-        if bool(warning) != (size > LARGE) or (said is True) != (size <= MOST):
+        if bool(warning) != (size > LARGE) or (said is not True and (size <= OPENED or "memory" not in said)):
             yield f"{size:,} bytes: {said}, {warning!r}"
         if most > 2 * size + MORE:
             yield f"{size:,} bytes: {most:,} bytes of memory"
