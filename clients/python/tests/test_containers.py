@@ -226,7 +226,7 @@ class Joins(Case):
     def test_spans_that_follow_each_other_are_one(self):
         media, other = self.media(), self.media()
         spans = [sounds.Span(media, 0, 33), sounds.Span(media, 33, 34), sounds.Span(other, 67, 33), sounds.Span(other, 90, 0), sounds.Span(None, 0, 5), sounds.Span(None, 0, 6)]
-        self.assertEqual([tuple(span[1:]) for span in sounds.joined(spans)], [(0, 67), (67, 33), (0, 11)])
+        self.assertEqual([(span.start, span.length) for span in sounds.joined(spans)], [(0, 67), (67, 33), (0, 11)])
 
     def test_tracks_that_cannot_be_copied(self):
         one, other = self.track(), self.track(private=b"OpusHead\x01\x01\x00\x02" + bytes(7))
