@@ -795,6 +795,7 @@ class Killed(BrowserCase):
         self.addCleanup(BROWSER.open, "about:blank")
         BROWSER.open(address)
         self.wait("document.body.dataset.ready === 'yes'")
+        self.js("document.getElementById('timeline').focus()")
         BROWSER.key("Delete")
         self.wait("wokureti.model.session.packets === 11")
         process.kill()
