@@ -22,6 +22,7 @@ TOP = pathlib.Path(__file__).resolve().parent.parent
 sys.dont_write_bytecode = True
 sys.path.insert(0, str(TOP))
 from release import targets  # noqa: E402
+from release.page import NAME  # noqa: E402
 from release.sources import read_names, sum_of  # noqa: E402
 
 VERSION = (TOP / "VERSION").read_text().strip()
@@ -183,8 +184,7 @@ def check_other(prefix, folder, target):
 def check_files(file, target):
     """A wheel has each program and library of its target, for this system; those for Linux need no dynamic linker. Returns what it says of its proof."""
     names, sentence = file.namelist(), ""
-    made = [one for one in target.made if VERSION != "0.14.0" or one[0] in target.files]
-    for paths in [target.places_of(name, build) for name, build in made]:
+    for paths in [target.places_of(name, build) for name, build in target.made]:
         expect(f"{paths[0]} in the wheel for {target.name}", any(f"wokureti-{VERSION}.data/{path}" in names for path in paths), True)
     for name in names:
         data = file.read(name)
@@ -198,11 +198,13 @@ def check_files(file, target):
 
 
 def check_sources(wheels):
-    """dist/SOURCES has each wheel with its digest and what is said of it, and no other file is there. (Version 0.14.0 has one wheel, of which it says nothing.)"""
+    """dist/SOURCES has each wheel and the page in one file with their digests, and what is said of each wheel, and no other file is there."""
     names = read_names()
     if not any(name.startswith("wheel for ") for name in names):
         return
-    expect("files of dist/", {path.name for path in (TOP / "dist").iterdir()}, {"SOURCES", *(path.name for path in wheels.values())})
+    page = TOP / "dist" / NAME
+    expect("files of dist/", {path.name for path in page.parent.iterdir()}, {"SOURCES", NAME, *(path.name for path in wheels.values())})
+    expect(f"the digest of {NAME}", names.get(f"page {NAME}"), sum_of(page))
     for target, path in wheels.items():
         expect(f"the wheel for {target.name}", names.get(f"wheel for {target.name}"), f"{path.name} {sum_of(path)}")
         expect(f"what dist/SOURCES says of {target.name}", names.get(f"said of {target.name}"), target.sentence)
