@@ -1,15 +1,17 @@
 #!/usr/bin/env python3
 """Uses the page of `wokureti open` in a real browser, and compares what it shows with ffmpeg and with vp8serve.
 
-    compare/page.py [--shots FOLDER | --looks FOLDER]
+    compare/page.py [--shots FOLDER | --looks FOLDER] [--only NAME,..]
 
 Debian's chromium, chromium-driver and ffmpeg must be there. With --shots only the pictures for the documents are written, to a folder; with
---looks what the tasks by keys look like is written there too.
+--looks what the tasks by keys and by mouse look like is written there too. With --only some parts run: those of PARTS at the end.
 README.md says more.
 """
 
+import argparse
 import base64
 import contextlib
+import hashlib
 import json
 import math
 import os
@@ -22,6 +24,7 @@ import sys
 import tempfile
 import time
 import urllib.request
+from typing import NamedTuple
 
 import results
 from browser import Browser
@@ -56,10 +59,11 @@ def make_clip(path, size, frames, picture="mandelbrot", group=50):
     subprocess.run([*words, "-c:v", "libvpx", "-deadline", "realtime", "-cpu-used", "8", "-b:v", "1M", "-g", str(group), "-auto-alt-ref", "0", str(path)], check=True)
 
 
-def break_packet(clip, path, place):
-    """The clip with a packet that was cut to two bytes."""
+def break_packets(clip, path, places):
+    """The clip with packets that were cut to two bytes."""
     head, packets = ivf.read_packets(clip)
-    packets[place] = (packets[place][0], packets[place][1][:2])
+    for place in places:
+        packets[place] = (packets[place][0], packets[place][1][:2])
     with open(path, "wb") as file:
         file.writelines(ivf.pieces(head, len(packets), packets))
 
@@ -387,12 +391,16 @@ def move_about(page):
     say("moving: a selection snaps to a key packet, the picture at 4:1 is dragged, the whole screen, J K L")
 
 
-def find_and_repair(page, clip, place):
-    """Finds the broken packet, previews the repairs, takes one, takes it back, and takes that of the second recording."""
+def find_and_repair(page, clip, places):
+    """Finds the broken packets, which are of two groups of pictures, previews the repairs of the first, takes one, takes it back, and takes that of the second
+    recording; then that of the other."""
     browser = page.browser
-    browser.wait("document.querySelector('#findings-list li')")
-    text = browser.run("return document.querySelector('#findings-list li').textContent")
-    expect("refused" in text and f"packet {place}" in text, f"the first finding is {text}")
+    place = places[0]
+    browser.wait("wokureti.findings.check && wokureti.findings.check.over", seconds=60)
+    texts = browser.run("return [...document.querySelectorAll('#findings-list li')].map(({ textContent }) => textContent)")
+    expect(len(texts) == len(places) and all("refused" in text and f"packet {at}" in text for text, at in zip(texts, places)), f"the findings are {texts}")
+    # Later than the findings comes the offer to repair all, which is above them.
+    browser.wait("!document.getElementById('repair-all-line').hidden && wokureti.findings.all.check === wokureti.findings.check.check", seconds=60)
     browser.click("#findings-list li .row")
     browser.wait("document.querySelectorAll('.repairs button').length > 3")
     browser.wait(f"wokureti.model.packet === {place}")
@@ -400,7 +408,6 @@ def find_and_repair(page, clip, place):
     expect(names[0].startswith("Take packet") and names[-1] == "Keep it as it is", f"the repairs are {names}")
     browser.wait("!document.getElementById('refusal').hidden")
     with Session(clip) as session:
-        wanted = session.frame(place).rgb().tobytes()
         before = session.frame(place - 1).rgb().tobytes()
     revision = browser.run("return wokureti.model.revision")
     browser.run("document.querySelectorAll('.repairs button')[1].click()")
@@ -423,17 +430,27 @@ def find_and_repair(page, clip, place):
     browser.key("Control", "z")
     # Taken, undone, made again, undone: an edit closes what was open.
     browser.wait(f"wokureti.model.revision === {revision + 4} && wokureti.findings.check && wokureti.findings.check.revision === {revision + 4}")
-    browser.wait("wokureti.findings.check && wokureti.findings.check.over && wokureti.findings.check.damage === 1 && document.querySelector('#findings-list li')")
-    browser.click("#findings-list li .row")
-    browser.wait("document.querySelectorAll('.repairs button').length > 3")
-    browser.run("document.querySelectorAll('.repairs button')[0].click()")
-    browser.wait("document.getElementById('preview-result').textContent.startsWith('no damage')")
-    expect(page.pixels()[2] == wanted, "the preview of the second recording's packet is not its picture")
-    browser.click("#preview-take")
-    browser.wait("wokureti.findings.check && wokureti.findings.check.over && wokureti.findings.check.damage === 0", seconds=30)
-    page.at(place)
-    expect(page.pixels()[2] == wanted, "the repaired picture is not that of the second recording")
-    say("findings: found, previewed, held, undone, made again, repaired with the packet of a second recording")
+    browser.wait("wokureti.findings.check && wokureti.findings.check.over && wokureti.findings.check.damage === 2 && document.querySelector('#findings-list li')")
+    take_both(page, clip, places)
+    say("findings in two groups of pictures: found, previewed, held, undone, made again, repaired with packets of a second recording")
+
+
+def take_both(page, clip, places):
+    """Takes the packet of the second recording for the first finding, and then for the one that is left."""
+    browser = page.browser
+    for left, place in zip(range(len(places) - 1, -1, -1), places):
+        with Session(clip) as session:
+            wanted = session.frame(place).rgb().tobytes()
+        browser.click("#findings-list li .row")
+        browser.wait(f"wokureti.model.packet === {place} && document.querySelectorAll('.repairs button').length > 3")
+        browser.run("document.querySelectorAll('.repairs button')[0].click()")
+        browser.wait("document.getElementById('preview-result').textContent.startsWith('no damage')")
+        page.shows(wanted, "the preview of the second recording's packet is not its picture")
+        browser.click("#preview-take")
+        browser.wait(f"wokureti.findings.check && wokureti.findings.check.over && wokureti.findings.check.damage === {left}", seconds=30)
+        page.at(place)
+        page.shows(wanted, "the repaired picture is not that of the second recording")
+    expect(browser.run("return document.getElementById('repair-all-line').hidden"), "all is repaired, and a repair of all is offered")
 
 
 def compare_views(page, clip, place):
@@ -899,11 +916,32 @@ def join_by_keys(page, first, shot):
     browser.wait("wokureti.model.frames === 250")
 
 
-def by_keyboard(browser, room, clip, broken, place, size, looks):
+def repair_by_keys(page, places, shot):
+    """Each broken packet is repaired by that of the second recording."""
+    browser = page.browser
+    for left, place in zip(range(len(places) - 1, -1, -1), places):
+        browser.key(".")
+        browser.wait(f"wokureti.model.packet === {place}")
+        tab_to(browser, "#findings-list .row")
+        browser.key("Enter")
+        browser.wait("document.querySelectorAll('.repairs button').length > 3")
+        tab_to(browser, ".repairs button")
+        shot("repairs")
+        browser.key("Enter")
+        browser.wait("document.getElementById('preview-result').textContent.startsWith('no damage')", seconds=60)
+        shot("preview")
+        tab_to(browser, "#preview-take")
+        browser.key("Enter")
+        browser.wait(f"wokureti.findings.check && wokureti.findings.check.over && wokureti.findings.check.damage === {left}", seconds=60)
+        tab_to(browser, "#timeline")
+
+
+def by_keyboard(browser, room, made, size, looks):
     """A day's tasks by keys alone: damage is found and repaired, frames are cut out, others are kept and exported, a source is joined, a shot is moved, a fade is
     made, all is saved and opened again."""
+    clip = made.clip
     stream = room / f"keys-{size[0]}.ivf"
-    stream.write_bytes(broken.read_bytes())
+    stream.write_bytes(made.broken.read_bytes())
     browser.set_size(*size)
     page = Page(browser, stream, "--source", clip)
     page.open()
@@ -914,19 +952,7 @@ def by_keyboard(browser, room, clip, broken, place, size, looks):
 
     browser.wait("wokureti.findings.check && wokureti.findings.check.over", seconds=60)
     shot("opened")
-    browser.key(".")
-    browser.wait(f"wokureti.model.packet === {place}")
-    tab_to(browser, "#findings-list .row")
-    browser.key("Enter")
-    browser.wait("document.querySelectorAll('.repairs button').length > 3")
-    tab_to(browser, ".repairs button")
-    shot("repairs")
-    browser.key("Enter")
-    browser.wait("document.getElementById('preview-result').textContent.startsWith('no damage')", seconds=60)
-    shot("preview")
-    tab_to(browser, "#preview-take")
-    browser.key("Enter")
-    browser.wait("wokureti.findings.check && wokureti.findings.check.over && wokureti.findings.check.damage === 0", seconds=60)
+    repair_by_keys(page, made.places, shot)
     # Frames 20 to 29 are cut out; a time is typed for the first of them.
     tab_to(browser, "#timeline")
     with Session(clip) as session:
@@ -1143,6 +1169,227 @@ def asides(browser, room, clip, other):
     page.quiet("asides")
     page.end()
     say("packets that no frame shows: their own pictures, of another source and without a script; two sources are compared")
+
+
+class Shown(NamedTuple):
+    """A frame that is shown: of which source and which frame of it, its weight against black, and whether it is in a fade, whose first weight may be 256."""
+
+    source: int
+    number: int
+    weight: int = 256
+    is_fade: bool = False
+
+
+class ByMouse:
+    """What a person does on the lane of shown frames, and the frames that must be shown then: in `shown`, which the page's own script is not asked for."""
+
+    def __init__(self, page, made):
+        self.page, self.browser, self.made = page, page.browser, made
+        self.shown = [Shown(0, number) for number in range(250)]
+
+    def lane(self):
+        """Left, top, bottom, and pixels a frame. All of the lane is seen."""
+        self.browser.wait(f"wokureti.model.frames === {len(self.shown)} && wokureti.programme.window.count === {len(self.shown)}")
+        left, top, bottom, scale = self.browser.run("""const canvas = document.getElementById("programme-canvas");
+            canvas.scrollIntoView({ block: "nearest" });
+            const { left, top, bottom } = canvas.getBoundingClientRect();
+            return [left, top, bottom, wokureti.programme.window.scale];""")
+        return left, top, bottom, scale
+
+    def go(self, frame):
+        """Clicks on the numbers of the lane, where edges of a selection are not pressed."""
+        left, top, _, scale = self.lane()
+        self.browser.drag([(math.floor(left + (frame + 1) * scale - 1e-6), top + 8)])
+        self.browser.wait(f"wokureti.model.frame === {frame}")
+
+    def select(self, first, last):
+        for frame, css in ((first, "#mark-in"), (last, "#mark-out")):
+            self.go(frame)
+            self.browser.click(css)
+        self.browser.wait(f"wokureti.model.range && wokureti.model.range.first === {first} && wokureti.model.range.end === {last + 1}")
+
+    def made_so(self):
+        self.browser.wait(f"wokureti.model.frames === {len(self.shown)} && wokureti.model.range === null")
+
+    def join(self, source, count):
+        self.browser.click("#frames-more")
+        self.browser.wait("document.getElementById('ask').open")
+        self.browser.run("document.querySelector('#ask select').value = args[0]", f"join {source}")
+        self.browser.click("#ask button[value=yes]")
+        self.shown += [Shown(source, number) for number in range(count)]
+        self.made_so()
+
+    def move(self, first, last, before):
+        self.select(first, last)
+        self.go(before)
+        self.browser.click("#move-here")
+        some = self.shown[first : last + 1]
+        rest = self.shown[:first] + self.shown[last + 1 :]
+        at = before if before < first else before - len(some)
+        self.shown = rest[:at] + some + rest[at:]
+        self.made_so()
+
+    def cut_out(self, first, last):
+        self.select(first, last)
+        self.browser.click("#cut-out")
+        del self.shown[first : last + 1]
+        self.made_so()
+
+    def fade(self, first, end, count, is_in):
+        """Drags the handle of a shot, from frame `first` up to `end`, so that a fade in or out has `count` frames."""
+        left, _, bottom, scale = self.lane()
+        begin, side = (left + first * scale, 1) if is_in else (left + end * scale, -1)
+        self.browser.drag([(begin + side * far, bottom - 13) for far in (4, count * scale / 2, count * scale)])
+        self.browser.wait(f"document.getElementById('status').textContent.includes('fades {'in' if is_in else 'out'} in {count} frames')")
+        at = first if is_in else end - count
+        for number in range(count):
+            weight = 256 * number // count
+            self.shown[at + number] = self.shown[at + number]._replace(weight=weight if is_in else 256 - weight, is_fade=True)
+
+    def samples(self):
+        """What must be shown, as vp8serve serves the frames of each source by itself."""
+        found = []
+        with Session(self.made.clip) as one, Session(self.made.other) as two:
+            for source, number, weight, _ in self.shown:
+                session = (one, two)[source]
+                session.script(*([] if weight == 256 else [f"fade 0 0 1 {weight} {weight}"]))
+                found.append(session.frame(number).i420())
+        return found
+
+
+def digest(samples):
+    return hashlib.sha256(samples).hexdigest()
+
+
+def served(page, count):
+    """The digest of each frame that the page's server has."""
+    found = []
+    for frame in range(count):
+        with urllib.request.urlopen(page.address.replace("/page/", f"/frames/{frame}.i420"), timeout=60) as answer:
+            found.append(digest(answer.read()))
+    return found
+
+
+def cut_by_mouse(page, made, shot):
+    """A source is joined, shots are moved, an advertisement over a join is cut out, three fades are drawn, and then ten more parts go."""
+    mouse = ByMouse(page, made)
+    mouse.join(1, 50)
+    mouse.move(250, 274, 100)
+    mouse.move(180, 219, 30)
+    shot("moved")
+    mouse.select(120, 154)
+    small_pictures(page)
+    shot("advert")
+    mouse.cut_out(120, 154)
+    # The shots are frames 0 to 29, 30 to 69, 70 to 119, 120 to 129 and 240 to 264 of both sources, and two between these.
+    page.browser.wait("document.getElementById('programme-canvas').dataset.shots === '7'")
+    mouse.fade(70, 120, 8, False)
+    mouse.fade(130, 185, 16, True)
+    mouse.fade(240, 265, 16, False)
+    shot("fades")
+    joins = 0
+    for number in range(9):
+        first = 7 + 17 * number
+        while any(frame.is_fade for frame in mouse.shown[first : first + 5]):
+            first += 1
+        joins += len({(frame.source, frame.number - place) for place, frame in enumerate(mouse.shown[first : first + 5])}) > 1
+        mouse.cut_out(first, first + 4)
+    expect(joins >= 2, f"{joins} of the cuts are over a join")
+    # The last one is inside a fade.
+    place = next(place for place, frame in enumerate(mouse.shown) if frame.weight == 48)
+    mouse.cut_out(place, place + 2)
+    small_pictures(page)
+    shot("cut")
+    return mouse
+
+
+# By how much each small picture differs from the frame of its place, as it is served now, in the mean.
+DIFFERENCES = """
+    const { thumbs } = wokureti;
+    const canvas = document.createElement("canvas");
+    [canvas.width, canvas.height] = [64, 36];
+    const context = canvas.getContext("2d", { willReadFrequently: true });
+    const samples = (picture) => {
+      context.drawImage(picture, 0, 0, 64, 36);
+      return context.getImageData(0, 0, 64, 36).data;
+    };
+    const found = [];
+    for (const { name, number, of } of thumbs.wanted) {
+      const [one, other] = [samples(thumbs.found.get(name).picture), samples((await thumbs.small(number, of)).picture)];
+      found.push(one.reduce((sum, sample, place) => sum + Math.abs(sample - other[place]), 0) / one.length);
+    }
+    return found;"""
+
+
+def small_pictures(page):
+    """The small pictures on the lane are those of the frames there, however fast the edits before were made."""
+    page.browser.wait("wokureti.thumbs.wanted.length > 3 && wokureti.thumbs.wanted.every((one) => one && wokureti.thumbs.found.get(one.name)?.picture)", seconds=60)
+    found = page.browser.run(DIFFERENCES)
+    expect(max(found) < 1, f"small pictures differ from their frames by {[round(one, 1) for one in found]}")
+
+
+def export_by_mouse(page, mouse, samples, path):
+    """The export has the frames that must be shown: those of no fade sample for sample, the others with 36 dB at least."""
+    browser = page.browser
+    changed = [frame.weight != 256 for frame in mouse.shown]
+    browser.run("window.offering = null; const make = URL.createObjectURL; URL.createObjectURL = (blob) => { window.offering = blob; return make.call(URL, blob); }")
+    browser.click("#export")
+    browser.wait("document.getElementById('ask').open", seconds=60)
+    wanted = f"{sum(changed)} of {len(changed)} frames are coded again"
+    text = browser.run("return document.querySelector('#ask .note').textContent")
+    expect(text.startswith(wanted), f"Export says {text}, not {wanted}")
+    browser.run("document.querySelector('#ask input').value = 36")
+    browser.click("#ask button[value=yes]")
+    browser.wait("document.getElementById('status').textContent.startsWith('exported ')", seconds=300)
+    text = browser.run("return document.getElementById('status').textContent")
+    expect(wanted in text, f"the export says {text}, not {wanted}")
+    path.write_bytes(base64.b64decode(browser.run("const bytes = new Uint8Array(await window.offering.arrayBuffer()); let text = ''; for (const byte of bytes) text += String.fromCharCode(byte); return btoa(text);")))
+    with Session(path) as session:
+        found = [frame.i420() for frame in session.frames()]
+    same = [one == other for one, other in zip(found, samples)]
+    wrong = [place for place, is_changed in enumerate(changed) if not is_changed and not same[place : place + 1] == [True]]
+    expect(len(found) == len(samples) and not wrong, f"{len(found)} frames are in the export; these are not those of the script: {wrong[:5]}")
+    worst = min(psnr(found[place], samples[place]) for place, is_changed in enumerate(changed) if is_changed)
+    expect(worst >= 36, f"a coded frame has {worst:.2f} dB")
+    return len(changed) - sum(changed), sum(changed), worst
+
+
+def advert(browser, room, made, size, looks):
+    """A day's task by mouse: a clip of several shots loses its advertisement, gets fades, is cut and exported; then all is opened again from the list of edits."""
+    stream = room / f"advert-{size[0]}.ivf"
+    stream.write_bytes(made.clip.read_bytes())
+    browser.set_size(*size)
+    page = Page(browser, stream, "--source", made.other)
+    page.open()
+
+    def shot(name):
+        if looks is not None:
+            (looks / f"{size[0]}x{size[1]}-{name}.png").write_bytes(browser.screenshot())
+
+    mouse = cut_by_mouse(page, made, shot)
+    samples = mouse.samples()
+    wanted = list(map(digest, samples))
+    before = served(page, len(wanted))
+    wrong = [frame for frame, (one, other) in enumerate(zip(before, wanted)) if one != other]
+    expect(not wrong and page.members("session")["frames"] == len(wanted), f"these frames are not those that were cut: {wrong[:5]}")
+    kept, coded, worst = export_by_mouse(page, mouse, samples, room / f"advert-{size[0]}-export.ivf")
+    session = page.members("session")
+    page.quiet(f"mouse, {size[0]}x{size[1]}")
+    page.end()
+    # The list of edits names the joined source.
+    page = Page(browser, stream)
+    page.open()
+    after = page.members("session")
+    expect([after[name] for name in ("edits", "script", "frames", "names")] == [session[name] for name in ("edits", "script", "frames", "names")], f"opened again, the session is {after}")
+    expect(served(page, len(wanted)) == before, "opened again, other frames are shown")
+    browser.click("#last")
+    page.at(len(wanted) - 1)
+    browser.wait("document.getElementById('programme-canvas').dataset.shots !== undefined")
+    shot("reopened")
+    page.quiet(f"mouse, {size[0]}x{size[1]}, opened again")
+    page.end()
+    browser.set_size(1440, 900)
+    say(f"by mouse, {size[0]}x{size[1]}: joined, moved, an advertisement cut out, three fades, ten cuts; {kept} frames exported as they are, {coded} coded, {worst:.1f} dB at least; opened again with the same {len(wanted)} frames")
 
 
 def along(page, clip):
@@ -1566,6 +1813,13 @@ def reachable(page):
     say(f"reachable: {named} elements with names, all by the Tab key, contrast 4.5 and more, of bars 3, dark and light")
 
 
+def take_shot(browser, path):
+    """A picture of the page in 256 colours, a third of the bytes."""
+    words = ["ffmpeg", "-v", "error", "-y", "-f", "png_pipe", "-i", "pipe:0"]
+    words += ["-vf", "split[one][two];[one]palettegen=max_colors=256[palette];[two][palette]paletteuse=dither=bayer:bayer_scale=5", "-frames:v", "1", str(path)]
+    subprocess.run(words, input=browser.screenshot(), check=True)
+
+
 def shots(browser, folder, clip, broken):
     """The pictures of the documents: the preview of a repair, in both themes, and the split."""
     folder = pathlib.Path(folder)
@@ -1583,19 +1837,19 @@ def shots(browser, folder, clip, broken):
     for is_dark, name in ((True, "page.png"), (False, "page-light.png")):
         browser.set_theme(is_dark)
         time.sleep(0.5)
-        (folder / name).write_bytes(browser.screenshot())
+        take_shot(browser, folder / name)
     browser.set_theme(True)
     browser.click("#preview-leave")
     browser.run("await wokureti.model.goPacket(24); await wokureti.editing.drop(); await wokureti.model.go(30); wokureti.viewer.choose_view('split')")
-    browser.wait("document.getElementById('picture-text').textContent.includes('PSNR') && wokureti.findings.check.over && wokureti.findings.check.damage > 1", seconds=60)
+    browser.wait("document.getElementById('picture-text').textContent.includes('PSNR') && wokureti.findings.check.over && wokureti.findings.check.damage > 2", seconds=60)
     time.sleep(0.5)
-    (folder / "page-split.png").write_bytes(browser.screenshot())
+    take_shot(browser, folder / "page-split.png")
     browser.key("Control", "z")
     browser.run("wokureti.viewer.choose_view('frame'); await wokureti.model.go(57); wokureti.macroblocks.choose('luma'); document.getElementById('tab-macroblock').click()")
     browser.wait("!document.getElementById('overlay-canvas').hidden && document.getElementById('macroblock-name').textContent !== ''")
     browser.run("wokureti.macroblocks.go(14, 8)")
     time.sleep(0.5)
-    (folder / "page-macroblocks.png").write_bytes(browser.screenshot())
+    take_shot(browser, folder / "page-macroblocks.png")
     page.end()
     cutting_shot(browser, folder, clip)
     for name in ("page.png", "page-light.png", "page-split.png", "page-macroblocks.png", "page-cut.png"):
@@ -1616,65 +1870,120 @@ def cutting_shot(browser, folder, clip):
     browser.wait("document.getElementById('programme-canvas').dataset.shots === '5' && wokureti.findings.check && wokureti.findings.check.over", seconds=60)
     browser.wait("Number(document.getElementById('programme-canvas').dataset.pictures) > 8", seconds=30)
     time.sleep(0.5)
-    (folder / "page-cut.png").write_bytes(browser.screenshot())
+    take_shot(browser, folder / "page-cut.png")
     page.end()
 
 
+def repairs_and_edits(browser, room, made, looks):
+    """A broken clip with a second recording on one page, from the first look to what is saved."""
+    clip = made.clip
+    page = Page(browser, made.broken, "--source", clip, "--save", room / "saved.ivf")
+    page.open()
+    page.quiet("opening")
+    functions(page)
+    look(page)
+    move_about(page)
+    find_and_repair(page, clip, made.places)
+    page.quiet("findings")
+    # In another group of pictures: before the edits, those of the broken ones are refused.
+    compare_views(page, clip, 120)
+    edit(page)
+    asks_once(page)
+    page.quiet("comparing and editing")
+    overlays(page, room)
+    page.quiet("overlays")
+    save_and_reload(page, room / "saved.ivf", clip)
+    along(page, clip)
+    typed(page)
+    two_tabs(page)
+    reachable(page)
+    said = page.end()
+    expect(str(made.broken.with_suffix(".edits")) in said, f"the end says {said}")
+
+
+def plays(browser, room, clip):
+    # ffmpeg draws this picture faster than the other one.
+    make_clip(room / "large.ivf", "1920x1080", 250, "testsrc2")
+    play(browser, clip, "640x360")
+    play(browser, room / "large.ivf", "1920x1080")
+
+
+class Made(NamedTuple):
+    """The clips: one, another one, and the first one with broken packets in two groups of pictures."""
+
+    clip: pathlib.Path
+    other: pathlib.Path
+    broken: pathlib.Path
+    places: tuple
+
+    @classmethod
+    def at(cls, room, size):
+        made = cls(room / "clip.ivf", room / "other.ivf", room / "broken.ivf", (93, 193))
+        make_clip(made.clip, size, 250)
+        make_clip(made.other, size, 50, "testsrc2")
+        break_packets(made.clip, made.broken, made.places)
+        return made
+
+
+def each_size(task, sizes):
+    """A part that is done in windows of several sizes."""
+
+    def part(browser, room, made, looks):
+        for size in sizes:
+            task(browser, room, made, size, looks)
+
+    return part
+
+
+# What is done with a browser, a folder, the clips, and a folder for pictures or None.
+PARTS = {
+    "colours": lambda browser, room, made, looks: colours(browser, room),
+    "repairs": repairs_and_edits,
+    "kill": lambda browser, room, made, looks: kill(browser, room, made.clip),
+    "groups": lambda browser, room, made, looks: groups(browser, room, made.clip),
+    "full": lambda browser, room, made, looks: not_written(browser, room, made.clip),
+    "sound": lambda browser, room, made, looks: sound(browser, room, made.clip),
+    "small": lambda browser, room, made, looks: small_windows(browser, room, made.clip, looks),
+    "door": lambda browser, room, made, looks: door(browser, room, made.clip),
+    "add": lambda browser, room, made, looks: add_and_crop(browser, room, made.clip, made.other),
+    "asides": lambda browser, room, made, looks: asides(browser, room, made.clip, made.other),
+    "shots": lambda browser, room, made, looks: shots_and_fades(browser, room, made.clip, made.other),
+    "advert": each_size(advert, ((1280, 800), (390, 844))),
+    "keys": each_size(by_keyboard, ((1440, 900), (390, 844))),
+    "million": lambda browser, room, made, looks: million(browser, room),
+    "play": lambda browser, room, made, looks: plays(browser, room, made.clip),
+}
+
+
+def arguments():
+    parser = argparse.ArgumentParser(description=__doc__.split("\n")[0])
+    folder = parser.add_mutually_exclusive_group()
+    folder.add_argument("--shots", metavar="FOLDER", type=pathlib.Path)
+    folder.add_argument("--looks", metavar="FOLDER", type=pathlib.Path)
+    parser.add_argument("--only", metavar="NAME,..", type=lambda text: text.split(","), default=list(PARTS), help=", ".join(PARTS))
+    given = parser.parse_args()
+    for name in set(given.only) - set(PARTS):
+        parser.error(f"there is no part {name}")
+    return given
+
+
 def main():
-    folder = sys.argv[2] if sys.argv[1:2] == ["--shots"] and len(sys.argv) == 3 else None
-    looks = pathlib.Path(sys.argv[2]) if sys.argv[1:2] == ["--looks"] and len(sys.argv) == 3 else None
+    given = arguments()
     with tempfile.TemporaryDirectory() as name, Browser() as browser, contextlib.ExitStack() as ends:
         ends.callback(end_all)
         room = pathlib.Path(name)
         say(f"chromium {browser.version}, vp8serve {subprocess.run([programs.find('vp8serve'), '--version'], capture_output=True, text=True, check=True).stdout.split()[1]}")
-        clip, broken, place = room / "clip.ivf", room / "broken.ivf", 93
-        make_clip(clip, "480x270" if folder else "640x360", 250)
-        other = room / "other.ivf"
-        make_clip(other, "480x270" if folder else "640x360", 50, "testsrc2")
-        break_packet(clip, broken, place)
-        if folder:
-            shots(browser, folder, clip, broken)
+        made = Made.at(room, "480x270" if given.shots else "640x360")
+        if given.shots:
+            shots(browser, given.shots, made.clip, made.broken)
             return 1 if faults else 0
-        colours(browser, room)
-        page = Page(browser, broken, "--source", clip, "--save", room / "saved.ivf")
-        page.open()
-        page.quiet("opening")
-        functions(page)
-        look(page)
-        move_about(page)
-        find_and_repair(page, clip, place)
-        page.quiet("findings")
-        # In another group of pictures: before the edits, those of the first one are refused.
-        compare_views(page, clip, 120)
-        edit(page)
-        asks_once(page)
-        page.quiet("comparing and editing")
-        overlays(page, room)
-        page.quiet("overlays")
-        save_and_reload(page, room / "saved.ivf", clip)
-        along(page, clip)
-        typed(page)
-        two_tabs(page)
-        reachable(page)
-        said = page.end()
-        kill(browser, room, clip)
-        groups(browser, room, clip)
-        not_written(browser, room, clip)
-        sound(browser, room, clip)
-        small_windows(browser, room, clip, looks)
-        door(browser, room, clip)
-        add_and_crop(browser, room, clip, other)
-        asides(browser, room, clip, other)
-        shots_and_fades(browser, room, clip, other)
-        for size in ((1440, 900), (390, 844)):
-            by_keyboard(browser, room, clip, broken, place, size, looks)
-        expect(str(broken.with_suffix(".edits")) in said, f"the end says {said}")
-        million(browser, room)
-        # ffmpeg draws this picture faster than the other one.
-        make_clip(room / "large.ivf", "1920x1080", 250, "testsrc2")
-        play(browser, clip, "640x360")
-        play(browser, room / "large.ivf", "1920x1080")
-    results.total(f"{len(faults)} faults", faults)
+        for part in PARTS:
+            if part in given.only:
+                PARTS[part](browser, room, made, given.looks)
+    if given.only == list(PARTS):
+        results.total(f"{len(faults)} faults", faults)
+    else:
+        say(f"{', '.join(given.only)}: {len(faults)} faults")
     return 1 if faults else 0
 
 

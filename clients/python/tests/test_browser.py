@@ -438,6 +438,35 @@ class Programme(BrowserCase):
         for name, number in self.js("return wokureti.thumbs.wanted.map((one) => [one.frame, one.number])"):
             self.assertEqual(self.shown()[number], (0, name))
 
+    def test_a_picture_that_comes_after_an_edit_is_of_no_other_frame(self):
+        """The script moves frames while a small picture is fetched by the number of its frame."""
+        self.open(SCENES)
+        self.js("""const { engine } = await import(new URL("engine.js", document.baseURI));
+            const [real, { thumbs, programme }] = [engine.frames, wokureti];
+            const gate = new Promise((open) => (window.open_gate = open));
+            engine.frames = async (list, given) => {
+              if (given?.low) {
+                window.held = list[0];
+                await gate;
+              }
+              return real(list, given);
+            };
+            thumbs.found.clear();
+            thumbs.key = "";
+            programme.redraw();""")
+        self.wait("window.held === 0 || window.held > 0")
+        self.step("script parts 0 20 10 0 0 20")
+        self.wait("wokureti.model.frames === 30 && wokureti.programme.window.count === 30")
+        self.js("window.open_gate()")
+        self.wait("wokureti.thumbs.wanted.length > 3 && wokureti.thumbs.wanted.every((one) => one && wokureti.thumbs.found.get(one.name)?.picture)")
+        wrong = self.js("""const [context, wrong] = [new OffscreenCanvas(8, 8).getContext("2d"), []];
+            const samples = (picture) => { context.drawImage(picture, 0, 0, 8, 8); return [...context.getImageData(0, 0, 8, 8).data].join(); };
+            for (const { name, number, of } of wokureti.thumbs.wanted) {
+              if (samples(wokureti.thumbs.found.get(name).picture) !== samples((await wokureti.thumbs.small(number, of)).picture)) wrong.push(number);
+            }
+            return wrong;""")
+        self.assertEqual(wrong, [])
+
 
 class Requests(BrowserCase):
     """What a click asks of the server."""

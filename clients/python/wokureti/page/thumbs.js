@@ -43,6 +43,8 @@ export class Thumbs {
     // For each name the picture, or null if it is refused, and the packets that it is of.
     this.found = new Map();
     [this.wanted, this.shown] = [[], []];
+    // The revision whose frames the wanted pictures are of.
+    this.revision = null;
     // The packets that were shown last, and whether a picture from near its place will do: packets were edited, and pictures are fetched again soon.
     this.packets = null;
     this.isLoose = false;
@@ -69,6 +71,9 @@ export class Thumbs {
     // The lanes are drawn again when packets are here, and when playback ends.
     if (keys === undefined || model.isPlaying) return;
     this.key = key;
+    // What was refused may be there now.
+    if (this.revision !== model.revision) for (const [name, { picture }] of this.found) if (!picture) this.found.delete(name);
+    this.revision = model.revision;
     const packets = packetsOf(model.session);
     this.isLoose = this.isLoose || (this.packets !== null && packets !== this.packets);
     this.packets = packets;
@@ -94,11 +99,18 @@ export class Thumbs {
   }
 
   async fetch(key) {
-    const { packets } = this;
+    const { packets, revision } = this;
     for (const one of this.wanted) {
       if (key !== this.key) return;
       if (!one || this.found.has(one.name)) continue;
-      this.found.set(one.name, { picture: await this.small(one.number, one.of), packets });
+      const { picture, of } = await this.small(one.number, one.of);
+      // The stream was changed meanwhile, and its frames have other numbers: the answer may be before the news.
+      if ((of ?? this.model.revision) !== revision) {
+        this.key = "";
+        this.programme.redraw();
+        return;
+      }
+      this.found.set(one.name, { picture, packets });
       this.trim();
       this.programme.redraw();
     }
@@ -128,15 +140,16 @@ export class Thumbs {
     return key ? { name: `${key.name} ${looks}`, number: key.packet, of: { packets: source } } : null;
   }
 
-  /** A small picture, or null if it is refused. */
+  /** A small picture, or null if it is refused; and of which revision a frame is, of a packet nothing. */
   async small(number, of) {
     try {
       const [frame] = await engine.frames([number], { of, low: true });
       const { width, height } = frame;
       const data = new ImageData(new Uint8ClampedArray(toColour(frame).buffer), width, height);
-      return await createImageBitmap(data, { resizeHeight: 64 * Math.ceil(devicePixelRatio || 1), resizeQuality: "medium" });
+      const picture = await createImageBitmap(data, { resizeHeight: 64 * Math.ceil(devicePixelRatio || 1), resizeQuality: "medium" });
+      return { picture, of: of ? undefined : frame.revision };
     } catch {
-      return null;
+      return { picture: null };
     }
   }
 
