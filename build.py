@@ -1,25 +1,33 @@
 #!/usr/bin/env python3
-"""Proves and builds vp8serve and vp8list: build.py [--cpu x86-64-v2|x86-64-v3] [--ready | --verify | --dist | --library | --web | --arm | --windows | --macos | --wasi | --others]
+"""Proves and builds vp8serve and vp8list: build.py [--cpu x86-64-v2|x86-64-v3] [--ready | --verify | --dist | --library
+| --web | --arm | --windows | --macos | --wasi | --others]
 
-Without an option it proves the crates that the two programs need, builds both for this processor, and puts them into bin/, next to
-bin/wokureti, which starts the Python client. It works on a copy of these crates outside the checkout, so it can be interrupted: what was
-proved by then is kept. If nothing has changed since the last time, it does nothing.
+Without an option it proves the crates that the two programs need, builds both for this processor, and puts them into
+bin/, next to bin/wokureti, which starts the Python client. It works on a copy of these crates outside the checkout, so
+it can be interrupted: what was proved by then is kept. If nothing has changed since the last time, it does nothing.
 
-  --ready   puts the programs and the library of dist/ into bin/, if no newer ones are there, and says which ones bin/ has; only without dist/ it builds.
-            Its messages name SCRIPT, which called it
-  --verify  builds both programs and the library for all processors of dist/, and compares them with dist/ byte for byte, if dist/ is of these sources.
+  --ready   puts the programs and the library of dist/ into bin/, if no newer ones are there, and says which ones bin/
+            has; only without dist/ it builds. Its messages name SCRIPT, which called it
+  --verify  builds both programs and the library for all processors of dist/, and compares them with dist/ byte for
+  byte, if dist/ is of these sources.
             With --built they are taken from crates/, where `rt ci` has proved them
-  --dist    the same, and packs them with the client into a new dist/ with a wheel for each system and the page in one file, if VERSION is new
-  --library builds the C library into bin/: libwokureti.so.0, libwokureti.a, wokureti.h and files for pkg-config and CMake. --built as above
-  --web     builds the page that needs no server, bin/wokureti.html: the library's LLVM module, compiled for WebAssembly, outside the verdict. --built as above
+  --dist    the same, and packs them with the client into a new dist/ with a wheel for each system and the page in one
+            file, if VERSION is new
+  --library builds the C library into bin/: libwokureti.so.0, libwokureti.a, wokureti.h and files for pkg-config and
+  CMake. --built as above
+  --web     builds the page that needs no server, bin/wokureti.html: the library's LLVM module, compiled for
+            WebAssembly, outside the verdict. --built as above
   --arm     proves and builds the programs and the C library for Linux on ARM into bin/arm. --built as above
-  --windows compiles the LLVM modules of the programs and of the library for Windows into bin/windows, outside the verdict. --built as above
+  --windows compiles the LLVM modules of the programs and of the library for Windows into bin/windows, outside the
+  verdict. --built as above
   --macos   the same for macOS, as assembly, into bin/macos; nobody has run it
-  --wasi    the same for WASI, the programs only, into bin/wasi: tests/targets.py compares them with the native ones
+  --wasi    the same for WASI, the programs only, into bin/wasi: tests/install/targets.py compares them with the native
+            ones
   --others  builds for ARM and for Windows, if the compilers are here, and names those that it skips
 
-Python 3.9 and its standard library suffice for --ready; the others need the Rattle kit, --verify, --dist and --library gcc too, and the first two of them the C
-library's libc.a. --arm needs gcc-aarch64-linux-gnu, --windows gcc-mingw-w64-x86-64, --wasi wasi-libc.
+Python 3.9 and its standard library suffice for --ready; the others need the Rattle kit, --verify, --dist and --library
+gcc too, and the first two of them the C library's libc.a. --arm needs gcc-aarch64-linux-gnu, --windows
+gcc-mingw-w64-x86-64, --wasi wasi-libc.
 """
 
 import argparse
@@ -37,7 +45,21 @@ import tempfile
 
 sys.dont_write_bytecode = True
 from release import proving, targets, wheel  # noqa: E402
-from release.sources import CPUS, DIST, PROGRAMS, TOP, Failed, digest, kit, kit_here, needed, read_names, sum_of, version, write_names  # noqa: E402
+from release.sources import (
+    CPUS,
+    DIST,
+    PROGRAMS,
+    TOP,
+    Failed,
+    digest,
+    kit,
+    kit_here,
+    needed,
+    read_names,
+    sum_of,
+    version,
+    write_names,
+)  # noqa: E402
 
 BIN = TOP / "bin"
 # Options that build for another system: a module of release/ has the name of each.
@@ -66,7 +88,9 @@ def processor(given):
     """The processor that programs in bin/ are for: the one that was asked for, or v3 if this machine has it."""
     here = targets.here()
     if here not in (targets.X86_64, targets.ARM):
-        raise Failed(f"the programs are for {targets.X86_64.name} and {targets.ARM.name}; README.md has a table of all systems")
+        raise Failed(
+            f"the programs are for {targets.X86_64.name} and {targets.ARM.name}; README.md has a table of all systems"
+        )
     if given:
         if given not in here.builds:
             raise Failed(f"the processor is {given}, but must be {' or '.join(here.builds)}")
@@ -78,7 +102,9 @@ def processor(given):
 
 
 def in_bin():
-    """What is known of the programs in bin/: their sources, processor, version and origin; nothing if one is missing."""
+    """What is known of the programs in bin/: their sources, processor, version and origin; nothing if one is
+    missing.
+    """
     is_whole = all((BIN / name).is_file() for name in (*PROGRAMS, "wokureti"))
     return read_names(STAMP) if is_whole else {}
 
@@ -98,7 +124,9 @@ def place(files, cpu, names):
 def check_kit():
     """Any kit of the same logic will do: it proves the same statements."""
     if targets.here() is not targets.X86_64:
-        raise Failed(f"the Rattle kit is for {targets.X86_64.name}, and builds the programs for {targets.ARM.name} there")
+        raise Failed(
+            f"the Rattle kit is for {targets.X86_64.name}, and builds the programs for {targets.ARM.name} there"
+        )
     if shutil.which("rt") is None:
         raise Failed("building needs the command rt of the Rattle kit on the PATH")
     shown = kit_here()
@@ -154,7 +182,11 @@ def ready(cpu):
         if not dist and not there:
             return build(cpu)
         is_newer = dist and dist["sources"] == sources
-        if is_newer or not there or (there["origin"] == "dist" and (there["version"], there["processor"]) != (dist.get("version"), cpu)):
+        if (
+            is_newer
+            or not there
+            or (there["origin"] == "dist" and (there["version"], there["processor"]) != (dist.get("version"), cpu))
+        ):
             target = targets.of_build(cpu)
             if f"program {target.programs[0]} for {cpu}" not in dist:
                 raise Failed(f"dist/ has no programs for {target.name}, {cpu}")
@@ -166,21 +198,30 @@ def ready(cpu):
     caution = targets.of_build(there["processor"] if "processor" in there else cpu).caution
     line = f"wokureti {there['version']} {how} {there['date']}" + (f", {caution}" if caution else "")
     if there["sources"] == sources:
-        say(f"{line} (./build.py proves and builds it anew)" if there["origin"] == "dist" else line)
+        say(f"{line} (./build.py proves and builds it again)" if there["origin"] == "dist" else line)
     else:
-        say(f"{line}; the sources were changed since: ./build.py proves and builds them" + ("" if shutil.which("rt") else ", which needs the Rattle kit"))
+        say(
+            f"{line}; the sources were changed since: ./build.py proves and builds them"
+            + ("" if shutil.which("rt") else ", which needs the Rattle kit")
+        )
     return None
 
 
 def sdk_of(target, dist):
-    """What a compiler needs of the library of dist/, for bin/: the archive, the header and the files of pkg-config and CMake; nothing if dist/ has none."""
+    """What a compiler needs of the library of dist/, for bin/: the archive, the header and the files of pkg-config and
+    CMake; nothing if dist/ has none.
+    """
     from release import library, sdk
 
     build = target.builds[0]
     if f"{sdk.ARCHIVE} for {build}" not in dist:
         return {}
     texts = {name: text.encode() for name, text in sdk.texts("", dist["version"]).items()}
-    return {sdk.ARCHIVE: wheel.program(dist["version"], sdk.ARCHIVE, build), library.HEADER.name: library.HEADER.read_bytes(), **texts}
+    return {
+        sdk.ARCHIVE: wheel.program(dist["version"], sdk.ARCHIVE, build),
+        library.HEADER.name: library.HEADER.read_bytes(),
+        **texts,
+    }
 
 
 def link_all(objects, folder):
@@ -195,7 +236,9 @@ def link_all(objects, folder):
 
 
 class Built:
-    """Whether rt ci has proved the crates here, and the folder for what is built of them, which the next call may be given too."""
+    """Whether rt ci has proved the crates here, and the folder for what is built of them, which the next call may be
+    given too.
+    """
 
     is_there, folder = False, None
 
@@ -216,7 +259,9 @@ def room_to_build():
 
 @contextlib.contextmanager
 def objects_of():
-    """The object files of both programs for both processors, as the proofs build them, and a folder for what is linked of them."""
+    """The object files of both programs for both processors, as the proofs build them, and a folder for what is linked
+    of them.
+    """
     with room_to_build() as room:
         yield (proving.build_in if Built.is_there else proving.build)(needed(), room, CPUS, say), room
 
@@ -232,7 +277,9 @@ def make_library(cpu):
 
 
 def make_web(cpu):
-    """Builds the page without a server. It is the same for each processor, and is made of the module of the library for this one."""
+    """Builds the page without a server. It is the same for each processor, and is made of the module of the library for
+    this one.
+    """
     from release import web
 
     check_kit()
@@ -269,7 +316,13 @@ def names_of(sources, objects, programs, libraries):
     """The lines of dist/SOURCES for the programs and libraries that are built."""
     from release import library
 
-    names = {"version": version(), "date": today(), "sources": sources, "kit": kit_here(), "sources of the library": digest(needed((library.CRATE,)))}
+    names = {
+        "version": version(),
+        "date": today(),
+        "sources": sources,
+        "kit": kit_here(),
+        "sources of the library": digest(needed((library.CRATE,))),
+    }
     for (name, cpu), path in objects.items():
         names[f"object file of {name} for {cpu}"] = sum_of(path)
     for (name, cpu), path in {**programs, **libraries}.items():
@@ -290,7 +343,11 @@ def check_wheels(dist):
             raise Failed(f"dist/{file} is not the {name} of dist/SOURCES")
     if PAGE in dist and (not (DIST / PAGE_FILE).is_file() or sum_of(DIST / PAGE_FILE) != dist[PAGE]):
         raise Failed(f"dist/{PAGE_FILE} is not the page of dist/SOURCES")
-    others = {path.name for path in DIST.iterdir()} - {file for file, _ in wheels.values()} - {"SOURCES", *([PAGE_FILE] if PAGE in dist else [])}
+    others = (
+        {path.name for path in DIST.iterdir()}
+        - {file for file, _ in wheels.values()}
+        - {"SOURCES", *([PAGE_FILE] if PAGE in dist else [])}
+    )
     if wheels and others:
         raise Failed(f"dist/ has files that dist/SOURCES does not name: {', '.join(sorted(others))}")
     for target in targets.SHIPPED:
@@ -314,7 +371,10 @@ def verify_here(dist, objects, room):
         if sum_of(objects[name, cpu]) != dist[f"object file of {name} for {cpu}"]:
             raise Failed(f"the object file of {name} for {cpu} is not the one of dist/")
     if linked.c_library() != dist["C library"]:
-        return "the four object files are those of dist/; the programs and the library are not linked again, since this machine's C library is another one"
+        return (
+            "the four object files are the ones of dist/; the programs and the library are not linked again, since this"
+            " machine's C library is another one"
+        )
     compare(link_all(objects, room), dist)
     compare(library.shared(room, CPUS, Built.is_there, say), dist)
     return ""
@@ -327,7 +387,10 @@ def verify_other(target, builder, dist, room):
     if name_of(target.programs[0], target.builds[0]) not in dist:
         return f"dist/ has nothing for {target.name}"
     if sources(builder) != dist[f"sources for {target.builds[0]}"]:
-        return f"what dist/ has for {target.name} is of an earlier state of version {dist['version']}, so it is not compared"
+        return (
+            f"what dist/ has for {target.name} is of an earlier state of version {dist['version']}, so it is not"
+            " compared"
+        )
     if builder.missing():
         return f"what dist/ has for {target.name} is not compared: {builder.missing()}"
     if builder.linker() != dist[f"C library for {target.builds[0]}"]:
@@ -343,14 +406,21 @@ def verify():
 
     dist, sources = read_names(), digest(needed())
     if dist.get("version") != version():
-        raise Failed(f"VERSION is {version()}, and dist/ has {dist.get('version', 'nothing')}: ./build.py --dist makes a new one")
+        raise Failed(
+            f"VERSION is {version()}, and dist/ has {dist.get('version', 'nothing')}: ./build.py --dist makes a new one"
+        )
     if dist["sources"] != sources or dist.get("sources of the library") != digest(needed((library.CRATE,))):
-        say(f"dist/ is of an earlier state of version {dist['version']}: its sources are others, so nothing is compared")
+        say(
+            f"dist/ is of an earlier state of version {dist['version']}: its sources are others, so nothing is compared"
+        )
         return 0
     check_wheels(dist)
     check_kit()
     if dist["kit"] != kit_here():
-        say(f"dist/ was built with {dist['kit']}, and this machine has {kit_here()}: nothing is compared, since another compiler may make other bytes")
+        say(
+            f"dist/ was built with {dist['kit']}, and this machine has {kit_here()}: nothing is compared, since another"
+            " compiler may make other bytes"
+        )
         return 0
     with objects_of() as (objects, room):
         left = {targets.X86_64: verify_here(dist, objects, room)}
@@ -362,7 +432,10 @@ def verify():
         say(f"dist/{PAGE_FILE} is, byte for byte, what the sources build, outside the verdict")
     whole = [target.name for target, text in left.items() if not text]
     if whole:
-        say(f"the programs and libraries of dist/ for {' and '.join(whole)} are, byte for byte, what the proved sources build")
+        say(
+            f"the programs and libraries of dist/ for {' and '.join(whole)} are, byte for byte, what the proved sources"
+            " build"
+        )
     return 0
 
 
@@ -376,7 +449,10 @@ def made_for_all(objects, room):
     made = {targets.X86_64: {**programs, **libraries}}
     for target, builder in with_wheels().items():
         made[target] = builder.programs(room, Built.is_there, say)[0]
-        names |= {f"sources for {target.builds[0]}": sources(builder), f"C library for {target.builds[0]}": builder.linker()}
+        names |= {
+            f"sources for {target.builds[0]}": sources(builder),
+            f"C library for {target.builds[0]}": builder.linker(),
+        }
         names |= {name_of(name, cpu): sum_of(path) for (name, cpu), path in made[target].items()}
     return made, names
 
@@ -396,7 +472,12 @@ def make_dist():
     check_kit()
     with objects_of() as (objects, room):
         made, names = made_for_all(objects, room)
-        texts = {name: subprocess.run([made[targets.X86_64][name, CPUS[0]], "--help"], capture_output=True, text=True, check=True).stdout for name in PROGRAMS}
+        texts = {
+            name: subprocess.run(
+                [made[targets.X86_64][name, CPUS[0]], "--help"], capture_output=True, text=True, check=True
+            ).stdout
+            for name in PROGRAMS
+        }
         data, of_page = made_page(room)
         pack(made, {**names, **of_page}, manuals.files(texts, version(), today()), data)
     return 0
@@ -436,7 +517,9 @@ def make_for(builder):
 
 
 def make_others():
-    """Builds for each other system whose compiler is here. What an earlier run built for those without one is removed: it may be of other sources."""
+    """Builds for each other system whose compiler is here. What an earlier run built for those without one is removed:
+    it may be of other sources.
+    """
     from release.others import BUILDERS
 
     for target, builder in BUILDERS.items():
@@ -452,8 +535,15 @@ def main():
     parser = argparse.ArgumentParser(description=__doc__, formatter_class=argparse.RawDescriptionHelpFormatter)
     cpus = "x86-64-v2 or x86-64-v3, or aarch64 on such a machine; also the variable WOKURETI_CPU"
     parser.add_argument("--cpu", default=os.environ.get("WOKURETI_CPU", ""), metavar="NAME", help=cpus)
-    parser.add_argument("--built", action="store_true", help="with all others but --ready: rt ci has proved the crates here")
-    parser.add_argument("--room", type=pathlib.Path, metavar="DIR", help="with --built: keeps what is built in this folder, and takes from it what an earlier call built there")
+    parser.add_argument(
+        "--built", action="store_true", help="with all others but --ready: rt ci has proved the crates here"
+    )
+    parser.add_argument(
+        "--room",
+        type=pathlib.Path,
+        metavar="DIR",
+        help="with --built: keeps what is built in this folder, and takes from it what an earlier call built there",
+    )
     what = parser.add_mutually_exclusive_group()
     what.add_argument("--ready", nargs="?", const="build.py", metavar="SCRIPT")
     what.add_argument("--verify", action="store_true")
@@ -485,7 +575,7 @@ def main():
         say(failed)
         return 1
     except KeyboardInterrupt:
-        say("interrupted; the next run goes on from here")
+        say("interrupted; the next run continues from here")
         return 130
     except OSError as error:
         say(f"nothing was built: {error}")

@@ -1,6 +1,6 @@
 #!/bin/sh
 # Serves a stream with the programs of this repository: serve.sh [IN] [REQUESTS] [OUT], as in vp8serve --help.
-# Ready programs are in dist/: it puts them into bin/, and says which ones it starts. ./build.py proves and builds them anew.
+# Ready programs are in dist/: it puts them into bin/, and says which ones it starts. ./build.py proves and builds them again.
 # WOKURETI_CPU=x86-64-v2 or x86-64-v3 names the processor that they are for; on ARM there is one build.
 set -eu
 top=$(cd "$(dirname "$0")" && pwd)

@@ -1,13 +1,17 @@
 #!/usr/bin/env python3
 """Processor time of the gate, by part.
 
-    parts.py run FILE NAME COMMAND ..    runs a command, and adds what its processes took to FILE, in seconds: each of PARTS that rt starts, and the rest as NAME
-    parts.py last FILE NAME COMMAND ..   the same; before the last line of the command it prints the minutes of each part and of all, and it ends with 1 if a run from
-                                         nothing took more than docs/proofs.md allows and GATE_QUIET=1 says that nothing else ran on the machine
+    parts.py run FILE NAME COMMAND ..    runs a command, and adds what its processes took to FILE, in seconds: each of
+                                         PARTS that rt starts, and the rest as NAME
+    parts.py last FILE NAME COMMAND ..   the same; before the last line of the command it prints the minutes of each
+                                         part and of all, and it ends with 1 if a run from nothing took more than
+                                         docs/design/proofs.md allows and GATE_QUIET=1 says that nothing else ran on the
+                                         machine
 
-Next to other work, also that of another virtual machine, the same check takes up to twice the processor time: so without GATE_QUIET the limit is only reported.
-rt does not say how long a check takes. So twice a second the processes below it are read from /proc, with what they had of the processor by then: the last half
-second of each is counted as the rest. All together is exact.
+Next to other work, also that of another virtual machine, the same check takes up to twice the processor time: so
+without GATE_QUIET the limit is only reported. rt does not say how long a check takes. So twice a second the processes
+below it are read from /proc, with what they had of the processor by then: the last half second of each is counted as
+the rest. All together is exact.
 """
 
 import json
@@ -19,7 +23,7 @@ import subprocess
 import sys
 import threading
 
-PROOFS = pathlib.Path(__file__).resolve().parent.parent / "docs/proofs.md"
+PROOFS = pathlib.Path(__file__).resolve().parent.parent / "docs/design/proofs.md"
 PARTS = ("proofs", "wrong bodies", "tests", "programs for x86-64-v2")
 LIMIT = re.compile(r'fails above (\d+) minutes\s+of\s+processor\s+time\s+on\s+(\d+)\s+processors\s+"([^"]+)"')
 ANEW = "every proof and must-fail edit was done in this run"
@@ -31,7 +35,12 @@ def processes():
     found = {}
     for name in filter(str.isdigit, os.listdir("/proc")):
         try:
-            fields = pathlib.Path("/proc", name, "stat").read_text(encoding="utf-8", errors="replace").rpartition(")")[2].split()
+            fields = (
+                pathlib.Path("/proc", name, "stat")
+                .read_text(encoding="utf-8", errors="replace")
+                .rpartition(")")[2]
+                .split()
+            )
         except OSError:
             continue
         found[int(name)] = int(fields[1]), fields[19], sum(map(int, fields[11:15])) / TICKS
@@ -78,7 +87,9 @@ class Sampler:
 
 
 def run(file, name, words, holds=False):
-    """Runs a command, passes its output on, and adds the parts to the file. Returns its exit status, and its last line if `holds`, which is not passed on then."""
+    """Runs a command, passes its output on, and adds the parts to the file. Returns its exit status, and its last line
+    if `holds`, which is not passed on then.
+    """
     with subprocess.Popen(words, stdout=subprocess.PIPE) as child:
         sampler, ended = Sampler(child.pid), threading.Event()
 
@@ -122,7 +133,13 @@ def tell(file, proofs=PROOFS, here=None):
     most, count, model = LIMIT.search(pathlib.Path(proofs).read_text(encoding="utf-8")).groups()
     if any(one["anew"] for one in runs) and (here or machine()) == (int(count), model) and minutes > int(most):
         is_quiet = os.environ.get("GATE_QUIET") == "1"
-        print(f"gate: {'FAILED: ' if is_quiet else ''}a run from nothing took more than {most} minutes of processor time on this machine", flush=True)
+        print(
+            (
+                f"gate: {'FAILED: ' if is_quiet else ''}a run from nothing took more than {most} minutes of processor"
+                " time on this machine"
+            ),
+            flush=True,
+        )
         return int(is_quiet)
     return 0
 

@@ -1,10 +1,12 @@
 #!/usr/bin/env python3
-"""Times frames in order, in random order and after an edit: by the library in Python, by PyAV and by OpenCV. access.py CLIP [FRAMES [TURNS]]
+"""Times frames in order, in random order and after an edit: by the library in Python, by PyAV and by OpenCV. access.py
+CLIP [FRAMES [TURNS]]
 
-A random frame is exact: PyAV seeks to the key frame before it and decodes up to its time stamp; OpenCV is asked for the number. After an edit (the
-picture is held for a frame more, 10 packets before the frame) the library is asked for the frame, and the others open the edited file again. It prints frames a
-second, medians of TURNS turns (3) over FRAMES frames (60), and how many frames of the others are not those of the library.
-Debian's python3-av and python3-opencv must be there: run it with /usr/bin/python3.
+A random frame is exact: PyAV seeks to the key frame before it and decodes up to its time stamp; OpenCV is asked for the
+number. After an edit (the picture is held for a frame more, 10 packets before the frame) the library is asked for the
+frame, and the others open the edited file again. It prints frames a second, medians of TURNS turns (3) over FRAMES
+frames (60), and how many frames of the others are not those of the library. Debian's python3-av and python3-opencv must
+be there: run it with /usr/bin/python3.
 """
 
 import pathlib
@@ -107,7 +109,9 @@ def timed(call):
 
 
 def turn(kind, path, count, numbers, edits):
-    """Frames a second in order, in random order and after edits, and those frames. `edits` has the packet, the frame and the edited file of each."""
+    """Frames a second in order, in random order and after edits, and those frames. `edits` has the packet, the frame
+    and the edited file of each.
+    """
     decoder = kind(path)
     whole, seconds = timed(lambda: sum(1 for _ in decoder.in_order(count)))
     decoder.end()
@@ -136,7 +140,9 @@ def main(path, frames="60", turns="3"):
     with tempfile.TemporaryDirectory() as folder:
         with Session(path) as session:
             count = session.count().frames
-        numbers, edits = [chance.randrange(count) for _ in range(int(frames))], edited_files(path, chance, count, folder)
+        numbers, edits = [chance.randrange(count) for _ in range(int(frames))], edited_files(
+            path, chance, count, folder
+        )
         kinds, found, differing = (Library, Pyav, Opencv), {}, {}
         for _ in range(int(turns)):
             for kind in kinds:
@@ -148,7 +154,10 @@ def main(path, frames="60", turns="3"):
                     differing[kind.name] = sum(one.tobytes() != bytes(two) for one, two in zip(samples, wanted))
     print(f"{'':24}" + "".join(f"{name:>12}" for name in found) + "   frames a second")
     for at, name in enumerate(("in order", "in random order", "after an edit")):
-        print(f"{name:24}" + "".join(f"{statistics.median(figures[at] for figures in turns):12.1f}" for turns in found.values()))
+        print(
+            f"{name:24}"
+            + "".join(f"{statistics.median(figures[at] for figures in turns):12.1f}" for turns in found.values())
+        )
     print(f"frames of PyAV that are not those of the library: {differing['PyAV']} of {len(numbers) + len(edits)}")
 
 

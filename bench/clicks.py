@@ -1,10 +1,12 @@
 #!/usr/bin/env python3
-"""Counts what the page of `wokureti open` asks of its server after a Delete and after a click on a frame, and times both until the picture is there, in Debian's chromium.
+"""Counts what the page of `wokureti open` asks of its server after a Delete and after a click on a frame, and times
+both until the picture is there, in Debian's chromium.
 
     bench/clicks.py [--tree FOLDER] [CLIP]
 
-It prints the number of requests of each of five turns, and the median in milliseconds: from the key, or the press of the pointer, to the picture on the canvas. A turn ends once
-nothing was asked for 1.2 seconds. With --tree the page is that of another checkout, and VP8SERVE names a vp8serve for it: an earlier version is measured by the same bench.
+It prints the number of requests of each of five turns, and the median in milliseconds: from the key, or the press of
+the pointer, to the picture on the canvas. A turn ends once nothing was asked for 1.2 seconds. With --tree the page is
+that of another checkout, and VP8SERVE names a vp8serve for it: an earlier version is measured by the same bench.
 Without a clip it is examples/mandelbrot.ivf of this checkout.
 """
 
@@ -17,7 +19,7 @@ import tempfile
 import time
 
 TOP = pathlib.Path(__file__).resolve().parent.parent
-sys.path.insert(0, str(TOP / "compare"))
+sys.path[:0] = [str(TOP / "tests/page"), str(TOP / "compare")]
 
 import page as pages  # noqa: E402
 from browser import Browser  # noqa: E402
@@ -37,7 +39,10 @@ WATCH = """
         requestAnimationFrame(() => (window.measured = performance.now() - window.since));
       };
     }, { once: true, capture: true });"""
-ASKED = "return performance.getEntriesByType('resource').filter(({ startTime }) => startTime >= window.since).map(({ name }) => new URL(name).pathname.split('/').slice(2).join('/'))"
+ASKED = (
+    "return performance.getEntriesByType('resource').filter(({ startTime }) => startTime >= window.since).map(({ name"
+    " }) => new URL(name).pathname.split('/').slice(2).join('/'))"
+)
 
 
 def turn(browser, event, act):
@@ -57,7 +62,13 @@ def turn(browser, event, act):
 
 def told(name, found):
     counts = [len(asked) for asked, _ in found]
-    print(f"{name}: {' '.join(map(str, counts))} requests; {statistics.median(took for _, took in found):.0f} ms, at most {max(took for _, took in found):.0f} ms; the last turn asked {' '.join(found[-1][0])}", flush=True)
+    print(
+        (
+            f"{name}: {' '.join(map(str, counts))} requests; {statistics.median(took for _, took in found):.0f} ms, at"
+            f" most {max(took for _, took in found):.0f} ms; the last turn asked {' '.join(found[-1][0])}"
+        ),
+        flush=True,
+    )
 
 
 def deletes(browser):
@@ -75,8 +86,14 @@ def clicks(browser):
     lane = "document.getElementById('programme-canvas') ?? document.getElementById('bars')"
     found = []
     for number in range(TURNS):
-        left, top, width, height = browser.run(f"const {{ left, top, width, height }} = ({lane}).getBoundingClientRect(); return [left, top, width, height]")
-        wide = browser.run("const lane = wokureti.programme ?? wokureti.timeline; return Math.min(lane.window.width, lane.window.count * lane.window.scale)")
+        left, top, width, height = browser.run(
+            f"const {{ left, top, width, height }} = ({lane}).getBoundingClientRect(); return [left, top, width,"
+            " height]"
+        )
+        wide = browser.run(
+            "const lane = wokureti.programme ?? wokureti.timeline; return Math.min(lane.window.width, lane.window.count"
+            " * lane.window.scale)"
+        )
         at = (left + wide * (0.15 + 0.17 * number), top + height / 2)
         found.append(turn(browser, "pointerdown", lambda at=at: browser.drag([at, at])))
     return found

@@ -1,7 +1,7 @@
 """Times the decoding of whole clips: decode.py ROOM CLIPS TURNS MINUTES LEVELS CLIP ..
 
-ROOM has the program for each of LEVELS, CLIPS the clips. MINUTES is for all clips together, or empty: no turn of a clip after its third
-begins when its share is used up. decode.sh runs it.
+ROOM has the program for each of LEVELS, CLIPS the clips. MINUTES is for all clips together, or empty: no turn of a clip
+after its third begins when its share is used up. decode.sh runs it.
 """
 
 import os
@@ -48,7 +48,14 @@ def ways_for(clip, requests):
     ways = {}
     for level in LEVELS.split():
         for states in CACHES:
-            ways[f"{level}, {states} state{'s' * (states > 1)}"] = [f"{ROOM}/{level}", clip, requests, "-", "--cache", str(states)]
+            ways[f"{level}, {states} state{'s' * (states > 1)}"] = [
+                f"{ROOM}/{level}",
+                clip,
+                requests,
+                "-",
+                "--cache",
+                str(states),
+            ]
     ways["vpxdec"] = ["vpxdec", "--threads=1", "--noblit", clip]
     ways["ffmpeg"] = ["ffmpeg", "-v", "error", "-threads", "1", "-i", clip, "-f", "null", "-"]
     ways["frames written"] = [f"{ROOM}/{LEVELS.split()[-1]}", clip, requests, "/dev/null"]
@@ -73,13 +80,21 @@ def ratios(runs, way):
 
 
 def report(runs):
-    """A line for each command: medians of its runs; of each turn's time over vpxdec's the median, and the quartiles around it."""
-    print(f"  {'':24}{'user':>6}{'system':>7}{'wall':>7} ms {'faults':>8}{'MB':>7}   user and system over vpxdec's, middle half")
+    """A line for each command: medians of its runs; of each turn's time over vpxdec's the median, and the quartiles
+    around it.
+    """
+    print(
+        f"  {'':24}{'user':>6}{'system':>7}{'wall':>7} ms {'faults':>8}{'MB':>7}   user and system over vpxdec's,"
+        " middle half"
+    )
     for way, taken in runs.items():
         low, middle, high = quartiles(ratios(runs, way))
         times = [1000 * median(getattr(run, field) for run in taken) for field in ("user", "system", "wall")]
         faults, memory = (median(getattr(run, field) for run in taken) for field in ("faults", "memory"))
-        print(f"  {way:24}{times[0]:6.0f}{times[1]:7.0f}{times[2]:7.0f}    {faults:8.0f}{memory / 1024:7.1f}   {middle:.2f} ({low:.2f} to {high:.2f})")
+        print(
+            f"  {way:24}{times[0]:6.0f}{times[1]:7.0f}{times[2]:7.0f}    {faults:8.0f}{memory / 1024:7.1f}  "
+            f" {middle:.2f} ({low:.2f} to {high:.2f})"
+        )
 
 
 def turns_of(ways, order):

@@ -1,8 +1,9 @@
 #!/usr/bin/env python3
 """Times sessions in Python by the library and over the program's pipes: library.py CLIP [TURNS]
 
-For each engine it prints microseconds for a cached frame, an edit and a request, and milliseconds for all frames of the clip in order, and the same of a copy of a
-frame's samples; medians of TURNS turns (5), one engine after the other in each turn. The programs are those of bin/; ./build.py --library makes the library.
+For each engine it prints microseconds for a cached frame, an edit and a request, and milliseconds for all frames of the
+clip in order, and the same of a copy of a frame's samples; medians of TURNS turns (5), one engine after the other in
+each turn. The programs are those of bin/; ./build.py --library makes the library.
 """
 
 import pathlib

@@ -1,9 +1,10 @@
 #!/usr/bin/env python3
 """Times questions about the packets of a long stream, in a session that runs: long_lists.py [PACKETS [TURNS]]
 
-The stream has small packets of 16x16, a key packet every 100 or every 100,000 of them. Each question is for 256 packets, the first time in the middle and then
-again, for those after them, for those before, and in the middle after an edit there. It prints milliseconds from the line to the last byte of the reply, the median of
-the turns, and the memory of the session. The program is that of the variable VP8SERVE.
+The stream has small packets of 16x16, a key packet every 100 or every 100,000 of them. Each question is for 256
+packets, the first time in the middle and then again, for those after them, for those before, and in the middle after an
+edit there. It prints milliseconds from the line to the last byte of the reply, the median of the turns, and the memory
+of the session. The program is that of the variable VP8SERVE.
 """
 
 import os
@@ -25,7 +26,9 @@ PACKETS, TURNS, SOME = 1_048_576, 5, 256
 
 class Session:
     def __init__(self, program, path):
-        self.child = subprocess.Popen([program, path, "-", "-", "--live"], stdin=subprocess.PIPE, stdout=subprocess.PIPE)
+        self.child = subprocess.Popen(
+            [program, path, "-", "-", "--live"], stdin=subprocess.PIPE, stdout=subprocess.PIPE
+        )
 
     def ask(self, line):
         """Milliseconds until the reply is read."""
@@ -53,7 +56,9 @@ def turn(program, path, word, count):
     session = Session(program, path)
     session.ask("count")
     before = session.memory()
-    question = lambda at: session.ask(f"{word} {at} {SOME}" if word in ("list", "check") else f"{word} {at}")  # noqa: E731
+    question = lambda at: session.ask(
+        f"{word} {at} {SOME}" if word in ("list", "check") else f"{word} {at}"
+    )  # noqa: E731
     took = [question(middle), question(middle), question(middle + SOME), question(middle)]
     session.ask(f"replace {middle + 10} {INTER.hex()}")
     took.append(question(middle))
@@ -69,8 +74,17 @@ def main(count=PACKETS, turns=TURNS):
         for every in (100, 100_000):
             path.write_bytes(ivf(16, 16, [INTER if n % every else KEY for n in range(count)]))
             for word in ("list", "check", "header"):
-                first, again, later, earlier, edited, memory = map(statistics.median, zip(*(turn(program, str(path), word, count) for _ in range(turns))))
-                print(f"{count} packets, a key packet every {every}: {word} in the middle {first:.2f} ms, again {again:.2f}, after it {later:.2f}, before it {earlier:.2f}, after an edit {edited:.2f}; {memory:.0f} MB more", flush=True)
+                first, again, later, earlier, edited, memory = map(
+                    statistics.median, zip(*(turn(program, str(path), word, count) for _ in range(turns)))
+                )
+                print(
+                    (
+                        f"{count} packets, a key packet every {every}: {word} in the middle {first:.2f} ms, again"
+                        f" {again:.2f}, after it {later:.2f}, before it {earlier:.2f}, after an edit {edited:.2f};"
+                        f" {memory:.0f} MB more"
+                    ),
+                    flush=True,
+                )
 
 
 if __name__ == "__main__":

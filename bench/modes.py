@@ -45,7 +45,12 @@ def main(path, out):
     text = pathlib.Path(path).read_bytes() if path else bytes([128] * 3012)
     tables.UPDATES, tables.KEY_SUBS = text[1056:2112], text[2112:]
     first = header(tables.UPDATES) + random.Random(1).randbytes(60000)
-    packet = (len(first) << 5 | 0x10).to_bytes(3, "little") + bytes.fromhex("9d012a") + struct.pack("<HH", 1920, 1080) + first
+    packet = (
+        (len(first) << 5 | 0x10).to_bytes(3, "little")
+        + bytes.fromhex("9d012a")
+        + struct.pack("<HH", 1920, 1080)
+        + first
+    )
     fields, start = parser.start_of(packet, False)
     reader, context = Reader(packet[start:]), parser.default_context()
     parser.read_first_fields(reader, fields, context)

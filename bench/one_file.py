@@ -1,9 +1,11 @@
 #!/usr/bin/env python3
-"""Times the page in one file next to the page of `wokureti open` in Debian's chromium: one_file.py [TURNS [CLIP-OF-640x360 CLIP-OF-1920x1080]]
+"""Times the page in one file next to the page of `wokureti open` in Debian's chromium: one_file.py [TURNS
+[CLIP-OF-640x360 CLIP-OF-1920x1080]]
 
-From a key to the next picture, from Delete to the new picture, from opening 1,048,576 packets to the drawn timeline, and playback of 1920x1080 at 8 times the speed, which is more than
-there can be. The pages take turns, each a new one; medians of 5 turns without TURNS. The page is that of WOKURETI_PAGE, or bin/wokureti.html; the programs and the library are those that
-`wokureti` finds.
+From a key to the next picture, from Delete to the new picture, from opening 1,048,576 packets to the drawn timeline,
+and playback of 1920x1080 at 8 times the speed, which is more than there can be. The pages take turns, each a new one;
+medians of 5 turns without TURNS. The page is that of WOKURETI_PAGE, or bin/wokureti.html; the programs and the library
+are those that `wokureti` finds.
 """
 
 import contextlib
@@ -16,7 +18,7 @@ import tempfile
 import time
 
 TOP = pathlib.Path(__file__).resolve().parent.parent
-sys.path[:0] = [str(TOP / "compare"), str(TOP / "bench")]
+sys.path[:0] = [str(TOP / "tests/page"), str(TOP / "compare"), str(TOP / "bench")]
 import page as pages  # noqa: E402
 from browser import Browser  # noqa: E402
 from web import clip_of  # noqa: E402
@@ -31,8 +33,10 @@ DRAWN = "window.wokureti?.timeline?.window.count && wokureti.timeline.wholeTile(
 CHECKED = "wokureti.findings.check && wokureti.findings.check.over"
 # From the key Delete to the picture after it, six times, each after another packet.
 DELETES = bench.EDITS.replace('press("d")', 'press("Delete")').replace("arguments_turns", "6")
-PLAYED = """await wokureti.model.go(0); wokureti.player.isLoop = true; await wokureti.player.play(8); await new Promise((done) => setTimeout(done, 1500));
-    wokureti.player.shown = 0; const since = performance.now(); await new Promise((done) => setTimeout(done, 4000)); const { shown } = wokureti.player;
+PLAYED = """await wokureti.model.go(0); wokureti.player.isLoop = true;
+    await wokureti.player.play(8); await new Promise((done) => setTimeout(done, 1500));
+    wokureti.player.shown = 0; const since = performance.now();
+    await new Promise((done) => setTimeout(done, 4000)); const { shown } = wokureti.player;
     wokureti.player.stop(); return 1000 * shown / (performance.now() - since)"""
 
 
@@ -52,7 +56,10 @@ def alone(browser, path):
     """The page in one file, without edits; the time at which the file was chosen."""
     browser.open(PAGE.as_uri())
     browser.wait("!document.getElementById('welcome').hidden")
-    browser.run("await new Promise((done) => { const request = indexedDB.deleteDatabase('wokureti'); request.onsuccess = request.onerror = request.onblocked = done; })")
+    browser.run(
+        "await new Promise((done) => { const request = indexedDB.deleteDatabase('wokureti'); request.onsuccess ="
+        " request.onerror = request.onblocked = done; })"
+    )
     since = time.monotonic()
     browser.type("#welcome-file", str(path))
     yield since
@@ -86,7 +93,10 @@ def played(browser, opened, path):
 
 
 def main():
-    turns, clips = int((sys.argv[1:] or ["5"])[0]), sys.argv[2:4] or [clip_of("640x360", "1500k"), clip_of("1920x1080", "6M")]
+    turns, clips = int((sys.argv[1:] or ["5"])[0]), sys.argv[2:4] or [
+        clip_of("640x360", "1500k"),
+        clip_of("1920x1080", "6M"),
+    ]
     with tempfile.TemporaryDirectory() as name, Browser() as browser:
         room = pathlib.Path(name)
         pages.make_million(room / "million.ivf", PACKETS)
@@ -98,16 +108,28 @@ def main():
             (drawn, room / "million.ivf", ("1,048,576 packets, timeline, s",)),
             (played, large, ("1920x1080, frames a second",)),
         ]
-        print(f"chromium {browser.version}, medians of {turns} turns (least, most): wokureti open; one file", flush=True)
+        print(
+            f"chromium {browser.version}, medians of {turns} turns (least, most): wokureti open; one file", flush=True
+        )
         for act, path, names in acts:
             found = {opened: [] for opened in (served, alone)}
             for _ in range(turns):
                 for opened, times in found.items():
                     times.append(act(browser, opened, path))
-                    print(f"  {opened.__name__}: {' '.join(f'{one:.2f}' for one in times[-1])}", file=sys.stderr, flush=True)
+                    print(
+                        f"  {opened.__name__}: {' '.join(f'{one:.2f}' for one in times[-1])}",
+                        file=sys.stderr,
+                        flush=True,
+                    )
             for place, what in enumerate(names):
                 columns = [[row[place] for row in times] for times in found.values()]
-                print(f"{what}: " + "; ".join(f"{statistics.median(column):.2f} ({min(column):.2f}, {max(column):.2f})" for column in columns), flush=True)
+                print(
+                    f"{what}: "
+                    + "; ".join(
+                        f"{statistics.median(column):.2f} ({min(column):.2f}, {max(column):.2f})" for column in columns
+                    ),
+                    flush=True,
+                )
 
 
 if __name__ == "__main__":

@@ -1,12 +1,12 @@
 #!/usr/bin/env python3
-"""Times the page of `wokureti open` in Debian's chromium: from opening to the first picture, from a key to the next picture, from an edit to the new picture, steps of
-many edits, how long a frame waits meanwhile, and playback.
+"""Times the page of `wokureti open` in Debian's chromium: from opening to the first picture, from a key to the next
+picture, from an edit to the new picture, steps of many edits, how long a frame waits meanwhile, and playback.
 
     bench/page.py [--tree FOLDER] [--quick] CLIP-OF-640x360 CLIP-OF-1920x1080
 
-With --tree the page and the programs are those of another checkout, in which `./serve.sh --version` was called once, so that bin/ has its programs: an
-earlier version is measured by the same bench. With --quick streams are short and turns are few: that it runs, and no figures. virtual.sh calls it if
-chromium is there.
+With --tree the page and the programs are those of another checkout, in which `./serve.sh --version` was called once, so
+that bin/ has its programs: an earlier version is measured by the same bench. With --quick streams are short and turns
+are few: that it runs, and no figures. virtual.sh calls it if chromium is there.
 """
 
 import argparse
@@ -17,13 +17,15 @@ import sys
 import tempfile
 import time
 
-sys.path.insert(0, str(pathlib.Path(__file__).resolve().parent.parent / "compare"))
+TOP = pathlib.Path(__file__).resolve().parent.parent
+sys.path[:0] = [str(TOP / "tests/page"), str(TOP / "compare")]
 
 import page as pages  # noqa: E402
 from browser import Browser  # noqa: E402
 from page import Page, make_million  # noqa: E402
 
-# Turns of edits, and of openings; the packets of the streams that are opened, and of those that get large steps, with how many are deleted and held.
+# Turns of edits, and of openings; the packets of the streams that are opened, and of those that get large steps, with
+# how many are deleted and held.
 TURNS, OPENINGS = 15, 3
 OPENED, LARGE_STREAMS, DELETED, HELD = (100, 100_000, 1 << 20), (100_000, 1 << 20), 10_000, 3_000
 
@@ -44,7 +46,13 @@ def opening(browser, path, count):
         found.append((address, picture, drawn, listed))
         page.end()
     best = [min(column) for column in zip(*found)]
-    print(f"{count:,} packets: the address after {best[0]:.2f} s, then the first picture after {best[1]:.2f} s, the timeline after {best[2]:.2f} s; all headers listed {best[3]:.1f} s after the start", flush=True)
+    print(
+        (
+            f"{count:,} packets: the address after {best[0]:.2f} s, then the first picture after {best[1]:.2f} s, the"
+            f" timeline after {best[2]:.2f} s; all headers listed {best[3]:.1f} s after the start"
+        ),
+        flush=True,
+    )
 
 
 # From a key to the new picture on the canvas, for each of some packets and for undo.
@@ -59,7 +67,8 @@ EDITS = """
           paint.apply(this, given);
           requestAnimationFrame(() => done(performance.now() - since));
         };
-        document.getElementById("timeline").dispatchEvent(new KeyboardEvent("keydown", { key, ctrlKey, bubbles: true, cancelable: true }));
+        document.getElementById("timeline").dispatchEvent(
+          new KeyboardEvent("keydown", { key, ctrlKey, bubbles: true, cancelable: true }));
       });
     };
     const times = [];
@@ -75,7 +84,8 @@ EDITS = """
     return times;"""
 
 
-# From a key to the next picture on the canvas: frames that were not shown before, one after the other, and then back over the same frames.
+# From a key to the next picture on the canvas: frames that were not shown before, one after the other, and then back
+# over the same frames.
 STEPS = """
     const { picture } = wokureti.viewer;
     const press = (key) => {
@@ -87,7 +97,8 @@ STEPS = """
           paint.apply(this, given);
           requestAnimationFrame(() => done(performance.now() - since));
         };
-        document.getElementById("timeline").dispatchEvent(new KeyboardEvent("keydown", { key, bubbles: true, cancelable: true }));
+        document.getElementById("timeline").dispatchEvent(
+          new KeyboardEvent("keydown", { key, bubbles: true, cancelable: true }));
       });
     };
     await wokureti.model.go(200);
@@ -108,7 +119,13 @@ def steps(browser, clip, name):
     browser.wait("wokureti.findings.check && wokureti.findings.check.over", seconds=120)
     times = browser.run(STEPS)
     on, back = times[:20], times[20:]
-    print(f"{name}: from a key to the next picture {statistics.median(on):.0f} ms (at most {max(on):.0f}), back {statistics.median(back):.0f} ms (at most {max(back):.0f})", flush=True)
+    print(
+        (
+            f"{name}: from a key to the next picture {statistics.median(on):.0f} ms (at most {max(on):.0f}), back"
+            f" {statistics.median(back):.0f} ms (at most {max(back):.0f})"
+        ),
+        flush=True,
+    )
     page.end()
 
 
@@ -118,7 +135,13 @@ def edits(browser, clip, name):
     browser.wait("wokureti.findings.check && wokureti.findings.check.over", seconds=60)
     times = browser.run(EDITS.replace("arguments_turns", str(TURNS)))
     dropped, undone = times[::2], times[1::2]
-    print(f"{name}: from the key that drops a packet to the new picture {statistics.median(dropped):.0f} ms (at most {max(dropped):.0f}), from undo {statistics.median(undone):.0f} ms (at most {max(undone):.0f})", flush=True)
+    print(
+        (
+            f"{name}: from the key that drops a packet to the new picture {statistics.median(dropped):.0f} ms (at most"
+            f" {max(dropped):.0f}), from undo {statistics.median(undone):.0f} ms (at most {max(undone):.0f})"
+        ),
+        flush=True,
+    )
     page.end()
 
 
@@ -161,7 +184,9 @@ def large_steps(browser, path, count):
     packets, *times = browser.run(LARGE, DELETED, HELD)
     words = (f"{DELETED:,} packets deleted", "undone", "deleted again", f"{HELD:,} held", "a frame waited at most")
     said = ", ".join(f"{word} {seconds:.1f} s" for word, seconds in zip(words, times))
-    print(f"large steps in {count:,} packets: {said}{'' if packets == count else f', and {packets} packets'}", flush=True)
+    print(
+        f"large steps in {count:,} packets: {said}{'' if packets == count else f', and {packets} packets'}", flush=True
+    )
     page.end()
 
 

@@ -3,9 +3,9 @@
     (cd crates/test_steps && rm -rf out/incremental && rt check --test --jobs 1)
     python3 bench/proof_times.py crates/test_steps
 
-A check in one process writes a file for each module when it is proved: the time of a module is the time since the file before. It reads
-nothing else, so a second check over the same folder mixes both. FUNCTION.Lts is the check of what a function borrows and drops, FUNCTION.Proof
-that of its contract.
+A check in one process writes a file for each module when it is proved: the time of a module is the time since the file
+before. It reads nothing else, so a second check over the same folder mixes both. FUNCTION.Lts is the check of what a
+function borrows and drops, FUNCTION.Proof that of its contract.
 """
 
 import pathlib

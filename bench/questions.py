@@ -1,11 +1,13 @@
 #!/usr/bin/env python3
-"""Times what the page of `wokureti open` asks about packets: the macroblocks of a packet, its header, the facts of 256 packets, the findings of a group of pictures
-after an edit that is not made, and the check after an edit; and how long frames take meanwhile. No browser is needed.
+"""Times what the page of `wokureti open` asks about packets: the macroblocks of a packet, its header, the facts of 256
+packets, the findings of a group of pictures after an edit that is not made, and the check after an edit; and how long
+frames take meanwhile. No browser is needed.
 
     bench/questions.py [--tree FOLDER] [--turns N] CLIP ..
 
-With --tree the client and the programs are those of another checkout, or of a folder into which a wheel was unpacked: an earlier version is measured by the same
-bench. The variables VP8SERVE, VP8LIST and WOKURETI_ENGINE name other programs than those of its bin/, and what answers.
+With --tree the client and the programs are those of another checkout, or of a folder into which a wheel was unpacked:
+an earlier version is measured by the same bench. The variables VP8SERVE, VP8LIST and WOKURETI_ENGINE name other
+programs than those of its bin/, and what answers.
 """
 
 import argparse
@@ -53,7 +55,12 @@ class Server:
         """The bytes of an answer."""
         link = link or self.link
         headers = {} if body is None else {"Origin": f"http://{self.host}", "Content-Type": "application/json"}
-        link.request("GET" if body is None else "POST", f"/{self.token}/{path}", None if body is None else json.dumps(body), headers)
+        link.request(
+            "GET" if body is None else "POST",
+            f"/{self.token}/{path}",
+            None if body is None else json.dumps(body),
+            headers,
+        )
         answer = link.getresponse()
         found = answer.read()
         if answer.status != 200:
@@ -65,9 +72,13 @@ class Server:
 
     def check(self):
         """The check of the current packets, once it is over."""
-        while not (found := self.get("check"))["over"]:
-            time.sleep(0.002)
-        return found
+        link = self.connect()
+        link.request("GET", f"/{self.token}/events?check=1")
+        for line in link.getresponse():
+            if line.startswith(b"data: ") and (found := json.loads(line[6:])).get("over"):
+                link.close()
+                return found
+        raise SystemExit("the events ended")
 
     def end(self):
         self.process.send_signal(signal.SIGINT)
@@ -113,14 +124,24 @@ def measure(server, clip, turns):
     packets, frames = session["packets"], session["frames"]
     failed = server.check()["failed"]
     some = [choose.randrange(packets - 1) for _ in range(turns)]
-    for name, path in (("macroblocks", "macroblocks?packet={}"), ("header", "header?packet={}"), ("256 packets", "packets?from={}&count=256")):
+    for name, path in (
+        ("macroblocks", "answer?line=macroblocks%20{}"),
+        ("header", "answer?line=header%20{}"),
+        ("256 packets", "packets?from={}&count=256"),
+    ):
         server.ask(path.format(0))
-        print(f"{clip.name}: {name} {shown([timed(lambda: server.ask(path.format(packet))) for packet in some])} ms", flush=True)
+        print(
+            f"{clip.name}: {name} {shown([timed(lambda: server.ask(path.format(packet))) for packet in some])} ms",
+            flush=True,
+        )
     if failed:
         print(f"{clip.name}: no findings: {failed}", flush=True)
         return
-    server.ask("preview", {"lines": [], "findings": 0})
-    times = [timed(lambda: server.ask("preview", {"lines": [f"delete {packet}"], "findings": packet})) for packet in some]
+    server.ask("task", {"kind": "check", "lines": [], "packet": 0})
+    times = [
+        timed(lambda: server.ask("task", {"kind": "check", "lines": [f"delete {packet}"], "packet": packet}))
+        for packet in some
+    ]
     print(f"{clip.name}: the findings of a group after an edit that is not made {shown(times)} ms", flush=True)
     asked = Frames(server, frames - 1, choose)
     time.sleep(1)
@@ -135,8 +156,17 @@ def measure(server, clip, turns):
         damage += server.check()["damage"]
         meanwhile += asked.end()
         server.ask("edits", {"line": "undo"})
-    print(f"{clip.name}: an edit {shown(ahead)} ms, from there to the end of the check of {packets:,} packets {shown(whole)} ms", flush=True)
-    print(f"{clip.name}: a frame {shown(alone)} ms, while packets are checked {shown(meanwhile)} ms ({damage} damages)", flush=True)
+    print(
+        (
+            f"{clip.name}: an edit {shown(ahead)} ms, from there to the end of the check of {packets:,} packets"
+            f" {shown(whole)} ms"
+        ),
+        flush=True,
+    )
+    print(
+        f"{clip.name}: a frame {shown(alone)} ms, while packets are checked {shown(meanwhile)} ms ({damage} damages)",
+        flush=True,
+    )
 
 
 def main():

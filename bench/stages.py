@@ -12,8 +12,8 @@ import sys
 
 ROOM, CLIP, FRAMES, PROGRAM, *VPXDEC = sys.argv[1:]
 
-# The first expression that a function's name contains decides its stage. A step of vp8serve has modes, and what is done for each
-# macroblock, in one function.
+# The first expression that a function's name contains decides its stage. A step of vp8serve has modes, and what is done
+# for each macroblock, in one function.
 STAGES = [
     ("tokens", r"token_parser|bool_coder|mb_tokens|GetCoeffs|bool_decoder_fill"),
     ("modes, macroblocks", r"mode_parser|steps::decode|decode_mode_mvs|read_mv|vp8_decode_frame"),
@@ -39,7 +39,9 @@ def first_frames(clip, count):
 
 
 def symbols_of(library):
-    """The addresses of a library's symbols, in order, and their names: functions in assembly have no names in the profile."""
+    """The addresses of a library's symbols, in order, and their names: functions in assembly have no names in the
+    profile.
+    """
     lines = subprocess.run(["nm", "-n", library], capture_output=True, text=True, check=True).stdout.splitlines()
     found = [line.split() for line in lines if re.match(r"[0-9a-f]+ [tTwW] .", line)]
     return [int(words[0], 16) for words in found], [words[2] for words in found]
@@ -61,8 +63,15 @@ def profile(words, libraries=""):
     """Instructions by stage, and the functions of each with theirs."""
     out = os.path.join(ROOM, "callgrind.out")
     environment = dict(os.environ, LD_LIBRARY_PATH=libraries)
-    subprocess.run(["valgrind", "--tool=callgrind", f"--callgrind-out-file={out}", *words], check=True, capture_output=True, env=environment)
-    text = subprocess.run(["callgrind_annotate", "--threshold=100", "--auto=no", out], check=True, capture_output=True, text=True).stdout
+    subprocess.run(
+        ["valgrind", "--tool=callgrind", f"--callgrind-out-file={out}", *words],
+        check=True,
+        capture_output=True,
+        env=environment,
+    )
+    text = subprocess.run(
+        ["callgrind_annotate", "--threshold=100", "--auto=no", out], check=True, capture_output=True, text=True
+    ).stdout
     stages, known = {}, {}
     for line in text.splitlines():
         row = re.match(r" *([0-9,]+) \( *[0-9.]+%\)  (.+)", line)
@@ -87,7 +96,12 @@ def main():
     print(f"{'':20}" + "".join(f"{who:>20}" for who in columns))
     for stage in [name for name, _ in STAGES] + ["the rest"]:
         counts = [sum(count for count, _ in stages.get(stage, [])) for stages in columns.values()]
-        print(f"{stage:20}" + "".join(f"{count / 1e6:12.1f} ({100 * count / total:4.1f})" for count, total in zip(counts, totals.values())))
+        print(
+            f"{stage:20}"
+            + "".join(
+                f"{count / 1e6:12.1f} ({100 * count / total:4.1f})" for count, total in zip(counts, totals.values())
+            )
+        )
     print(f"{'all':20}" + "".join(f"{total / 1e6:12.1f}        " for total in totals.values()))
     if os.environ.get("FUNCTIONS"):
         for who, stages in columns.items():

@@ -25,7 +25,7 @@ fi
 PYTHONPATH="$here/../clients/python" exec python3 - "$small" "$large" <<'END_OF_PYTHON'
 import atexit, http.client, os, random, statistics, struct, subprocess, sys, tempfile, time
 from wokureti import Session
-from wokureti.tools import programs
+from wokureti.base import programs
 
 TURNS = int(os.environ.get("TURNS", "5"))
 serve = [sys.executable, "-m", "wokureti", "serve"]

@@ -1,9 +1,10 @@
 #!/usr/bin/env python3
 """Times the page's module in WebAssembly next to vp8serve: web.py [CLIP ..]
 
-All frames of a clip in order, in processor time: by vp8serve with its output to /dev/null, and by the module in Node, once while V8 still compiles it and then in
-sessions after that. Without a clip it takes clips of 300 frames of 640x360 and 1920x1080, which ffmpeg makes once. The page is that of WOKURETI_PAGE, or bin/wokureti.html;
-several, separated by `:`, are compared. `TURNS=N` sets how many sessions are timed.
+All frames of a clip in order, in processor time: by vp8serve with its output to /dev/null, and by the module in Node,
+once while V8 still compiles it and then in sessions after that. Without a clip it takes clips of 300 frames of 640x360
+and 1920x1080, which ffmpeg makes once. The page is that of WOKURETI_PAGE, or bin/wokureti.html; several, separated by
+`:`, are compared. `TURNS=N` sets how many sessions are timed.
 """
 
 import os
@@ -27,20 +28,57 @@ def clip_of(size, rate):
     if not path.is_file():
         STORE.mkdir(parents=True, exist_ok=True)
         source = f"mandelbrot=size={size}:rate=30,noise=alls=8:allf=t"
-        options = ["-c:v", "libvpx", "-deadline", "realtime", "-cpu-used", "8", "-b:v", rate, "-g", "30", "-auto-alt-ref", "0"]
-        words = ["ffmpeg", "-nostdin", "-v", "error", "-y", "-f", "lavfi", "-i", source, "-frames:v", "300", *options, str(path)]
+        options = [
+            "-c:v",
+            "libvpx",
+            "-deadline",
+            "realtime",
+            "-cpu-used",
+            "8",
+            "-b:v",
+            rate,
+            "-g",
+            "30",
+            "-auto-alt-ref",
+            "0",
+        ]
+        words = [
+            "ffmpeg",
+            "-nostdin",
+            "-v",
+            "error",
+            "-y",
+            "-f",
+            "lavfi",
+            "-i",
+            source,
+            "-frames:v",
+            "300",
+            *options,
+            str(path),
+        ]
         subprocess.run(words, check=True, timeout=LIMIT)
     return path
 
 
 def native(clip):
     """The least processor time of vp8serve for all frames."""
-    count = int(subprocess.run([SERVE, clip], input=b"count\n", capture_output=True, check=True, timeout=LIMIT).stdout.split()[3])
+    count = int(
+        subprocess.run([SERVE, clip], input=b"count\n", capture_output=True, check=True, timeout=LIMIT).stdout.split()[
+            3
+        ]
+    )
     requests = "".join(f"frame {n}\n" for n in range(count)).encode()
     found = []
     for _ in range(TURNS):
         before = resource.getrusage(resource.RUSAGE_CHILDREN)
-        subprocess.run([SERVE, clip, "-", "/dev/null", "--cache", "3"], input=requests, capture_output=True, check=True, timeout=LIMIT)
+        subprocess.run(
+            [SERVE, clip, "-", "/dev/null", "--cache", "3"],
+            input=requests,
+            capture_output=True,
+            check=True,
+            timeout=LIMIT,
+        )
         after = resource.getrusage(resource.RUSAGE_CHILDREN)
         found.append(after.ru_utime + after.ru_stime - before.ru_utime - before.ru_stime)
     return min(found), count
@@ -59,7 +97,13 @@ def main():
             compiling, first, later, frames = map(float, done.stdout.split())
             if frames != count:
                 sys.exit(f"{page} has {frames:.0f} frames, vp8serve has {count}")
-            print(f"  {page}: module {compiling:.2f} s, first session {first:.2f} s, later ones {later:.2f} s, {later / best:.2f} times vp8serve", flush=True)
+            print(
+                (
+                    f"  {page}: module {compiling:.2f} s, first session {first:.2f} s, later ones {later:.2f} s,"
+                    f" {later / best:.2f} times vp8serve"
+                ),
+                flush=True,
+            )
 
 
 if __name__ == "__main__":

@@ -1,11 +1,13 @@
 #!/usr/bin/env python3
-"""Times how a long WebM file is opened: `wokureti list`, `wokureti open` up to its address and up to its first answer, and vp8serve alone, next to copies by ffmpeg and mkvmerge.
+"""Times how a long WebM file is opened: `wokureti list`, `wokureti open` up to its address and up to its first answer,
+and vp8serve alone, next to copies by ffmpeg and mkvmerge.
 
     bench/webm_open.py [--hours H] [--turns N] [--tree FOLDER ..] [FILE]
 
-Without FILE a clip of a minute, 640x360 at 25 frames a second with Opus, is coded once and repeated up to H hours (2.5). The turns are in random order, and what is
-printed are the medians of N turns (5): seconds of processor time of a program and of all that it starts, and the most memory of one of them. FOLDER is a
-checkout of another version, whose client is measured too. The programs are those of VP8SERVE and VP8LIST. It needs ffmpeg and mkvmerge.
+Without FILE a clip of a minute, 640x360 at 25 frames a second with Opus, is coded once and repeated up to H hours
+(2.5). The turns are in random order, and what is printed are the medians of N turns (5): seconds of processor time of a
+program and of all that it starts, and the most memory of one of them. FOLDER is a checkout of another version, whose
+client is measured too. The programs are those of VP8SERVE and VP8LIST. It needs ffmpeg and mkvmerge.
 """
 
 import argparse
@@ -23,7 +25,7 @@ import urllib.request
 TOP = pathlib.Path(__file__).resolve().parent.parent
 sys.path.insert(0, str(TOP / "clients/python"))
 
-from wokureti.tools import programs  # noqa: E402
+from wokureti.base import programs  # noqa: E402
 
 ROOM = pathlib.Path(os.environ.get("XDG_CACHE_HOME") or pathlib.Path.home() / ".cache") / "wokureti"
 TICKS = os.sysconf("SC_CLK_TCK")
@@ -38,8 +40,26 @@ def made(hours):
     minute, path = ROOM / "minute.webm", ROOM / f"{hours:g}-hours.webm"
     ROOM.mkdir(parents=True, exist_ok=True)
     if not minute.is_file():
-        picture, sound = "testsrc2=size=640x360:rate=25:duration=60,noise=alls=12:allf=t", "aevalsrc=0.3*sin(440*t*(1+t/60)):s=48000:d=60"
-        coding = ["-c:v", "libvpx", "-deadline", "realtime", "-cpu-used", "8", "-g", "100", "-b:v", "450k", "-c:a", "libopus", "-b:a", "64k"]
+        picture, sound = (
+            "testsrc2=size=640x360:rate=25:duration=60,noise=alls=12:allf=t",
+            "aevalsrc=0.3*sin(440*t*(1+t/60)):s=48000:d=60",
+        )
+        coding = [
+            "-c:v",
+            "libvpx",
+            "-deadline",
+            "realtime",
+            "-cpu-used",
+            "8",
+            "-g",
+            "100",
+            "-b:v",
+            "450k",
+            "-c:a",
+            "libopus",
+            "-b:a",
+            "64k",
+        ]
         ffmpeg("-f", "lavfi", "-i", picture, "-f", "lavfi", "-i", sound, *coding, minute)
     if not path.is_file():
         ffmpeg("-stream_loop", round(hours * 60) - 1, "-i", minute, "-c", "copy", path)
@@ -81,7 +101,14 @@ def used(pid):
 
 def opened(words, asks, **more):
     """The same of `wokureti open`, until it prints its address, or until it has answered what the page asks first."""
-    with subprocess.Popen(list(map(str, words)), stdin=subprocess.DEVNULL, stdout=subprocess.PIPE, stderr=subprocess.DEVNULL, text=True, **more) as process:
+    with subprocess.Popen(
+        list(map(str, words)),
+        stdin=subprocess.DEVNULL,
+        stdout=subprocess.PIPE,
+        stderr=subprocess.DEVNULL,
+        text=True,
+        **more,
+    ) as process:
         try:
             address = process.stdout.readline().strip().removesuffix("page/")
             if asks:
@@ -96,17 +123,23 @@ def measures(path, trees, folder):
     """What is measured, by name."""
     found = {
         "vp8serve": lambda: finished([programs.find("vp8serve"), path]),
-        "ffmpeg -c copy": lambda: finished(["ffmpeg", "-nostdin", "-v", "error", "-y", "-i", path, "-c", "copy", folder / "copy.webm"]),
+        "ffmpeg -c copy": lambda: finished(
+            ["ffmpeg", "-nostdin", "-v", "error", "-y", "-i", path, "-c", "copy", folder / "copy.webm"]
+        ),
         "mkvmerge": lambda: finished(["mkvmerge", "-q", "-o", folder / "copy.mkv", path]),
     }
     for tree in trees:
         name = "" if tree == TOP else f", {tree.name}"
         room = {**os.environ, "PYTHONPATH": str(tree / "clients/python"), "XDG_STATE_HOME": str(folder)}
         words = [sys.executable, "-m", "wokureti"]
-        found[f"wokureti list{name}"] = lambda room=room: finished([*words, "list", path], env=room, stderr=subprocess.DEVNULL)
+        found[f"wokureti list{name}"] = lambda room=room: finished(
+            [*words, "list", path], env=room, stderr=subprocess.DEVNULL
+        )
         edits = folder / f"edits{len(found)}"
         for what, asks in (("address", False), ("first answer", True)):
-            found[f"wokureti open, {what}{name}"] = lambda room=room, edits=edits, asks=asks: opened([*words, "open", path, "--no-browser", "--edits", edits], asks, env=room)
+            found[f"wokureti open, {what}{name}"] = lambda room=room, edits=edits, asks=asks: opened(
+                [*words, "open", path, "--no-browser", "--edits", edits], asks, env=room
+            )
     return found
 
 

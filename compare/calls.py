@@ -1,11 +1,13 @@
 #!/usr/bin/env python3
-"""Captures of calls with losses, as wokureti reads them, next to GStreamer's depayloader and to ffmpeg, which is sent them; two captures of one call; and captures that are cut and flipped.
+"""Captures of calls with losses, as wokureti reads them, next to GStreamer's depayloader and to ffmpeg, which is sent
+them; two captures of one call; and captures that are cut and flipped.
 
     compare/calls.py [--captures N] [--seed S]
 
-Of each part of lost packets it counts the frames that are whole, those that are cut off but decoded, and their mean luma PSNR to what was sent; every frame that
-is called whole must be the one that was sent. N captures (2,000 if nothing is said) are damaged: each must end in a reading or a sentence, with no whole frame that was not
-sent. It needs Debian's ffmpeg, vpx-tools and gstreamer1.0-plugins-good, and the built programs.
+Of each part of lost packets it counts the frames that are whole, those that are cut off but decoded, and their mean
+luma PSNR to what was sent; every frame that is called whole must be the one that was sent. N captures (2,000 if nothing
+is said) are damaged: each must end in a reading or a sentence, with no whole frame that was not sent. It needs Debian's
+ffmpeg, vpx-tools and gstreamer1.0-plugins-good, and the built programs.
 """
 
 import argparse
@@ -29,8 +31,8 @@ import captured  # noqa: E402
 import results  # noqa: E402
 from repairs import clips  # noqa: E402
 from wokureti import Refused, Session  # noqa: E402
+from wokureti.media import ivf  # noqa: E402
 from wokureti.calls import recordings  # noqa: E402
-from wokureti.tools import ivf  # noqa: E402
 
 PARTS = (0.0, 0.01, 0.02, 0.05, 0.1, 0.2)
 # Those that ffmpeg is sent: as long as a call takes, so not all.
@@ -47,8 +49,13 @@ LIMIT = 120
 def sent_by_gstreamer(path, room):
     """The packets of RTP of an IVF file."""
     clip, out = room / "clip.webm", room / "sent"
-    subprocess.run(["ffmpeg", "-nostdin", "-v", "error", "-y", "-i", path, "-c", "copy", clip], check=True, timeout=LIMIT)
-    words = f"filesrc location={clip} ! matroskademux ! rtpvp8pay mtu={SIZE} picture-id-mode=15-bit ! rtpstreampay ! filesink location={out}"
+    subprocess.run(
+        ["ffmpeg", "-nostdin", "-v", "error", "-y", "-i", path, "-c", "copy", clip], check=True, timeout=LIMIT
+    )
+    words = (
+        f"filesrc location={clip} ! matroskademux ! rtpvp8pay mtu={SIZE} picture-id-mode=15-bit ! rtpstreampay !"
+        f" filesink location={out}"
+    )
     subprocess.run(["gst-launch-1.0", "-q", *words.split()], check=True, timeout=LIMIT)
     return captured.framed(out.read_bytes())
 
@@ -59,7 +66,9 @@ def kept_by_gstreamer(packets, room):
     given.write_bytes(b"".join(len(one).to_bytes(2, "big") + one for one in packets))
     caps = "application/x-rtp-stream,media=video,clock-rate=90000,encoding-name=VP8,payload=96"
     words = f"filesrc location={given} ! {caps} ! rtpstreamdepay ! rtpvp8depay ! fakesink silent=false"
-    return subprocess.run(["gst-launch-1.0", "-v", *words.split()], check=True, timeout=LIMIT, capture_output=True).stdout.count(b"chain")
+    return subprocess.run(
+        ["gst-launch-1.0", "-v", *words.split()], check=True, timeout=LIMIT, capture_output=True
+    ).stdout.count(b"chain")
 
 
 def is_bound(port):
@@ -74,9 +83,30 @@ def kept_by_ffmpeg(packets, room):
         out.bind(("127.0.0.1", 0))
         port = out.getsockname()[1] & ~1
     call = room / "call.sdp"
-    call.write_text(f"v=0\no=- 0 0 IN IP4 127.0.0.1\ns=call\nc=IN IP4 127.0.0.1\nt=0 0\nm=video {port} RTP/AVP 96\na=rtpmap:96 VP8/90000\n")
-    words = ["ffmpeg", "-nostdin", "-v", "quiet", "-protocol_whitelist", "file,udp,rtp", "-i", call, "-c", "copy", "-copyinkf", "-f", "framemd5", "-"]
-    with subprocess.Popen(words, stdout=subprocess.PIPE, text=True) as process, socket.socket(socket.AF_INET, socket.SOCK_DGRAM) as out:
+    call.write_text(
+        f"v=0\no=- 0 0 IN IP4 127.0.0.1\ns=call\nc=IN IP4 127.0.0.1\nt=0 0\nm=video {port} RTP/AVP 96\na=rtpmap:96"
+        " VP8/90000\n"
+    )
+    words = [
+        "ffmpeg",
+        "-nostdin",
+        "-v",
+        "quiet",
+        "-protocol_whitelist",
+        "file,udp,rtp",
+        "-i",
+        call,
+        "-c",
+        "copy",
+        "-copyinkf",
+        "-f",
+        "framemd5",
+        "-",
+    ]
+    with (
+        subprocess.Popen(words, stdout=subprocess.PIPE, text=True) as process,
+        socket.socket(socket.AF_INET, socket.SOCK_DGRAM) as out,
+    ):
         limit = time.monotonic() + PATIENCE
         while not is_bound(port) and time.monotonic() < limit:
             time.sleep(0.01)
@@ -136,7 +166,11 @@ def measure(path, room, seed, counts, wrong):
                 cut.append(psnr(ours[place], samples[shown.index(at)]))
         two = capture(captured.lossy(sent, part, seed + 1000), room / "two.pcap")
         joined = recordings.Searched(one, "one", two, "two").call.frames
-        wrong += [f"{path.name}, {part}: a joined frame that was not sent" for frame in joined if frame.is_whole and frame.data not in true]
+        wrong += [
+            f"{path.name}, {part}: a joined frame that was not sent"
+            for frame in joined
+            if frame.is_whole and frame.data not in true
+        ]
         found = counts[part]
         found["frames"] += len(packets)
         found["whole"] += len(whole)
@@ -190,17 +224,31 @@ def main():
         for number, path in enumerate(clips(room)):
             measure(path, room, given.seed + number, counts, wrong)
         whole = damage(given.captures, given.seed, room, wrong)
-    print("lost, frames, whole, decoded, by GStreamer, by ffmpeg, cut off and shown, their mean luma PSNR, whole with a second capture")
+    print(
+        "lost, frames, whole, decoded, by GStreamer, by ffmpeg, cut off and shown, their mean luma PSNR, whole with a"
+        " second capture"
+    )
     for part, found in counts.items():
         mean = f"{found['psnr'] / found['cut']:.1f}" if found["cut"] else "-"
-        print(f"{part:.0%} {found['frames']} {found['whole']} {found['decoded']} {found['gstreamer']} {found['ffmpeg'] if part in SENT else '-'} {found['cut']} {mean} {found['joined']}")
+        by_ffmpeg = found["ffmpeg"] if part in SENT else "-"
+        print(
+            f"{part:.0%} {found['frames']} {found['whole']} {found['decoded']} {found['gstreamer']} {by_ffmpeg}"
+            f" {found['cut']} {mean} {found['joined']}"
+        )
     if counts[0.0]["ffmpeg"] != counts[0.0]["frames"]:
-        wrong.append(f"without losses ffmpeg has {counts[0.0]['ffmpeg']} of {counts[0.0]['frames']} frames: it was sent them too fast")
+        wrong.append(
+            f"without losses ffmpeg has {counts[0.0]['ffmpeg']} of {counts[0.0]['frames']} frames: it was sent them too"
+            " fast"
+        )
     for text in wrong[:20]:
         print(text)
     two = counts[0.02]
     mean = two["psnr"] / max(1, two["cut"])
-    text = f"of {two['frames']} frames with 2 % of RTP lost {two['whole']} whole, {two['decoded']} decoded (PSNR of the {two['cut']} cut ones {mean:.1f}), GStreamer {two['gstreamer']}, ffmpeg {two['ffmpeg']}, whole with a second capture {two['joined']}"
+    text = (
+        f"of {two['frames']} frames with 2 % of RTP lost {two['whole']} whole, {two['decoded']} decoded (PSNR of the"
+        f" {two['cut']} cut ones {mean:.1f}), GStreamer {two['gstreamer']}, ffmpeg {two['ffmpeg']}, whole with a second"
+        f" capture {two['joined']}"
+    )
     results.total(f"{text}; {given.captures} damaged captures, {whole} whole frames; {len(wrong)} wrong", len(wrong))
     return 1 if wrong else 0
 

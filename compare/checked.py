@@ -1,12 +1,12 @@
 #!/usr/bin/env python3
 """Compares the findings of `vp8list --check` with those that are found here from headers, and with libvpx's errors.
 
-Run manually, not in the gate: checked.py FILE.. compares the findings of these IVF files; checked.py --damage N [SEED] those of N
-streams made from the example and the real streams with packets cut, dropped, doubled, moved and with bytes changed, and counts the
-packets that vpxdec does not decode next to those that are refused, and the packets that libvpx calls corrupt next to those with a
-partition that is read past its end. With so many zero bytes after each such partition as `--check` says, libvpx must call no
-further packet corrupt, and with one byte less it must call that packet corrupt. It needs the built program (see README.md) and,
-for --damage, vpxdec (Debian's vpx-tools) and its library.
+Run manually, not in the gate: checked.py FILE.. compares the findings of these IVF files; checked.py --damage N [SEED]
+those of N streams made from the example and the real streams with packets cut, dropped, doubled, moved and with bytes
+changed, and counts the packets that vpxdec does not decode next to those that are refused, and the packets that libvpx
+calls corrupt next to those with a partition that is read past its end. With so many zero bytes after each such
+partition as `--check` says, libvpx must call no further packet corrupt, and with one byte less it must call that packet
+corrupt. It needs the built program (see README.md) and, for --damage, vpxdec (Debian's vpx-tools) and its library.
 """
 
 import collections
@@ -33,7 +33,6 @@ class Damage(str):
     """A finding that is damage in its stream, and may be a note in another."""
 
 
-
 def run_before_key(packets):
     """The packets before the first one with a key tag."""
     keys = [place for place, packet in enumerate(packets) if has_key_tag(packet)]
@@ -55,7 +54,9 @@ def refusals(packets):
 
 
 def pace_of(rows):
-    """The median step between shown packets, and whether it is constant: 16 steps or more, which are all this one except for up to three in a row."""
+    """The median step between shown packets, and whether it is constant: 16 steps or more, which are all this one
+    except for up to three in a row.
+    """
     shown = [stamp for stamp, packet in rows if is_shown(packet)]
     steps = [after - before for before, after in zip(shown, shown[1:])]
     forward = sorted(step for step in steps if step > 0)
@@ -117,7 +118,11 @@ def repeated(rows):
     """The findings about packets that come twice, by index of the first."""
     is_constant = pace_of(rows)[1]
     pairs = enumerate(zip(rows, rows[1:]))
-    return {place: (Damage if is_constant and not has_key_tag(one[1]) else str)(TWICE) for place, (one, other) in pairs if one == other and one[1]}
+    return {
+        place: (Damage if is_constant and not has_key_tag(one[1]) else str)(TWICE)
+        for place, (one, other) in pairs
+        if one == other and one[1]
+    }
 
 
 def size_lines(packets):
@@ -142,7 +147,7 @@ def findings(text):
     """What is found in a file's bytes."""
     rows = list(records(text))
     packets = [packet for _, packet in rows]
-    claimed, = struct.unpack_from("<I", text, 24)
+    (claimed,) = struct.unpack_from("<I", text, 24)
     if claimed != len(rows):
         yield f"header: {claimed} frames, {len(rows)} packets"
     size, claimed = first_size(packets), list(struct.unpack_from("<HH", text, 12))
@@ -168,7 +173,10 @@ def findings(text):
     begins = struct.unpack_from("<H", text, 6)[0] + sum(12 + len(packet) for packet in packets)
     left = len(text) - begins
     if left >= 4:
-        yield f"record {len(rows)} at byte {begins}: claims 12 + {struct.unpack_from('<I', text, begins)[0]} bytes, {left} are there"
+        yield (
+            f"record {len(rows)} at byte {begins}: claims 12 + {struct.unpack_from('<I', text, begins)[0]} bytes,"
+            f" {left} are there"
+        )
     elif left:
         yield f"record {len(rows)} at byte {begins}: {left} bytes are there"
 
@@ -178,7 +186,9 @@ PARTITION = re.compile(r"(damage|note): packet \d+: (?:first|token) partition.*"
 
 
 def past_ends(path):
-    """By packet and partition (0 is the first, 1 token partition 0): the bytes that `--check` says are read past its end."""
+    """By packet and partition (0 is the first, 1 token partition 0): the bytes that `--check` says are read past its
+    end.
+    """
     said = subprocess.run([VP8LIST, path, "--check"], capture_output=True, text=True, check=False).stdout
     found = collections.defaultdict(dict)
     for packet, partition, count in PAST.findall(said):
@@ -209,7 +219,9 @@ def failures(path):
     words = ["vpxdec", "--codec=vp8", "--keep-going", "--i420", "-o", "/dev/null", str(path)]
     said = subprocess.run(words, capture_output=True, text=True, errors="replace", check=False).stderr
     corrupt = re.search(r"(\d+) frames corrupted", said)
-    return {int(n) - 1 for n in re.findall(r"Failed to decode frame (\d+)", said)}, int(corrupt.group(1)) if corrupt else 0
+    return {int(n) - 1 for n in re.findall(r"Failed to decode frame (\d+)", said)}, (
+        int(corrupt.group(1)) if corrupt else 0
+    )
 
 
 def ends_by_libvpx(packets, past, lost, totals):

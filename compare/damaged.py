@@ -1,16 +1,17 @@
 #!/usr/bin/env python3
 """Compares the frames of damaged streams with what vpxdec shows, sample for sample.
 
-Run manually, not in the gate: damaged.py [STREAMS] [SEED]. It needs the built program (see README.md), vpxenc and vpxdec
-(Debian's vpx-tools) and ffmpeg. Clips are coded as by clips.py, and each gives streams with packets cut, dropped, doubled,
-moved and with bytes changed. The replies tell which packets are sound: each run of them from a key packet on is decoded by
-vpxdec as a stream of its own, and every frame that it shows must be the one that was served.
+Run manually, not in the gate: damaged.py [STREAMS] [SEED]. It needs the built program (see README.md), vpxenc and
+vpxdec (Debian's vpx-tools) and ffmpeg. Clips are coded as by clips.py, and each gives streams with packets cut,
+dropped, doubled, moved and with bytes changed. The replies tell which packets are sound: each run of them from a key
+packet on is decoded by vpxdec as a stream of its own, and every frame that it shows must be the one that was served.
 
 After the end of a partition all bits are 0. vpxdec stops there, and ffmpeg reads on in the next partition; so both get
 the packets with zeros after each partition, which changes no frame of ours, and the script sees that it does not.
 
-All bits of a partition that begins with FF are 1. vpxdec loses the top of its window there and reads others. A frame that
-differs from vpxdec's, with such a partition in its packet or in one before it back to the key packet, is reported by that name.
+All bits of a partition that begins with FF are 1. vpxdec loses the top of its window there and reads others. A frame
+that differs from vpxdec's, with such a partition in its packet or in one before it back to the key packet, is reported
+by that name.
 
 In version 3 vpxdec leaves chroma unpredicted where its vector points far out of the frame. A frame of that version that
 differs from vpxdec's only in chroma is reported by that name.
@@ -82,8 +83,38 @@ def decoded(room, packets, decoder):
     shown.write_bytes(b"")
     words = {
         "vpxdec": [os.environ.get("VPXDEC", "vpxdec"), "--codec=vp8", "--i420", "--keep-going", "-o", shown, stream],
-        "ffmpeg": ["ffmpeg", "-y", "-v", "error", "-i", stream, "-fps_mode", "passthrough", "-pix_fmt", "yuv420p", "-f", "rawvideo", shown],
-        "ffmpeg without SIMD": ["ffmpeg", "-y", "-v", "error", "-cpuflags", "0", "-i", stream, "-fps_mode", "passthrough", "-pix_fmt", "yuv420p", "-f", "rawvideo", shown],
+        "ffmpeg": [
+            "ffmpeg",
+            "-y",
+            "-v",
+            "error",
+            "-i",
+            stream,
+            "-fps_mode",
+            "passthrough",
+            "-pix_fmt",
+            "yuv420p",
+            "-f",
+            "rawvideo",
+            shown,
+        ],
+        "ffmpeg without SIMD": [
+            "ffmpeg",
+            "-y",
+            "-v",
+            "error",
+            "-cpuflags",
+            "0",
+            "-i",
+            stream,
+            "-fps_mode",
+            "passthrough",
+            "-pix_fmt",
+            "yuv420p",
+            "-f",
+            "rawvideo",
+            shown,
+        ],
     }[decoder]
     subprocess.run([str(word) for word in words], stdout=subprocess.PIPE, stderr=subprocess.PIPE)
     text = shown.read_bytes()
@@ -116,7 +147,9 @@ def served_of(room, width, height, packets):
     (room / "in.ivf").write_bytes(ivf(width, height, packets))
     (room / "requests").write_text("".join(f"frame {n}\n" for n in range(sum(map(is_shown, packets)))))
     words = [VP8SERVE, room / "in.ivf", room / "requests", room / "out.y4m"]
-    replies = subprocess.run([str(word) for word in words], check=True, stdout=subprocess.PIPE).stdout.decode().split("\n")
+    replies = (
+        subprocess.run([str(word) for word in words], check=True, stdout=subprocess.PIPE).stdout.decode().split("\n")
+    )
     return frames_in((room / "out.y4m").read_bytes(), replies), replies
 
 

@@ -3,9 +3,9 @@
 
     compare/edits.py [LISTS [LONG_LISTS]]
 
-Each list is run once more with questions at random places between its lines: the other replies, those of `stats` too, and the frames must be
-the same. LONG_LISTS are lists of 60 edits of streams of 1,000 to 5,000 packets, whose packets are saved and compared too.
-README.md says more.
+Each list is run once more with questions at random places between its lines: the other replies, those of `stats` too,
+and the frames must be the same. LONG_LISTS are lists of 60 edits of streams of 1,000 to 5,000 packets, whose packets
+are saved and compared too. README.md says more.
 """
 import pathlib
 import random
@@ -124,13 +124,24 @@ class Model:
 
 
 def random_line(most):
-    place = lambda: random.choice([random.randrange(most), random.randrange(most), TOP - 1]) if random.random() < 0.1 else random.randrange(most)
+    place = lambda: (
+        random.choice([random.randrange(most), random.randrange(most), TOP - 1])
+        if random.random() < 0.1
+        else random.randrange(most)
+    )
     hex = random.choice(PACKETS).hex() or "-"
     hex = random.choice([hex, hex.upper()])
     return random.choice(
         [f"frame {place()}"] * 6
         + [f"insert {place()} {random.randrange(TOP)} {hex}"] * 2
-        + [f"replace {place()} {hex}", f"delete {place()}", f"move {place()} {place()}", f"  move   {place()}  {place()} ", "count", "stats"]
+        + [
+            f"replace {place()} {hex}",
+            f"delete {place()}",
+            f"move {place()} {place()}",
+            f"  move   {place()}  {place()} ",
+            "count",
+            "stats",
+        ]
         + [f"hide {place()}", f"show {place()}", f"packet {place()}", "script"]
     )
 
@@ -166,7 +177,10 @@ def compare(room, seed):
     steps = [int(reply.split()[1]) for reply in replies if reply.startswith("decoded ")]
     if told != wanted or steps != sorted(steps):
         row = next((i for i, pair in enumerate(zip(told, wanted)) if pair[0] != pair[1]), min(len(told), len(wanted)))
-        sys.exit(f"list {seed}, line {row}: {lines[row : row + 1]}: told {told[row : row + 1]}, wanted {wanted[row : row + 1]}")
+        sys.exit(
+            f"list {seed}, line {row}: {lines[row : row + 1]}: told {told[row : row + 1]}, wanted"
+            f" {wanted[row : row + 1]}"
+        )
     asked, places = with_questions(lines)
     more, same_frames = served(room, asked)
     if [more[place] for place in places] != replies or same_frames != frames:
@@ -176,7 +190,9 @@ def compare(room, seed):
 
 def long_line(count):
     """An edit of a long stream, at its ends, at the ends of runs of 1,024 packets and anywhere."""
-    near = lambda: max(0, random.choice([0, 1023, 1024, 1025, 2047, 2048, 3072, 4096, count - 1, count]) + random.randrange(-1, 2))
+    near = lambda: max(
+        0, random.choice([0, 1023, 1024, 1025, 2047, 2048, 3072, 4096, count - 1, count]) + random.randrange(-1, 2)
+    )
     place = lambda: near() if random.random() < 0.4 else random.randrange(count + 1)
     hex = random.choice(PACKETS).hex() or "-"
     return random.choice(
@@ -210,7 +226,10 @@ def compare_long(room, seed):
     told = ran.stdout.splitlines()[: len(lines)]
     if told != wanted:
         row = next((i for i, pair in enumerate(zip(told, wanted)) if pair[0] != pair[1]), min(len(told), len(wanted)))
-        sys.exit(f"long list {seed}, line {row}: {lines[row : row + 1]}: told {told[row : row + 1]}, wanted {wanted[row : row + 1]}")
+        sys.exit(
+            f"long list {seed}, line {row}: {lines[row : row + 1]}: told {told[row : row + 1]}, wanted"
+            f" {wanted[row : row + 1]}"
+        )
     if saved_packets(f"{room}/saved.ivf") != list(zip(model.stamps, model.packets)):
         sys.exit(f"long list {seed}: other packets were saved")
 
@@ -228,7 +247,10 @@ def main():
             compare_long(room, seed)
     for kind, count in sorted(kinds.items()):
         print(f"{count:7} {kind}")
-    results.total(f"{lists} lists of 60 requests, {long_lists} of 60 edits of 1,000 to 5,000 packets: all replies and saved packets are the model's")
+    results.total(
+        f"{lists} lists of 60 requests, {long_lists} of 60 edits of 1,000 to 5,000 packets: all replies and saved"
+        " packets are the model's"
+    )
 
 
 if __name__ == "__main__":

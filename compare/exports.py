@@ -1,14 +1,18 @@
 #!/usr/bin/env python3
-"""Packets that show the frames of random scripts again: those of `vp8serve --export`, and those of a plain model of lossless_cuts' definition.
+"""Packets that show the frames of random scripts again: those of `vp8serve --export`, and those of a plain model of
+lossless_cuts' definition.
 
     compare/exports.py [--scripts N] [--joins N] [--seed S] [--no-ffmpeg] [--model] [FILE ..]
 
-Each script trims and splices one or two clips of one size, or has parts of them, with repeated frames and frames in reverse order. Each clip is taken once as it is
-and once with packets of no bytes among its packets, as an encoder that drops frames writes them. The packets of a script are those of the
-definition: a lead of hidden packets from the packet after the last one, or from the last key packet, and then the frame's own packet, or a
-hold packet. The program must write exactly these, with the time stamps and the head of their durations, by exact fractions. vpxdec and ffmpeg decode what it wrote: their frames must be
-the frames that vp8serve serves for the script, byte for byte, and their number too. An export of the export has the same frames, and one of a
-clip without a script the clip's. Then clips of other rates and time stamps are joined, of which packets, time stamps and heads are compared. With --model nothing is exported: the decoders read the packets of the model.
+Each script trims and splices one or two clips of one size, or has parts of them, with repeated frames and frames in
+reverse order. Each clip is taken once as it is and once with packets of no bytes among its packets, as an encoder that
+drops frames writes them. The packets of a script are those of the definition: a lead of hidden packets from the packet
+after the last one, or from the last key packet, and then the frame's own packet, or a hold packet. The program must
+write exactly these, with the time stamps and the head of their durations, by exact fractions. vpxdec and ffmpeg decode
+what it wrote: their frames must be the frames that vp8serve serves for the script, byte for byte, and their number too.
+An export of the export has the same frames, and one of a clip without a script the clip's. Then clips of other rates
+and time stamps are joined, of which packets, time stamps and heads are compared. With --model nothing is exported: the
+decoders read the packets of the model.
 """
 
 import argparse
@@ -26,14 +30,18 @@ from library.programs import TOP, VP8LIST, VP8SERVE, real_streams
 
 sys.path.insert(0, str(TOP / "clients/python"))
 
-from wokureti.tools import ivf as files  # noqa: E402
+from wokureti.media import ivf as files  # noqa: E402
 
 
 def run(words, text=None):
     """Runs a program, and returns its output; a time limit of ten minutes."""
-    ran = subprocess.run([str(word) for word in words], input=text, stdout=subprocess.PIPE, stderr=subprocess.PIPE, timeout=600)
+    ran = subprocess.run(
+        [str(word) for word in words], input=text, stdout=subprocess.PIPE, stderr=subprocess.PIPE, timeout=600
+    )
     if ran.returncode:
-        raise SystemExit(f"{' '.join(map(str, words))}: status {ran.returncode}: {ran.stderr.decode(errors='replace')[-300:]}")
+        raise SystemExit(
+            f"{' '.join(map(str, words))}: status {ran.returncode}: {ran.stderr.decode(errors='replace')[-300:]}"
+        )
     return ran.stdout
 
 
@@ -99,7 +107,9 @@ def exported(clips, targets, held):
 
 def times_of(clips, targets, packets):
     """The rate and scale of the head of an export, and the time stamps of its packets."""
-    durations = [(clips[source].durations[place], exact_times.base_of(*clips[source].rate)) for source, place in targets]
+    durations = [
+        (clips[source].durations[place], exact_times.base_of(*clips[source].rate)) for source, place in targets
+    ]
     head = exact_times.head_for(durations, clips[0].rate)
     stamps = exact_times.stamps_of(durations, exact_times.base_of(*head))
     assert exact_times.is_near(durations, exact_times.base_of(*head), stamps)
@@ -150,9 +160,14 @@ def random_script(dice, clips):
     if dice.random() < 0.5:
         parts.append(dice.choice(parts))
     if dice.random() < 0.5:
-        pieces = [(part, 0 if place == 0 else dice.randrange(3), dice.choice([1, 2, 3, 9])) for place, part in enumerate(parts)]
+        pieces = [
+            (part, 0 if place == 0 else dice.randrange(3), dice.choice([1, 2, 3, 9]))
+            for place, part in enumerate(parts)
+        ]
         nodes.append(f"parts {' '.join(f'{part} {first} {count}' for part, first, count in pieces)}")
-        return "; ".join(nodes), [frame for part, first, count in pieces for frame in frames[part][first : first + count]]
+        return "; ".join(nodes), [
+            frame for part, first, count in pieces for frame in frames[part][first : first + count]
+        ]
     whole = parts[0]
     for part in parts[1:]:
         if len(nodes) == 16:
@@ -170,7 +185,11 @@ def served(clips, script, count, room):
     """The frames that vp8serve serves."""
     lines = [f"script {script}"] + [f"frame {n}" for n in range(count)]
     more = ["--sources", ":".join(str(it.path) for it in clips[1:])] if len(clips) > 1 else []
-    replies = run([VP8SERVE, clips[0].path, "-", f"{room}/out.y4m", *more], "\n".join(lines).encode() + b"\n").decode().splitlines()
+    replies = (
+        run([VP8SERVE, clips[0].path, "-", f"{room}/out.y4m", *more], "\n".join(lines).encode() + b"\n")
+        .decode()
+        .splitlines()
+    )
     if replies[1:] != [f"served {n}" for n in range(count)]:
         raise SystemExit(f"{clips[0].path}: {script}: {[it for it in replies if not it.startswith('served')][:3]}")
     with open(f"{room}/out.y4m", "rb") as file:
@@ -206,7 +225,21 @@ def decoded(name, path, room):
     """The frames of a file by a decoder."""
     lines = {
         "vpxdec": ["vpxdec", "--i420", "-o", f"{room}/frames.yuv", path],
-        "ffmpeg": ["ffmpeg", "-v", "error", "-y", "-i", path, "-fps_mode", "passthrough", "-f", "rawvideo", "-pix_fmt", "yuv420p", f"{room}/frames.yuv"],
+        "ffmpeg": [
+            "ffmpeg",
+            "-v",
+            "error",
+            "-y",
+            "-i",
+            path,
+            "-fps_mode",
+            "passthrough",
+            "-f",
+            "rawvideo",
+            "-pix_fmt",
+            "yuv420p",
+            f"{room}/frames.yuv",
+        ],
     }
     run(lines[name])
     with open(f"{room}/frames.yuv", "rb") as file:
@@ -257,7 +290,10 @@ def check_join(dice, clips, room):
     """What is wrong with the export of two or three clips of other rates, one after another."""
     one = dice.choice(clips)
     same = [it for it in clips if it.size == one.size]
-    mine = [with_times(dice, it, f"{room}/join-{at}.ivf") for at, it in enumerate(dice.choices(same, k=dice.choice([2, 2, 3])))]
+    mine = [
+        with_times(dice, it, f"{room}/join-{at}.ivf")
+        for at, it in enumerate(dice.choices(same, k=dice.choice([2, 2, 3])))
+    ]
     script = "source 1; splice 0 1" if len(mine) == 2 else "source 1; source 2; splice 0 1; splice 3 2"
     targets = [(source, place) for source, clip in enumerate(mine) for place in clip.shown]
     packets = exported(mine, targets, hold_packet(mine[0].size, room))
@@ -282,15 +318,22 @@ def compare(case, decoders, is_model, room, totals):
         got["the export of the export"] = decoded("vpxdec", f"{room}/again.ivf", room)
     for name, data in got.items():
         if data != want:
-            first = next((n for n in range(len(targets)) if data[n * size : (n + 1) * size] != want[n * size : (n + 1) * size]), len(targets))
+            first = next(
+                (n for n in range(len(targets)) if data[n * size : (n + 1) * size] != want[n * size : (n + 1) * size]),
+                len(targets),
+            )
             said.append(f"{name}: {len(data) / size:g} of {len(targets)} frames, the first wrong one {first}")
-    totals.scripts, totals.frames, totals.packets = totals.scripts + 1, totals.frames + len(targets), totals.packets + len(packets)
+    totals.scripts, totals.frames, totals.packets = (
+        totals.scripts + 1,
+        totals.frames + len(targets),
+        totals.packets + len(packets),
+    )
     totals.hidden, totals.wrong = totals.hidden + sum(not shown for shown, _ in packets), totals.wrong + len(said)
     return said
 
 
 def main():
-    words = argparse.ArgumentParser(description=__doc__.splitlines()[0])
+    words = argparse.ArgumentParser(description=__doc__.split("\n\n")[0])
     words.add_argument("clips", nargs="*", default=real_streams())
     words.add_argument("--scripts", type=int, default=100)
     words.add_argument("--joins", type=int, default=1000)
@@ -300,7 +343,9 @@ def main():
     args = words.parse_args()
     is_there = b"--export" in run([VP8SERVE, "--help"])
     if not is_there and not args.model:
-        raise SystemExit(f"{VP8SERVE} has no --export: compare/exports.py --model compares the packets of the definition")
+        raise SystemExit(
+            f"{VP8SERVE} has no --export: compare/exports.py --model compares the packets of the definition"
+        )
     decoders = ["vpxdec"] + ["ffmpeg"] * (not args.no_ffmpeg)
     dice, totals = random.Random(args.seed), Totals()
     clips = [it for it in map(Clip, args.clips) if len(it.sizes) == 1]
@@ -310,7 +355,10 @@ def main():
             for number in range(args.scripts):
                 case = random_case(dice, clips)
                 for text in compare(case, decoders, args.model, room, totals):
-                    print(f"script {number} of {[os.path.basename(it.path) for it in case[0]]}: {case[1]}: {text}", flush=True)
+                    print(
+                        f"script {number} of {[os.path.basename(it.path) for it in case[0]]}: {case[1]}: {text}",
+                        flush=True,
+                    )
             for number in range(0 if args.model else args.joins):
                 for text in check_join(dice, clips, room):
                     totals.wrong += 1

@@ -1,11 +1,12 @@
 #!/usr/bin/env python3
 """Counts how much damage `vp8list --check` finds, next to vpxdec and ffmpeg.
 
-Run manually, not in the gate: found.py [--sound] STREAMS [SEED] [FILE ..]. It damages the files (by default the example and the clips
-of gate_clips with 4,000 bytes or more) in one of eleven ways, drawn at random, and asks of each stream that shows another frame than
-before, or none, who says so: vp8list by its exit status, vpxdec by its exit status or a word on standard error, ffmpeg with
-`-err_detect explode` by a word on standard error. VP8LIST_BEFORE names an earlier vp8list to count too. With --sound it asks the same
-of the files as they are. It needs the built program (see README.md), vpxdec (Debian's vpx-tools) and ffmpeg.
+Run manually, not in the gate: found.py [--sound] STREAMS [SEED] [FILE ..]. It damages the files (by default the example
+and the clips of gate_clips with 4,000 bytes or more) in one of eleven ways, drawn at random, and asks of each stream
+that shows another frame than before, or none, who says so: vp8list by its exit status, vpxdec by its exit status or a
+word on standard error, ffmpeg with `-err_detect explode` by a word on standard error. VP8LIST_BEFORE names an earlier
+vp8list to count too. With --sound it asks the same of the files as they are. It needs the built program (see
+README.md), vpxdec (Debian's vpx-tools) and ffmpeg.
 """
 
 import collections
@@ -128,12 +129,16 @@ KINDS = {
 
 
 def ran(*words):
-    return subprocess.run(words, capture_output=True, text=True, errors="replace", timeout=60, check=False, stdin=subprocess.DEVNULL)
+    return subprocess.run(
+        words, capture_output=True, text=True, errors="replace", timeout=60, check=False, stdin=subprocess.DEVNULL
+    )
 
 
 def frames(path):
     """The frames of a stream, one list of hashes, whatever their time stamps."""
-    return [line.rsplit(",", 1)[-1] for line in ran(VP8LIST, path, "--hash").stdout.splitlines() if not line.startswith("#")]
+    return [
+        line.rsplit(",", 1)[-1] for line in ran(VP8LIST, path, "--hash").stdout.splitlines() if not line.startswith("#")
+    ]
 
 
 def reports(path):

@@ -1,9 +1,9 @@
 #!/usr/bin/env python3
 """Compares `vp8list --hash` with ffmpeg's `framemd5`, line for line.
 
-Run manually, not in the gate: hashes.py [FILE ..] compares these IVF files, or the real streams and the examples, and streams made from
-them here: time stamps that skip, another time base, a size that changes, packets cut to two bytes. It needs the built program and
-ffmpeg (see README.md).
+Run manually, not in the gate: hashes.py [FILE ..] compares these IVF files, or the real streams and the examples, and
+streams made from them here: time stamps that skip, another time base, a size that changes, packets cut to two bytes. It
+needs the built program and ffmpeg (see README.md).
 """
 
 import difflib
@@ -15,6 +15,7 @@ import tempfile
 
 import results
 from library.programs import CLIPS, EXAMPLE, VP8LIST
+
 # The time stamps of the file, each frame once at its own size, and no line with ffmpeg's version.
 FLAGS = ["-fps_mode", "passthrough", "-autoscale", "0", "-bitexact", "-f", "framemd5", "-"]
 
@@ -28,14 +29,16 @@ def ours(path):
 
 
 def theirs(path):
-    run = subprocess.run(["ffmpeg", "-nostdin", "-v", "quiet", "-copyts", "-i", path, *FLAGS], capture_output=True, text=True)
+    run = subprocess.run(
+        ["ffmpeg", "-nostdin", "-v", "quiet", "-copyts", "-i", path, *FLAGS], capture_output=True, text=True
+    )
     return run.stdout
 
 
 def read(path):
     """The header and the records of an IVF file."""
     text = path.read_bytes()
-    start, = struct.unpack_from("<H", text, 6)
+    (start,) = struct.unpack_from("<H", text, 6)
     packets = []
     while start + 12 <= len(text):
         size, stamp = struct.unpack_from("<IQ", text, start)
@@ -87,13 +90,17 @@ def main():
     totals = {}
     with tempfile.TemporaryDirectory() as room:
         cases = [("as it is", path) for path in clips]
-        for kind, path in cases if paths else (case for part in (cases, made(pathlib.Path(room), clips)) for case in part):
+        for kind, path in (
+            cases if paths else (case for part in (cases, made(pathlib.Path(room), clips)) for case in part)
+        ):
             left, right = ours(path), theirs(path)
             streams, frames, different = totals.get(kind, (0, 0, 0))
             totals[kind] = streams + 1, frames + left.count("\n0, "), different + (left != right)
             if left != right:
                 print(f"{path.name}, {kind}: differs")
-                lines = difflib.unified_diff(right.splitlines(), left.splitlines(), "ffmpeg", "vp8list", lineterm="", n=0)
+                lines = difflib.unified_diff(
+                    right.splitlines(), left.splitlines(), "ffmpeg", "vp8list", lineterm="", n=0
+                )
                 print("\n".join(list(lines)[:8]))
     for kind, (streams, frames, different) in totals.items():
         print(f"{kind}: {streams} streams, {frames} frames, {different} different")

@@ -1,9 +1,9 @@
 #!/usr/bin/env python3
 """Hides and shows packets of real streams at random, and compares the frames: hidden.py [ROUNDS [SEED]]
 
-Each shown packet must have the frame that it had before, and vpxdec must show the same frames of what is saved. The example and the
-clips of gate_clips are taken, each ROUNDS times (default 3). It needs the built program (see README.md) and vpxdec (Debian's
-vpx-tools).
+Each shown packet must have the frame that it had before, and vpxdec must show the same frames of what is saved. The
+example and the clips of gate_clips are taken, each ROUNDS times (default 3). It needs the built program (see README.md)
+and vpxdec (Debian's vpx-tools).
 """
 
 import pathlib
@@ -21,7 +21,11 @@ def served(room, stream, edits, count, frame):
     """The frames after some edits, the packets that the program tells then, and the saved file."""
     lines = [*edits, *(f"frame {n}" for n in range(count)), "stats"]
     (room / "requests").write_text("".join(f"{line}\n" for line in lines))
-    replies = run([VP8SERVE, stream, room / "requests", room / "out.y4m", "--save", room / "saved.ivf", "--cache", "4096"]).decode().splitlines()
+    replies = (
+        run([VP8SERVE, stream, room / "requests", room / "out.y4m", "--save", room / "saved.ivf", "--cache", "4096"])
+        .decode()
+        .splitlines()
+    )
     refused = [reply for reply in replies if reply.startswith("refused ")]
     text = (room / "out.y4m").read_bytes()
     return refused, frames_of(text, frame) if text else b"", list(packets_of((room / "saved.ivf").read_bytes()))
@@ -33,7 +37,7 @@ def compare(room, stream, choose):
     sizes = {tuple(size_of(packet)) for packet in packets if has_key_tag(packet)}
     if len(sizes) != 1 or any(len(packet) < 3 for packet in packets):
         return 0, None
-    (width, height), = sizes
+    ((width, height),) = sizes
     frame = width * height + 2 * ((width + 1) // 2) * ((height + 1) // 2)
     every = [f"show {place}" for place in range(len(packets))]
     refused, before, _ = served(room, stream, every, len(packets), frame)

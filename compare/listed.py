@@ -1,9 +1,9 @@
 #!/usr/bin/env python3
 """Compares the list of vp8list with one that is read here from the same headers, line for line.
 
-Run manually, not in the gate: listed.py FILE.. compares the lists of these IVF files; listed.py --print FILE prints the one
-that is read here; listed.py --damage N [SEED] compares the lists of N streams made from the example and the real streams with
-packets cut, dropped, doubled, moved and with bytes changed. It needs the built program (see README.md).
+Run manually, not in the gate: listed.py FILE.. compares the lists of these IVF files; listed.py --print FILE prints the
+one that is read here; listed.py --damage N [SEED] compares the lists of N streams made from the example and the real
+streams with packets cut, dropped, doubled, moved and with bytes changed. It needs the built program (see README.md).
 """
 
 import pathlib
@@ -19,14 +19,17 @@ from library.headers import facts
 from library.ivf import ivf, records, size_of
 from library.programs import VP8LIST, real_streams
 
-COLUMNS = "packet frame stamp bytes kind show version size first partitions quantizer level last golden altref cause byte scale color clamp"
+COLUMNS = (
+    "packet frame stamp bytes kind show version size first partitions quantizer level last golden altref cause byte"
+    " scale color clamp"
+)
 
 
 def lines(text):
     """The list of a file's bytes."""
     yield "\t".join(COLUMNS.split())
     frames, has_key, broken = 0, False, False
-    byte, = struct.unpack_from("<H", text, 6)
+    (byte,) = struct.unpack_from("<H", text, 6)
     for number, (stamp, packet) in enumerate(records(text)):
         tag = int.from_bytes(packet[:3], "little") if len(packet) >= 3 else None
         shown = tag is None or tag >> 4 & 1
@@ -40,7 +43,9 @@ def lines(text):
         refused, lost = isinstance(found, str), broken and not is_key
         columns = ["-"] * 8 if refused else found
         line += columns[:6] + ["lost" if lost else found if refused else "-", byte + 12]
-        line += ["x".join(str(side >> 14) for side in struct.unpack_from("<HH", packet, 6)) if whole else "-"] + columns[6:]
+        line += [
+            "x".join(str(side >> 14) for side in struct.unpack_from("<HH", packet, 6)) if whole else "-"
+        ] + columns[6:]
         broken = lost or refused
         byte += 12 + len(packet)
         frames += bool(shown)

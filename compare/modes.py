@@ -30,7 +30,21 @@ def compare(room, tables, width, height, modes):
     (room / "requests").write_text("frame 0\n")
     run([VP8SERVE, room / "in.ivf", room / "requests", room / "out.y4m"])
     run(["vpxdec", "--codec=vp8", "--i420", "-o", room / "vpxdec.yuv", room / "in.ivf"])
-    run(["ffmpeg", "-y", "-v", "error", "-i", room / "in.ivf", "-pix_fmt", "yuv420p", "-f", "rawvideo", room / "ffmpeg.yuv"])
+    run(
+        [
+            "ffmpeg",
+            "-y",
+            "-v",
+            "error",
+            "-i",
+            room / "in.ivf",
+            "-pix_fmt",
+            "yuv420p",
+            "-f",
+            "rawvideo",
+            room / "ffmpeg.yuv",
+        ]
+    )
     served = frames_of((room / "out.y4m").read_bytes(), size)
     return len(served) == size, [served == (room / f"{name}.yuv").read_bytes() for name in ("vpxdec", "ffmpeg")]
 

@@ -1,12 +1,13 @@
 #!/usr/bin/env python3
-"""Programs that open files by a path read the folder of `wokureti mount`: ffmpeg, mpv, melt, GStreamer, VLC, Blender, Shotcut and Kdenlive, those
-of them that are here.
+"""Programs that open files by a path read the folder of `wokureti mount`: ffmpeg, mpv, melt, GStreamer, VLC, Blender,
+Shotcut and Kdenlive, those of them that are here.
 
     compare/mounted.py [--reads N] [--seed S] [--shots FOLDER]
 
-It needs python3-fusepy and fuse3. Each program reads the frames of clip.y4m, and seeks in it. melt converts its samples: its frames are compared with
-those that it makes of a file on the disk with the same bytes. The files are read at random places and compared with what the programs write; edits are made
-while they are read; the mount and vp8serve are killed. README.md says more.
+It needs python3-fusepy and fuse3. Each program reads the frames of clip.y4m, and seeks in it. melt converts its
+samples: its frames are compared with those that it makes of a file on the disk with the same bytes. The files are read
+at random places and compared with what the programs write; edits are made while they are read; the mount and vp8serve
+are killed. README.md says more.
 """
 
 import argparse
@@ -28,8 +29,9 @@ sys.path.insert(0, str(TOP / "clients/python"))
 import results  # noqa: E402
 from library import screens  # noqa: E402
 from wokureti import Session  # noqa: E402
+from wokureti.base import programs  # noqa: E402
+from wokureti.media import ivf  # noqa: E402
 from wokureti.server import mount  # noqa: E402
-from wokureti.tools import ivf, programs  # noqa: E402
 
 LIBRARY = TOP / "compare/library"
 RATE, COUNT, WIDTH, HEIGHT = 25, 120, 320, 180
@@ -51,16 +53,45 @@ def by_ffmpeg(path, start, room):
 
 def by_mpv(path, start, room):
     out = f"{room}/mpv.yuv"
-    run("mpv", "--no-config", "--really-quiet", f"--start={start / RATE}", f"--o={out}", "--ovc=rawvideo", "--of=rawvideo", "--vf=format=yuv420p", path)
+    run(
+        "mpv",
+        "--no-config",
+        "--really-quiet",
+        f"--start={start / RATE}",
+        f"--o={out}",
+        "--ovc=rawvideo",
+        "--of=rawvideo",
+        "--vf=format=yuv420p",
+        path,
+    )
     return md5s("-f", "rawvideo", "-pix_fmt", "yuv420p", "-s", f"{WIDTH}x{HEIGHT}", "-i", out)
 
 
 def by_melt(path, start, room):
     out = f"{room}/melt.yuv"
     # The profile of the clip: else melt scales it.
-    pathlib.Path(room, "profile").write_text(f"description=x\nframe_rate_num={RATE}\nframe_rate_den=1\nwidth=320\nheight=180\nprogressive=1\nsample_aspect_num=1\nsample_aspect_den=1\ndisplay_aspect_num=16\ndisplay_aspect_den=9\ncolorspace=601\n")
+    pathlib.Path(room, "profile").write_text(
+        f"description=x\nframe_rate_num={RATE}\nframe_rate_den=1\nwidth=320\nheight=180\nprogressive=1\n"
+        "sample_aspect_num=1\nsample_aspect_den=1\ndisplay_aspect_num=16\ndisplay_aspect_den=9\ncolorspace=601\n"
+    )
     env = {**os.environ, "SDL_VIDEODRIVER": "dummy", "QT_QPA_PLATFORM": "offscreen"}
-    run("melt", "-silent", "-profile", f"{room}/profile", path, f"in={start}", f"out={COUNT - 1}", "-consumer", f"avformat:{out}", "f=rawvideo", "vcodec=rawvideo", "pix_fmt=yuv420p", "an=1", "real_time=-1", env=env)
+    run(
+        "melt",
+        "-silent",
+        "-profile",
+        f"{room}/profile",
+        path,
+        f"in={start}",
+        f"out={COUNT - 1}",
+        "-consumer",
+        f"avformat:{out}",
+        "f=rawvideo",
+        "vcodec=rawvideo",
+        "pix_fmt=yuv420p",
+        "an=1",
+        "real_time=-1",
+        env=env,
+    )
     return md5s("-f", "rawvideo", "-pix_fmt", "yuv420p", "-s", f"{WIDTH}x{HEIGHT}", "-i", out)
 
 
@@ -68,7 +99,19 @@ def by_gstreamer(path, start, room):
     if start or subprocess.run(["gst-inspect-1.0", "--exists", "y4mdec"], check=False).returncode:
         return None
     out = f"{room}/gst.yuv"
-    run("gst-launch-1.0", "-q", "filesrc", f"location={path}", "!", "y4mdec", "!", "video/x-raw,format=I420", "!", "filesink", f"location={out}")
+    run(
+        "gst-launch-1.0",
+        "-q",
+        "filesrc",
+        f"location={path}",
+        "!",
+        "y4mdec",
+        "!",
+        "video/x-raw,format=I420",
+        "!",
+        "filesink",
+        f"location={out}",
+    )
     return md5s("-f", "rawvideo", "-pix_fmt", "yuv420p", "-s", f"{WIDTH}x{HEIGHT}", "-i", out)
 
 
@@ -89,11 +132,20 @@ def rgb(*words):
     return md5s(*words, "-pix_fmt", "rgb24")
 
 
-READERS = {"ffmpeg": by_ffmpeg, "mpv": by_mpv, "melt": by_melt, "gst-launch-1.0": by_gstreamer, "vlc": by_vlc, "blender": by_blender}
+READERS = {
+    "ffmpeg": by_ffmpeg,
+    "mpv": by_mpv,
+    "melt": by_melt,
+    "gst-launch-1.0": by_gstreamer,
+    "vlc": by_vlc,
+    "blender": by_blender,
+}
 
 
 def is_right(name, found, start, wanted):
-    """Whether these are the frames from one on. VLC seeks by bytes, and begins one earlier than it is asked for, or two."""
+    """Whether these are the frames from one on. VLC seeks by bytes, and begins one earlier than it is asked for, or
+    two.
+    """
     if name != "vlc":
         return found == wanted[start:]
     found = found[1:] if start and found[:1] == wanted[:1] else found
@@ -123,7 +175,9 @@ WINDOWS = {
 
 
 def see(name, path, frames, shots):
-    """Opens a path in a program with a window, goes to frames of it, and returns the names of those that are not there."""
+    """Opens a path in a program with a window, goes to frames of it, and returns the names of those that are not
+    there.
+    """
     wrong = []
     with tempfile.TemporaryDirectory() as room:
         screen = screens.Screen(room, frames, WIDTH, HEIGHT)
@@ -148,7 +202,11 @@ class Mounted:
 
     def __init__(self, clip, folder):
         self.folder = folder
-        self.process = subprocess.Popen([sys.executable, "-m", "wokureti", "mount", clip, folder], stdout=subprocess.DEVNULL, stderr=subprocess.DEVNULL)
+        self.process = subprocess.Popen(
+            [sys.executable, "-m", "wokureti", "mount", clip, folder],
+            stdout=subprocess.DEVNULL,
+            stderr=subprocess.DEVNULL,
+        )
         self.wait(True)
 
     def is_there(self):
@@ -192,7 +250,13 @@ def read_at_random(dice, folder, clip, count):
     if list(map(json.loads, (folder / "packets.jsonl").read_text().splitlines())) != wanted["packets.jsonl"]:
         wrong += 1
         print("packets.jsonl has other facts")
-    whole = {"clip.y4m": wanted["clip.y4m"], **{name: (folder / name).read_bytes() for name in ("clip.ivf", "clip.webm", "packets.jsonl", "frames/000007.png")}}
+    whole = {
+        "clip.y4m": wanted["clip.y4m"],
+        **{
+            name: (folder / name).read_bytes()
+            for name in ("clip.ivf", "clip.webm", "packets.jsonl", "frames/000007.png")
+        },
+    }
     for _ in range(count):
         name = dice.choice(list(whole))
         at, size = dice.randrange(len(whole[name])), dice.choice((1, 100, 4096, 131072, 1 << 20))
@@ -241,7 +305,10 @@ def see_windows(folder, clip, names, shots):
     lacks, wrong = screens.missing(), []
     there = [name for name in WINDOWS if shutil.which(name)]
     if lacks or len(there) < len(WINDOWS):
-        print(f"skipped: {', '.join(WINDOWS) if lacks else ', '.join(set(WINDOWS) - set(there))}: {lacks or 'it'} is not here")
+        print(
+            f"skipped: {', '.join(WINDOWS) if lacks else ', '.join(set(WINDOWS) - set(there))}: {lacks or 'it'} is not"
+            " here"
+        )
     data = run("ffmpeg", "-nostdin", "-v", "error", "-i", clip, "-pix_fmt", "rgb24", "-f", "rawvideo", "-")
     size = 3 * WIDTH * HEIGHT
     frames = [data[start : start + size] for start in range(0, len(data), size)]
@@ -253,7 +320,7 @@ def see_windows(folder, clip, names, shots):
 
 
 def main():
-    words = argparse.ArgumentParser(description=__doc__.splitlines()[0])
+    words = argparse.ArgumentParser(description=__doc__.split("\n\n")[0])
     words.add_argument("--reads", type=int, default=1000)
     words.add_argument("--seed", type=int, default=1)
     words.add_argument("--shots", metavar="FOLDER", help="pictures of the programs with windows")
@@ -266,12 +333,32 @@ def main():
     with tempfile.TemporaryDirectory() as room:
         clip, folder = f"{room}/clip.ivf", pathlib.Path(room, "folder")
         folder.mkdir()
-        run("ffmpeg", "-nostdin", "-v", "error", "-f", "lavfi", "-i", f"testsrc2=size=320x180:rate={RATE}", "-frames:v", COUNT, "-c:v", "libvpx", "-threads", "1", "-g", "30", clip)
+        run(
+            "ffmpeg",
+            "-nostdin",
+            "-v",
+            "error",
+            "-f",
+            "lavfi",
+            "-i",
+            f"testsrc2=size=320x180:rate={RATE}",
+            "-frames:v",
+            COUNT,
+            "-c:v",
+            "libvpx",
+            "-threads",
+            "1",
+            "-g",
+            "30",
+            clip,
+        )
         mounted, whole, disk = Mounted(clip, folder), md5s("-i", clip), f"{room}/disk.y4m"
         pathlib.Path(disk).write_bytes(texts(clip)["clip.y4m"])
         try:
             for name in [one for one in READERS if shutil.which(one)]:
-                wanted = {"melt": lambda: by_melt(disk, 0, room), "blender": lambda: rgb("-i", clip)}.get(name, lambda: whole)()
+                wanted = {"melt": lambda: by_melt(disk, 0, room), "blender": lambda: rgb("-i", clip)}.get(
+                    name, lambda: whole
+                )()
                 for start in (0, *sorted(dice.sample(range(1, COUNT), 4))):
                     found = READERS[name](str(folder / "clip.y4m"), start, room)
                     if found is None:
@@ -291,7 +378,13 @@ def main():
         wrong += list(folder.iterdir()) != []
     skipped = [name for name in READERS if name not in names]
     print(*(f"skipped: {name}" for name in skipped), sep="\n", end="\n" if skipped else "")
-    results.total(f"{', '.join(sorted(names))}: {frames} frames, {given.reads} reads, 10 edits meanwhile, vp8serve and the mount killed: {wrong} wrong", wrong)
+    results.total(
+        (
+            f"{', '.join(sorted(names))}: {frames} frames, {given.reads} reads, 10 edits meanwhile, vp8serve and the"
+            f" mount killed: {wrong} wrong"
+        ),
+        wrong,
+    )
     return 1 if wrong else 0
 
 

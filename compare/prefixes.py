@@ -1,5 +1,6 @@
 #!/usr/bin/env python3
-"""Cuts each packet of three small clips at each length, and compares the replies with the rules and the frames with vpxdec's.
+"""Cuts each packet of three small clips at each length, and compares the replies with the rules and the frames with
+vpxdec's.
 
     [VPXDEC=PATH] compare/prefixes.py
 
@@ -48,7 +49,9 @@ def answers(room, stream, lines):
     (room / "in.ivf").write_bytes(stream)
     (room / "requests").write_text("".join(f"{line}\n" for line in lines))
     words = [VP8SERVE, room / "in.ivf", room / "requests", room / "out.y4m"]
-    replies = subprocess.run([str(word) for word in words], check=True, stdout=subprocess.PIPE).stdout.decode().splitlines()
+    replies = (
+        subprocess.run([str(word) for word in words], check=True, stdout=subprocess.PIPE).stdout.decode().splitlines()
+    )
     text = (room / "out.y4m").read_bytes()
     start, served = text.index(b"\n") + 1, sum(reply.startswith("served") for reply in replies)
     size = (len(text) - start) // served

@@ -1,6 +1,6 @@
 #!/usr/bin/env python3
-"""Damages streams in ten ways, repairs them, and counts the packets that come back and the frames that equal the original's; next to what
-ffmpeg and mkvmerge make of the same files.
+"""Damages streams in ten ways, repairs them, and counts the packets that come back and the frames that equal the
+original's; next to what ffmpeg and mkvmerge make of the same files.
 
     compare/repairs.py [STREAMS [SEED]]
 
@@ -18,10 +18,17 @@ TOP = pathlib.Path(__file__).resolve().parent.parent
 sys.path.insert(0, str(TOP / "clients/python"))
 
 import results  # noqa: E402
-from wokureti.tools import ivf, programs, repair  # noqa: E402
+from wokureti.base import programs  # noqa: E402
+from wokureti.errors import NotIvf  # noqa: E402
+from wokureti.media import ivf  # noqa: E402
+from wokureti.tools import repair  # noqa: E402
 
 FRAMES = 200
-SOURCES = ["mandelbrot=size=176x144:rate=25", "testsrc2=size=176x144:rate=25", "life=size=96x96:rate=25:mold=10:ratio=0.4,scale=160:96"]
+SOURCES = [
+    "mandelbrot=size=176x144:rate=25",
+    "testsrc2=size=176x144:rate=25",
+    "life=size=96x96:rate=25:mold=10:ratio=0.4,scale=160:96",
+]
 
 
 def clips(room):
@@ -29,11 +36,43 @@ def clips(room):
     made = []
     for number, source in enumerate(SOURCES):
         raw = room / f"{number}.y4m"
-        words = ["ffmpeg", "-nostdin", "-v", "error", "-f", "lavfi", "-i", source, "-frames:v", str(FRAMES), "-pix_fmt", "yuv420p", str(raw)]
+        words = [
+            "ffmpeg",
+            "-nostdin",
+            "-v",
+            "error",
+            "-f",
+            "lavfi",
+            "-i",
+            source,
+            "-frames:v",
+            str(FRAMES),
+            "-pix_fmt",
+            "yuv420p",
+            str(raw),
+        ]
         subprocess.run(words, check=True)
-        for name, options in (("plain", ["--kf-max-dist=50"]), ("resilient", ["--kf-max-dist=50", "--error-resilient=1"]), ("hidden", ["--kf-max-dist=50", "--auto-alt-ref=1", "--lag-in-frames=16", "--passes=2"])):
+        for name, options in (
+            ("plain", ["--kf-max-dist=50"]),
+            ("resilient", ["--kf-max-dist=50", "--error-resilient=1"]),
+            ("hidden", ["--kf-max-dist=50", "--auto-alt-ref=1", "--lag-in-frames=16", "--passes=2"]),
+        ):
             path = room / f"{number}-{name}.ivf"
-            subprocess.run(["vpxenc", "--codec=vp8", "--quiet", "--ivf", "--target-bitrate=250", *options, "-o", str(path), str(raw)], check=True, capture_output=True)
+            subprocess.run(
+                [
+                    "vpxenc",
+                    "--codec=vp8",
+                    "--quiet",
+                    "--ivf",
+                    "--target-bitrate=250",
+                    *options,
+                    "-o",
+                    str(path),
+                    str(raw),
+                ],
+                check=True,
+                capture_output=True,
+            )
             made.append(path)
         raw.unlink()
     return made
@@ -110,7 +149,18 @@ def damage(kind, data, head, packets, choose):
     }[kind]()
 
 
-KINDS = ["a sector of zeros", "eight sectors of zeros", "bytes inserted", "bytes missing", "a tail of zeros", "cut off", "first sector of zeros", "packets twice", "packets exchanged", "packets cut to 1 or 2 bytes"]
+KINDS = [
+    "a sector of zeros",
+    "eight sectors of zeros",
+    "bytes inserted",
+    "bytes missing",
+    "a tail of zeros",
+    "cut off",
+    "first sector of zeros",
+    "packets twice",
+    "packets exchanged",
+    "packets cut to 1 or 2 bytes",
+]
 
 
 def frames_of(path):
@@ -127,7 +177,7 @@ def frames_of(path):
 def packets_in(path):
     try:
         return ivf.read_packets(path)[1]
-    except (OSError, ivf.NotIvf):
+    except (OSError, NotIvf):
         return []
 
 
@@ -135,7 +185,7 @@ def by_repair(path, out, second=None):
     data = path.read_bytes()
     try:
         found = repair.repair(data, programs.find("vp8serve"), programs.find("vp8list"), second and second.read_bytes())
-    except (ivf.NotIvf, ValueError):
+    except (NotIvf, ValueError):
         return
     packets = [(packet.stamp, packet.data) for packet in found.packets]
     out.write_bytes(text_of(found.head, packets))
@@ -153,7 +203,12 @@ def by_mkvmerge(path, out):
         mkv.unlink()
 
 
-TOOLS = {"as it is": lambda path, out: out.write_bytes(path.read_bytes()), "ffmpeg -c copy": by_ffmpeg, "mkvmerge": by_mkvmerge, "wokureti repair": by_repair}
+TOOLS = {
+    "as it is": lambda path, out: out.write_bytes(path.read_bytes()),
+    "ffmpeg -c copy": by_ffmpeg,
+    "mkvmerge": by_mkvmerge,
+    "wokureti repair": by_repair,
+}
 
 
 def score(out, packets, frames):
@@ -162,7 +217,8 @@ def score(out, packets, frames):
     wanted = collections.Counter(data for _, data in packets)
     recovered = sum((wanted & collections.Counter(data for _, data in found)).values())
     shown = frames_of(out) if found else {}
-    # A container may count in another unit: mkvextract's stamps are those of milliseconds in the stream's rate, as the original's.
+    # A container may count in another unit: mkvextract's stamps are those of milliseconds in the stream's rate, as the
+    # original's.
     return recovered, sum(bool(hashes & shown.get(stamp, set())) for stamp, hashes in frames.items())
 
 
@@ -191,13 +247,22 @@ def main():
             if sys.stderr.isatty():
                 print(f"\r{turn + 1} of {count}", end="", file=sys.stderr)
     names = [*TOOLS, "with a second"]
-    print(f"| {count} streams, {count // len(KINDS)} of each kind; packets and frames in percent | {' | '.join(names)} |")
+    print(
+        f"| {count} streams, {count // len(KINDS)} of each kind; packets and frames in percent | {' | '.join(names)} |"
+    )
     print("|---|" + "---|" * len(names))
     for kind in [*KINDS, "all"]:
         total = sum(sums.values(), collections.Counter()) if kind == "all" else sums[kind]
-        cells = [f"{100 * total[f'{name} packets'] / total['packets']:.1f}, {100 * total[f'{name} frames'] / total['frames']:.1f}" for name in names]
+        cells = [
+            f"{100 * total[f'{name} packets'] / total['packets']:.1f},"
+            f" {100 * total[f'{name} frames'] / total['frames']:.1f}"
+            for name in names
+        ]
         print(f"| {kind} | {' | '.join(cells)} |")
-    results.total(f"{count} streams; packets and frames in percent: {', '.join(f'{name} {cell}' for name, cell in zip(names, cells))}")
+    results.total(
+        f"{count} streams; packets and frames in percent:"
+        f" {', '.join(f'{name} {cell}' for name, cell in zip(names, cells))}"
+    )
     return 0
 
 

@@ -1,11 +1,13 @@
 #!/usr/bin/env python3
-"""Compares the time stamps of `vp8serve --restamp`, and those of the Python client, with those of a plain model of durations, over random edits of random streams.
+"""Compares the time stamps of `vp8serve --restamp`, and those of the Python client, with those of a plain model of
+durations, over random edits of random streams.
 
     compare/restamps.py [--lists N] [--seed S]
 
-Each list edits one or two streams of random rates and time stamps (with gaps, repeats and jumps back) by insert, replace, delete, move, copy, blank, hold,
-hide, show and use. The packets of source 0 that the program saves must have the time stamps and bytes of the model, and so must those that a session of the
-client saves; without --restamp they have their own.
+Each list edits one or two streams of random rates and time stamps (with gaps, repeats and jumps back) by insert,
+replace, delete, move, copy, blank, hold, hide, show and use. The packets of source 0 that the program saves must have
+the time stamps and bytes of the model, and so must those that a session of the client saves; without --restamp they
+have their own.
 """
 
 import argparse
@@ -23,7 +25,14 @@ sys.path.insert(0, str(TOP / "clients/python"))
 
 from wokureti import Session  # noqa: E402
 
-PACKETS = [bytes([0x11, 0, 0]), bytes([0x01, 0, 0]), b"", bytes([0x11, 0]), bytes.fromhex("10 00 00 9D 01 2A 10 00 10 00"), bytes([0x11, 0, 0, 7])]
+PACKETS = [
+    bytes([0x11, 0, 0]),
+    bytes([0x01, 0, 0]),
+    b"",
+    bytes([0x11, 0]),
+    bytes.fromhex("10 00 00 9D 01 2A 10 00 10 00"),
+    bytes([0x11, 0, 0, 7]),
+]
 
 
 class Stream:
@@ -50,13 +59,19 @@ class Stream:
     def restamped(self):
         """The packets with new time stamps, by exact fractions."""
         shown = [is_shown(packet) for _, packet, _ in self.packets]
-        durations = [(units, exact_times.base_of(*rate)) for is_frame, (_, _, (units, rate)) in zip(shown, self.packets) if is_frame]
+        durations = [
+            (units, exact_times.base_of(*rate))
+            for is_frame, (_, _, (units, rate)) in zip(shown, self.packets)
+            if is_frame
+        ]
         stamps = exact_times.stamps_of(durations, exact_times.base_of(*self.rate))
         return [(stamp, packet) for stamp, (_, packet, _) in zip(exact_times.stamped(shown, stamps), self.packets)]
 
 
 def random_edit(dice, streams, current):
-    """A request for the current source, which is made in the model too; None if the model would need bytes that it does not know."""
+    """A request for the current source, which is made in the model too; None if the model would need bytes that it does
+    not know.
+    """
     mine = streams[current]
     count = len(mine.packets)
     kind = dice.choice(["insert", "insert", "copy", "copy", "move", "delete", "replace", "show", "hide"])
@@ -108,7 +123,14 @@ def run_list(dice, room):
             lines += [line] if line else []
     more = ["--sources", f"{room}/1.ivf"] if len(streams) > 1 else []
     words = [VP8SERVE, f"{room}/0.ivf", "-", "-", *more, "--save", f"{room}/out.ivf", "--restamp"]
-    ran = subprocess.run([str(word) for word in words], input="".join(f"{line}\n" for line in lines), text=True, stdout=subprocess.PIPE, stderr=subprocess.PIPE, timeout=60)
+    ran = subprocess.run(
+        [str(word) for word in words],
+        input="".join(f"{line}\n" for line in lines),
+        text=True,
+        stdout=subprocess.PIPE,
+        stderr=subprocess.PIPE,
+        timeout=60,
+    )
     refused = [reply for reply in ran.stdout.splitlines() if not reply.startswith("ok")]
     if ran.returncode or refused:
         raise SystemExit(f"status {ran.returncode}: {ran.stderr}{refused[:2]}: {lines}")
@@ -125,7 +147,7 @@ def saved_in(path):
 
 
 def main():
-    words = argparse.ArgumentParser(description=__doc__.splitlines()[0])
+    words = argparse.ArgumentParser(description=__doc__.split("\n\n")[0])
     words.add_argument("--lists", type=int, default=500)
     words.add_argument("--seed", type=int, default=1)
     args = words.parse_args()

@@ -1,8 +1,8 @@
 """Writes results.txt, which has the last run of each script and kind of run that found no difference.
 
-A script calls `total` at its end. A kind of run is a script with its options, and with files or without: `clips.py 20 1` and `clips.py 200 7` are of
-one kind, `listed.py FILE ..` and `listed.py --damage 200` of two. A run that differs, fails, is interrupted or has --quiet (as in the gate) writes
-nothing.
+A script calls `total` at its end. A kind of run is a script with its options, and with files or without:
+`clips.py 20 1` and `clips.py 200 7` are of one kind, `listed.py FILE ..` and `listed.py --damage 200` of two. A run
+that differs, fails, is interrupted or has --quiet (as in the gate) writes nothing.
 """
 
 import contextlib
@@ -58,13 +58,21 @@ def command(words):
     names = [word for word in words[1:] if is_name(word)]
     if len(names) > MOST_NAMES:
         words = [words[0], *(word for word in words[1:] if not is_name(word)), f"({len(names)} files)"]
-    return plain(" ".join([os.path.basename(words[0]), *(os.path.basename(word) if is_name(word) else word for word in words[1:])]))
+    return plain(
+        " ".join(
+            [os.path.basename(words[0]), *(os.path.basename(word) if is_name(word) else word for word in words[1:])]
+        )
+    )
 
 
 def kind(line):
     """What two lines have in common of which the later one is kept."""
     script, *words = line.partition(" | ")[0].split() or [""]
-    return script, sorted({word.partition("=")[0] for word in words if word.startswith("-")} - SIZES), any(map(is_name, words))
+    return (
+        script,
+        sorted({word.partition("=")[0] for word in words if word.startswith("-")} - SIZES),
+        any(map(is_name, words)),
+    )
 
 
 def sources():
@@ -75,7 +83,15 @@ def sources():
 def version_of_programs():
     for program in PROGRAMS:
         with contextlib.suppress(OSError, ValueError, subprocess.TimeoutExpired):
-            said = subprocess.run([program, "--version"], stdin=subprocess.DEVNULL, stdout=subprocess.PIPE, stderr=subprocess.DEVNULL, text=True, timeout=LIMIT, check=False).stdout
+            said = subprocess.run(
+                [program, "--version"],
+                stdin=subprocess.DEVNULL,
+                stdout=subprocess.PIPE,
+                stderr=subprocess.DEVNULL,
+                text=True,
+                timeout=LIMIT,
+                check=False,
+            ).stdout
             if re.fullmatch(r"vp8\w+ \S+\n", said):
                 return said.split()[1]
     return "-"
@@ -109,7 +125,10 @@ def write(file, words, text, version):
         others = [it for it in lines if not it.startswith("#") and kind(it) != kind(line)]
         try:
             with open(new, "w", encoding="utf-8", errors="surrogateescape") as out:
-                out.writelines(f"{it}\n" for it in [*(it for it in lines if it.startswith("#")), *sorted([*others, line], key=kind)])
+                out.writelines(
+                    f"{it}\n"
+                    for it in [*(it for it in lines if it.startswith("#")), *sorted([*others, line], key=kind)]
+                )
             os.replace(new, file)
         except BaseException:
             new.unlink(missing_ok=True)

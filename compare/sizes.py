@@ -31,9 +31,29 @@ def coded_clip(room, choose, width, height):
     picture = drawn(choose.choice(["mandelbrot", "testsrc2,noise=alls=60:allf=t"]), 64, 64)
     shape = ["-vf", f"scale={width}:{height}", "-frames:v", str(FRAMES), "-pix_fmt", "yuv420p"]
     run(["ffmpeg", "-y", "-v", "error", "-f", "lavfi", "-i", picture, *shape, room / "clip.y4m"])
-    words = [f"--profile={choose.randrange(4)}", f"--token-parts={choose.randrange(4)}", f"--sharpness={choose.randrange(8)}"]
-    words += [f"--target-bitrate={choose.choice([5, 50, 500])}", "--auto-alt-ref=0", "--lag-in-frames=0", "--kf-max-dist=999"]
-    run(["vpxenc", "--codec=vp8", "--ivf", "--disable-warning-prompt", *words, "-o", room / "coded.ivf", room / "clip.y4m"])
+    words = [
+        f"--profile={choose.randrange(4)}",
+        f"--token-parts={choose.randrange(4)}",
+        f"--sharpness={choose.randrange(8)}",
+    ]
+    words += [
+        f"--target-bitrate={choose.choice([5, 50, 500])}",
+        "--auto-alt-ref=0",
+        "--lag-in-frames=0",
+        "--kf-max-dist=999",
+    ]
+    run(
+        [
+            "vpxenc",
+            "--codec=vp8",
+            "--ivf",
+            "--disable-warning-prompt",
+            *words,
+            "-o",
+            room / "coded.ivf",
+            room / "clip.y4m",
+        ]
+    )
     return list(packets_of((room / "coded.ivf").read_bytes()))
 
 

@@ -1,9 +1,9 @@
 #!/usr/bin/env python3
 """Counts what `vp8list --check` reports of sound clips, by how their time stamps go on.
 
-Run manually, not in the gate: steps.py [CLIPS] [SEED], so many clips of each kind, and SEED 1 if none is given. ffmpeg draws each clip, some
-with variable rates; vpxenc codes some and drops frames. No clip is damaged, so each finding that is damage is a false alarm. It needs the built
-program (see README.md), ffmpeg and vpxenc (Debian's vpx-tools).
+Run manually, not in the gate: steps.py [CLIPS] [SEED], so many clips of each kind, and SEED 1 if none is given. ffmpeg
+draws each clip, some with variable rates; vpxenc codes some and drops frames. No clip is damaged, so each finding that
+is damage is a false alarm. It needs the built program (see README.md), ffmpeg and vpxenc (Debian's vpx-tools).
 """
 
 import collections
@@ -27,8 +27,28 @@ FRAMES = 80
 def by_ffmpeg(room, choose, *filters, rate=30, options=()):
     """A clip that ffmpeg draws, filters and codes itself."""
     graph = ",".join([f"scale={SIZE[0]}:{SIZE[1]}", *filters])
-    words = ["-f", "lavfi", "-r", str(rate), "-i", drawn(choose.choice(SOURCES), *SIZE), "-vf", graph, "-frames:v", str(FRAMES)]
-    coder = ["-c:v", "libvpx", "-b:v", f"{choose.choice([40, 200, 1000])}k", "-g", str(choose.choice([9, 30, 999])), "-auto-alt-ref", str(choose.randrange(2))]
+    words = [
+        "-f",
+        "lavfi",
+        "-r",
+        str(rate),
+        "-i",
+        drawn(choose.choice(SOURCES), *SIZE),
+        "-vf",
+        graph,
+        "-frames:v",
+        str(FRAMES),
+    ]
+    coder = [
+        "-c:v",
+        "libvpx",
+        "-b:v",
+        f"{choose.choice([40, 200, 1000])}k",
+        "-g",
+        str(choose.choice([9, 30, 999])),
+        "-auto-alt-ref",
+        str(choose.randrange(2)),
+    ]
     run(["ffmpeg", "-y", "-v", "error", *words, "-pix_fmt", "yuv420p", *coder, *options, room / "clip.ivf"])
 
 
@@ -49,8 +69,31 @@ def variable(room, choose):
 
 def same_pictures(room, choose):
     """Frames that are the same as the one before them are dropped."""
-    run(["ffmpeg", "-y", "-v", "error", "-f", "lavfi", "-i", f"testsrc=size=96x64:rate=30:decimals={choose.randrange(2)}", "-vf", "mpdecimate",
-         "-fps_mode", "vfr", "-frames:v", str(FRAMES), "-pix_fmt", "yuv420p", "-c:v", "libvpx", "-auto-alt-ref", "0", room / "clip.ivf"])
+    run(
+        [
+            "ffmpeg",
+            "-y",
+            "-v",
+            "error",
+            "-f",
+            "lavfi",
+            "-i",
+            f"testsrc=size=96x64:rate=30:decimals={choose.randrange(2)}",
+            "-vf",
+            "mpdecimate",
+            "-fps_mode",
+            "vfr",
+            "-frames:v",
+            str(FRAMES),
+            "-pix_fmt",
+            "yuv420p",
+            "-c:v",
+            "libvpx",
+            "-auto-alt-ref",
+            "0",
+            room / "clip.ivf",
+        ]
+    )
 
 
 def jitter(room, choose):
@@ -67,10 +110,36 @@ def one_pause(room, choose):
 
 def encoder_drops(room, choose):
     """Frames that vpxenc drops for its rate."""
-    words = ["-f", "lavfi", "-i", drawn(choose.choice(SOURCES), *SIZE), "-vf", f"scale={SIZE[0]}:{SIZE[1]}", "-frames:v", str(FRAMES)]
+    words = [
+        "-f",
+        "lavfi",
+        "-i",
+        drawn(choose.choice(SOURCES), *SIZE),
+        "-vf",
+        f"scale={SIZE[0]}:{SIZE[1]}",
+        "-frames:v",
+        str(FRAMES),
+    ]
     run(["ffmpeg", "-y", "-v", "error", *words, "-pix_fmt", "yuv420p", room / "clip.y4m"])
-    coder = ["--rt", "--end-usage=cbr", f"--target-bitrate={choose.choice([5, 10, 20, 40])}", f"--drop-frame={choose.choice([30, 60, 90])}", "--max-q=40"]
-    run(["vpxenc", "--codec=vp8", "--ivf", "--disable-warning-prompt", *coder, "-o", room / "clip.ivf", room / "clip.y4m"])
+    coder = [
+        "--rt",
+        "--end-usage=cbr",
+        f"--target-bitrate={choose.choice([5, 10, 20, 40])}",
+        f"--drop-frame={choose.choice([30, 60, 90])}",
+        "--max-q=40",
+    ]
+    run(
+        [
+            "vpxenc",
+            "--codec=vp8",
+            "--ivf",
+            "--disable-warning-prompt",
+            *coder,
+            "-o",
+            room / "clip.ivf",
+            room / "clip.y4m",
+        ]
+    )
 
 
 def joined(room, choose):
@@ -80,7 +149,11 @@ def joined(room, choose):
     by_ffmpeg(room, choose)
     second = (room / "clip.ivf").read_bytes()
     rows = [*records(first), *records(second)]
-    (room / "clip.ivf").write_bytes(first[:24] + struct.pack("<II", len(rows), 0) + b"".join(struct.pack("<IQ", len(data), stamp) + data for stamp, data in rows))
+    (room / "clip.ivf").write_bytes(
+        first[:24]
+        + struct.pack("<II", len(rows), 0)
+        + b"".join(struct.pack("<IQ", len(data), stamp) + data for stamp, data in rows)
+    )
 
 
 KINDS = [constant, milliseconds, variable, same_pictures, jitter, one_pause, encoder_drops, joined]
@@ -104,9 +177,15 @@ def main():
                 kind(room, choose)
                 found = findings(room / "clip.ivf")
                 totals["with damage"] += any(finding["severity"] == "damage" for finding in found)
-                totals["with notes"] += any(finding["severity"] == "note" and finding["packet"] is not None for finding in found)
+                totals["with notes"] += any(
+                    finding["severity"] == "note" and finding["packet"] is not None for finding in found
+                )
                 totals.update(finding["kind"] for finding in found)
-            print(f"{kind.__name__}: {count} clips, " + ", ".join(f"{name} {number}" for name, number in sorted(totals.items())), flush=True)
+            print(
+                f"{kind.__name__}: {count} clips, "
+                + ", ".join(f"{name} {number}" for name, number in sorted(totals.items())),
+                flush=True,
+            )
             damaged += totals["with damage"]
     results.total(f"{count * len(KINDS)} clips, damage is reported of {damaged}")
 

@@ -1,5 +1,6 @@
 #!/usr/bin/env python3
-"""Players open the file of `wokureti serve`, seek to ten places, and their frames are compared with those of vp8serve; again after an edit.
+"""Players open the file of `wokureti serve`, seek to ten places, and their frames are compared with those of vp8serve;
+again after an edit.
 
     compare/virtual.py [CLIP [SEED]]
 
@@ -23,31 +24,89 @@ sys.path.insert(0, str(TOP / "clients/python"))
 
 import results  # noqa: E402
 from wokureti import Session  # noqa: E402
-from wokureti.tools import programs  # noqa: E402
-from wokureti.session.frames import sides  # noqa: E402
+from wokureti.base import programs  # noqa: E402
+from wokureti.media.y4m import sides  # noqa: E402
 
 RATE = 25
 QUIET = {"stdin": subprocess.DEVNULL, "timeout": 120, "check": True}
 
 
 def make_clip(path):
-    words = ["ffmpeg", "-nostdin", "-v", "error", "-y", "-f", "lavfi", "-i", f"testsrc2=size=640x360:rate={RATE}", "-frames:v", "250"]
-    subprocess.run([*words, "-c:v", "libvpx", "-deadline", "realtime", "-cpu-used", "8", "-b:v", "1M", "-g", "100", str(path)], check=True)
+    words = [
+        "ffmpeg",
+        "-nostdin",
+        "-v",
+        "error",
+        "-y",
+        "-f",
+        "lavfi",
+        "-i",
+        f"testsrc2=size=640x360:rate={RATE}",
+        "-frames:v",
+        "250",
+    ]
+    subprocess.run(
+        [*words, "-c:v", "libvpx", "-deadline", "realtime", "-cpu-used", "8", "-b:v", "1M", "-g", "100", str(path)],
+        check=True,
+    )
 
 
 def by_ffmpeg(url, seconds, size):
-    words = ["ffmpeg", "-nostdin", "-v", "error", "-ss", seconds, "-i", url, "-frames:v", "1", "-f", "rawvideo", "-pix_fmt", "yuv420p", "-"]
+    words = [
+        "ffmpeg",
+        "-nostdin",
+        "-v",
+        "error",
+        "-ss",
+        seconds,
+        "-i",
+        url,
+        "-frames:v",
+        "1",
+        "-f",
+        "rawvideo",
+        "-pix_fmt",
+        "yuv420p",
+        "-",
+    ]
     return subprocess.run(words, stdout=subprocess.PIPE, **QUIET).stdout
 
 
 def by_mpv(url, seconds, size):
-    words = ["mpv", "--no-config", "--really-quiet", f"--start={seconds}", "--frames=1", "--o=-", "--of=rawvideo", "--ovc=rawvideo", url]
+    words = [
+        "mpv",
+        "--no-config",
+        "--really-quiet",
+        f"--start={seconds}",
+        "--frames=1",
+        "--o=-",
+        "--of=rawvideo",
+        "--ovc=rawvideo",
+        url,
+    ]
     return subprocess.run(words, stdout=subprocess.PIPE, **QUIET).stdout[:size]
 
 
 def by_ffplay(url, seconds, size):
-    """The time of the first frame that is shown, and the checksums of its planes: ffplay writes no frames, and seeks to one near the time."""
-    words = ["ffplay", "-hide_banner", "-loglevel", "info", "-nostats", "-an", "-autoexit", "-ss", seconds, "-t", "0.04", "-vf", "showinfo", url]
+    """The time of the first frame that is shown, and the checksums of its planes: ffplay writes no frames, and seeks to
+    one near the time.
+    """
+    words = [
+        "ffplay",
+        "-hide_banner",
+        "-loglevel",
+        "info",
+        "-nostats",
+        "-an",
+        "-autoexit",
+        "-ss",
+        seconds,
+        "-t",
+        "0.04",
+        "-vf",
+        "showinfo",
+        url,
+    ]
     env = dict(os.environ, SDL_VIDEODRIVER="dummy", SDL_AUDIODRIVER="dummy")
     said = subprocess.run(words, stderr=subprocess.PIPE, text=True, env=env, **QUIET).stderr
     found = re.search(r"n: *0 .*pts_time:([0-9.]+) .*plane_checksum:\[([0-9A-F ]+)\]", said)
@@ -68,7 +127,9 @@ PLAYERS = {"ffmpeg": by_ffmpeg, "ffplay": by_ffplay, "mpv": by_mpv}
 
 
 def version_of(name):
-    said = subprocess.run([name, "-version" if name != "mpv" else "--version"], capture_output=True, text=True, check=False)
+    said = subprocess.run(
+        [name, "-version" if name != "mpv" else "--version"], capture_output=True, text=True, check=False
+    )
     return said.stdout.split("\n")[0].split(" Copyright")[0]
 
 
@@ -86,8 +147,15 @@ def main():
         clip = pathlib.Path(sys.argv[1]) if len(sys.argv) > 1 else pathlib.Path(room, "clip.ivf")
         if len(sys.argv) < 2:
             make_clip(clip)
-        env = dict(os.environ, PYTHONPATH=str(TOP / "clients/python"), VP8SERVE=programs.find("vp8serve"), VP8LIST=programs.find("vp8list"))
-        server = subprocess.Popen([sys.executable, "-m", "wokureti", "serve", str(clip)], stdout=subprocess.PIPE, env=env)
+        env = dict(
+            os.environ,
+            PYTHONPATH=str(TOP / "clients/python"),
+            VP8SERVE=programs.find("vp8serve"),
+            VP8LIST=programs.find("vp8list"),
+        )
+        server = subprocess.Popen(
+            [sys.executable, "-m", "wokureti", "serve", str(clip)], stdout=subprocess.PIPE, env=env
+        )
         try:
             url, edits = (server.stdout.readline().decode().strip() for _ in range(2))
             return run(url, edits, clip, choose)
@@ -106,7 +174,10 @@ def run(url, edits, clip, choose):
                 post(edits, line)
             count = session.count().frames
             seconds = subprocess.run(
-                ["ffprobe", "-v", "error", "-show_entries", "format=duration", "-of", "csv=p=0", url], stdout=subprocess.PIPE, text=True, **QUIET
+                ["ffprobe", "-v", "error", "-show_entries", "format=duration", "-of", "csv=p=0", url],
+                stdout=subprocess.PIPE,
+                text=True,
+                **QUIET,
             ).stdout
             if abs(float(seconds) - count * scale / rate) > 0.001:
                 faults += 1
@@ -127,7 +198,10 @@ def run(url, edits, clip, choose):
                         found = found[1]
                     if found != wanted:
                         faults += 1
-                        print(f"{name}: frame {number} after {line}: another picture ({found if isinstance(found, str) else len(found)})")
+                        print(
+                            f"{name}: frame {number} after {line}: another picture"
+                            f" ({found if isinstance(found, str) else len(found)})"
+                        )
     for name in PLAYERS:
         print(f"{name}: {version_of(name) if shutil.which(name) else 'not here'}")
     results.total(f"{compared} frames compared, {faults} differences", faults)

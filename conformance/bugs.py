@@ -1,6 +1,7 @@
 """Bugs that `planted.py` plants in copies of the plain decoder, and the points whose rule each breaks."""
 
-# Name, what is wrong, the file, the text that is replaced, by what, and the points that rest on the rule: a group and a pattern of names each.
+# Name, what is wrong, the file, the text that is replaced, by what, and the points that rest on the rule: a group and a
+# pattern of names each.
 BUGS = [
     (
         "above-right",
@@ -159,7 +160,10 @@ BUGS = [
         "samples far outside a plane are those of the opposite edge",
         "decoder.py",
         "return self.rows[min(max(y, 0), self.height - 1)][min(max(x, 0), self.width - 1)]",
-        "return self.rows[min(max(y, 0), self.height - 1)][min(max(x, 0), self.width - 1) if x > -200 else self.width - 1]",
+        (
+            "return self.rows[min(max(y, 0), self.height - 1)][min(max(x, 0), self.width - 1) if x > -200 else"
+            " self.width - 1]"
+        ),
         [("prediction", "vector out of the frame, (top |bottom )?left, by 200 or more")],
     ),
     (
@@ -183,7 +187,10 @@ BUGS = [
         "an inter frame has the version of the last key frame",
         "decoder.py",
         "            self.size = header.width, header.height\n",
-        "            self.size, self.version = (header.width, header.height), header.version\n        header.version = self.version\n",
+        (
+            "            self.size, self.version = (header.width, header.height), header.version\n       "
+            " header.version = self.version\n"
+        ),
         [("header fields", "version . after .")],
     ),
     (
@@ -223,7 +230,10 @@ BUGS = [
         "components of vectors wrap at 16 bits, as libvpx's do, which count half quarters",
         "parser.py",
         "return row, best[1] + self.component(1)",
-        "column = best[1] + self.component(1)\n        return tuple(((2 * value + 32768) % 65536 - 32768) // 2 for value in (row, column))",
+        (
+            "column = best[1] + self.component(1)\n        return tuple(((2 * value + 32768) % 65536 - 32768) // 2 for"
+            " value in (row, column))"
+        ),
         [("vectors", ".* past 16 bits")],
     ),
     (

@@ -1,11 +1,13 @@
 #!/usr/bin/env python3
 """Writes expected/: what each packet of each stream decodes to, and who confirms it: expect.py [NAME ..]
 
-The plain decoder of vp8/ decodes each stream. Each run of packets that decode, from a key packet on, then goes to vpxdec as a stream of its own,
-and each frame that it shows must be the same. (vpxdec ends at a packet of no bytes, so these are left out there; the frame is the one before.)
-Streams in beyond/, in which libvpx leaves RFC 6386, have the plain decoder's word alone, and that of vp8list.
+The plain decoder of vp8/ decodes each stream. Each run of packets that decode, from a key packet on, then goes to
+vpxdec as a stream of its own, and each frame that it shows must be the same. (vpxdec ends at a packet of no bytes, so
+these are left out there; the frame is the one before.) Streams in beyond/, in which libvpx leaves RFC 6386, have the
+plain decoder's word alone, and that of vp8list.
 
-A line of expected/NAME.txt is a packet: `shown` and the MD5 of its samples as I420, `hidden`, `refused` and the cause, or `lost`.
+A line of expected/NAME.txt is a packet: `shown` and the MD5 of its samples as I420, `hidden`, `refused` and the cause,
+or `lost`.
 """
 
 import concurrent.futures
@@ -27,7 +29,9 @@ def is_shown(packet):
 
 
 def decoded(packets):
-    """A line for each packet, and for each run of sound packets its packets, its size and the pictures that are shown."""
+    """A line for each packet, and for each run of sound packets its packets, its size and the pictures that are
+    shown.
+    """
     decoder, lines, runs = Decoder(), [], []
     for packet in packets:
         was_broken = decoder.broken
@@ -89,7 +93,13 @@ def main():
             if other:
                 is_beyond = path.parent.name == "beyond"
                 wrong += not is_beyond
-                print(f"{path.stem}: {packets} packets, {same} frames as vpxdec, others: {'; '.join(other[:4])}{' (beyond)' if is_beyond else ''}", flush=True)
+                print(
+                    (
+                        f"{path.stem}: {packets} packets, {same} frames as vpxdec, others:"
+                        f" {'; '.join(other[:4])}{' (beyond)' if is_beyond else ''}"
+                    ),
+                    flush=True,
+                )
     print(f"{len(paths)} streams, {frames} frames are vpxdec's; {wrong} streams differ that should not")
     return 1 if wrong else 0
 

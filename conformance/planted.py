@@ -1,9 +1,11 @@
 #!/usr/bin/env python3
-"""Plants bugs in a copy of the plain decoder, one at a time, and says which streams and points show each: planted.py [NAME ..]
+"""Plants bugs in a copy of the plain decoder, one at a time, and says which streams and points show each: planted.py
+[NAME ..]
 
-A bug is one edit of a file of vp8/: bugs.py has them. For each, the table says how many streams differ, which points only streams that differ
-reach, the first difference, and how many of the 31 clips of crates/gate_clips, which vpxenc made, differ too. Without names it writes
-effects.txt, the streams that show each bug, by which coverage.py counts points. The exit status is 1 if no stream shows a bug.
+A bug is one edit of a file of vp8/: bugs.py has them. For each, the table says how many streams differ, which points
+only streams that differ reach, the first difference, and how many of the 31 clips of crates/gate_clips, which vpxenc
+made, differ too. Without names it writes effects.txt, the streams that show each bug, by which coverage.py counts
+points. The exit status is 1 if no stream shows a bug.
 """
 
 import concurrent.futures
@@ -21,6 +23,7 @@ from vp8 import ivf
 
 HERE = pathlib.Path(__file__).resolve().parent
 CLIPS = HERE.parent / "crates/gate_clips/data"
+
 
 @functools.lru_cache(maxsize=None)
 def room():
@@ -87,7 +90,9 @@ def row(bug, streams, clips):
 def write_effects(streams):
     """The streams that show each bug."""
     lines = [" ".join([bug[0], *sorted(path.stem for path, found in streams if found[bug[0]])]) for bug in BUGS]
-    coverage.EFFECTS.write_text("# A bug of bugs.py and the streams that show it, by planted.py\n" + "\n".join(lines) + "\n")
+    coverage.EFFECTS.write_text(
+        "# A bug of bugs.py and the streams that show it, by planted.py\n" + "\n".join(lines) + "\n"
+    )
 
 
 def main():
@@ -97,7 +102,10 @@ def main():
     with concurrent.futures.ProcessPoolExecutor() as pool:
         streams = list(pool.map(over, sorted(HERE.glob("streams/**/*.ivf")), [names] * 1000))
         clips = list(pool.map(over, sorted(CLIPS.glob("*.ivf")), [names] * 1000))
-    print(f"| Planted | Streams of {len(streams)} | Points that only streams that differ reach | One of them | Clips of {len(clips)} |\n|---|---|---|---|---|")
+    print(
+        f"| Planted | Streams of {len(streams)} | Points that only streams that differ reach | One of them | Clips of"
+        f" {len(clips)} |\n|---|---|---|---|---|"
+    )
     if not asked:
         write_effects(streams)
     for bug in bugs:

@@ -1,9 +1,9 @@
 #!/usr/bin/env python3
 """Compares the plain parser's headers and macroblocks with those of vp8list: records.py [STREAM ..]
 
-coverage.py counts points by what this parser reads, so each field of each header with its bits and each column of each macroblock must be what
-`vp8list --header all --json` and `--macroblocks all --json` write. VP8LIST names another program than the one that was built. It prints the
-first difference of each stream, and nothing if there is none.
+coverage.py counts points by what this parser reads, so each field of each header with its bits and each column of each
+macroblock must be what `vp8list --header all --json` and `--macroblocks all --json` write. VP8LIST names another
+program than the one that was built. It prints the first difference of each stream, and nothing if there is none.
 """
 
 import concurrent.futures
@@ -35,7 +35,16 @@ def first_difference(path, wanted, found, option):
 def differs(path):
     """What is wrong with a stream, or an empty text."""
     try:
-        return next(filter(None, (first_difference(path, own, listed(path, option), option) for own, option in zip(objects_of(ivf.read(path)), ("--header", "--macroblocks")))), "")
+        return next(
+            filter(
+                None,
+                (
+                    first_difference(path, own, listed(path, option), option)
+                    for own, option in zip(objects_of(ivf.read(path)), ("--header", "--macroblocks"))
+                ),
+            ),
+            "",
+        )
     except (ValueError, OSError, subprocess.TimeoutExpired) as error:
         return f"{path.name}: {error}"
 

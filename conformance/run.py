@@ -7,10 +7,11 @@
     run.py NAME COMMAND --md5                         it prints an MD5 of all frames, or of each, on standard output
     run.py ... [--junit FILE] [--beyond] [STREAM ..]
 
-A stream is `same`, or the first frame that differs is shown, with the macroblock and the sample, and what the macroblock is made of. A stream in
-which the decoder shows fewer frames than the standard is compared as far as it goes. --beyond takes the streams in which libvpx leaves the
-standard, too. The last lines name the points that only streams that differ reach, and count streams, frames and points. The exit status is 1
-if a stream differs, and 2 if the decoder cannot be run or a stream is not there. COMMAND is split as a shell does: quote a path with spaces in it.
+A stream is `same`, or the first frame that differs is shown, with the macroblock and the sample, and what the
+macroblock is made of. A stream in which the decoder shows fewer frames than the standard is compared as far as it goes.
+--beyond takes the streams in which libvpx leaves the standard, too. The last lines name the points that only streams
+that differ reach, and count streams, frames and points. The exit status is 1 if a stream differs, and 2 if the decoder
+cannot be run or a stream is not there. COMMAND is split as a shell does: quote a path with spaces in it.
 """
 
 import argparse
@@ -36,8 +37,35 @@ HERE = pathlib.Path(__file__).resolve().parent
 STREAMS, EXPECTED = HERE / "streams", HERE / "expected"
 KNOWN = {
     "vpxdec": ["vpxdec", "--codec=vp8", "--i420", "-o", "{out}", "{in}"],
-    "ffmpeg": ["ffmpeg", "-nostdin", "-v", "error", "-y", "-i", "{in}", "-fps_mode", "passthrough", "-autoscale", "0", "-f", "rawvideo", "{out}"],
-    "gstreamer": ["gst-launch-1.0", "-q", "filesrc", "location={in}", "!", "ivfparse", "!", "vp8dec", "!", "filesink", "location={out}"],
+    "ffmpeg": [
+        "ffmpeg",
+        "-nostdin",
+        "-v",
+        "error",
+        "-y",
+        "-i",
+        "{in}",
+        "-fps_mode",
+        "passthrough",
+        "-autoscale",
+        "0",
+        "-f",
+        "rawvideo",
+        "{out}",
+    ],
+    "gstreamer": [
+        "gst-launch-1.0",
+        "-q",
+        "filesrc",
+        "location={in}",
+        "!",
+        "ivfparse",
+        "!",
+        "vp8dec",
+        "!",
+        "filesink",
+        "location={out}",
+    ],
     "dwebp": [sys.executable, str(HERE / "adapters/dwebp.py"), "{in}", "{out}"],
     "go": ["{room}/key_packets", "{in}", "{out}"],
 }
@@ -97,7 +125,9 @@ def record_of(frame, place):
 def first_sample(ours, theirs, picture):
     """The plane, column and row of the first sample that differs."""
     place = next(number for number, pair in enumerate(zip(ours, theirs)) if pair[0] != pair[1])
-    for plane, (width, height) in enumerate(((picture.width, picture.height), *[((picture.width + 1) // 2, (picture.height + 1) // 2)] * 2)):
+    for plane, (width, height) in enumerate(
+        ((picture.width, picture.height), *[((picture.width + 1) // 2, (picture.height + 1) // 2)] * 2)
+    ):
         if place < width * height:
             return plane, place % width, place // width
         place -= width * height
@@ -110,7 +140,9 @@ def where_it_differs(truth, number, part):
     plane, x, y = first_sample(picture.shown(), part, picture)
     side = 8 if plane else 16
     columns = (picture.width + 15) // 16
-    place = f"frame {number}, packet {packet}, macroblock {x // side},{y // side}, {('Y', 'U', 'V')[plane]} sample {x},{y}"
+    place = (
+        f"frame {number}, packet {packet}, macroblock {x // side},{y // side}, {('Y', 'U', 'V')[plane]} sample {x},{y}"
+    )
     return f"{place}: {record_of(frame, y // side * columns + x // side)}"
 
 
@@ -119,7 +151,11 @@ def without_padding(text, truth):
     frames, place = [], 0
     for _, picture, _ in truth.frames:
         width, height = (picture.width + 1) // 2, (picture.height + 1) // 2
-        for shown, rows, all_rows in ((picture.width, picture.height, 2 * height), (width, height, height), (width, height, height)):
+        for shown, rows, all_rows in (
+            (picture.width, picture.height, 2 * height),
+            (width, height, height),
+            (width, height, height),
+        ):
             stride = (shown + 3) // 4 * 4
             plane = text[place : place + stride * all_rows]
             frames += [plane[row * stride :][:shown] for row in range(rows)]
@@ -143,7 +179,10 @@ def difference(path, command, asked):
         wanted = [hashlib.md5(text).hexdigest() for text in samples]
         if theirs in (wanted, [hashlib.md5(b"".join(samples)).hexdigest()]):
             return None, len(samples), len(samples)
-        same = next((number for number, pair in enumerate(zip(wanted, theirs)) if pair[0] != pair[1]), min(len(wanted), len(theirs)))
+        same = next(
+            (number for number, pair in enumerate(zip(wanted, theirs)) if pair[0] != pair[1]),
+            min(len(wanted), len(theirs)),
+        )
         return f"frame {same} differs{said}", same if len(theirs) > 1 else 0, len(samples)
     place = 0
     for number, (_, picture, _) in enumerate(truth.frames):
@@ -165,7 +204,11 @@ def points_of(differing, run):
     for stream, points in coverage.reached_by_all().items():
         for point in points if stream in run else ():
             reaching.setdefault(point, set()).add(stream)
-    found = [(len(streams), f"{group}: {name}") for (group, name), streams in sorted(reaching.items()) if streams <= differing]
+    found = [
+        (len(streams), f"{group}: {name}")
+        for (group, name), streams in sorted(reaching.items())
+        if streams <= differing
+    ]
     return [name for _, name in sorted(found, key=lambda pair: -pair[0])]
 
 
@@ -177,7 +220,12 @@ def reached(names):
 
 
 def write_junit(path, name, results):
-    suite = xml.Element("testsuite", name=f"vp8 conformance, {name}", tests=str(len(results)), failures=str(sum(bool(text) for _, text, _, _ in results)))
+    suite = xml.Element(
+        "testsuite",
+        name=f"vp8 conformance, {name}",
+        tests=str(len(results)),
+        failures=str(sum(bool(text) for _, text, _, _ in results)),
+    )
     for stream, text, _, _ in results:
         case = xml.SubElement(suite, "testcase", classname=name, name=stream)
         if text:
@@ -193,7 +241,11 @@ def fail(text):
 
 def need(word):
     if shutil.which(word) is None:
-        fail(f"{word} is not there: install it, or give its path" if os.sep not in word else f"there is no program {word}; a path with spaces is quoted")
+        fail(
+            f"{word} is not there: install it, or give its path"
+            if os.sep not in word
+            else f"there is no program {word}; a path with spaces is quoted"
+        )
 
 
 def command_of(asked, room):
@@ -202,7 +254,12 @@ def command_of(asked, room):
         return shlex.split(asked.command) if asked.command else None
     if asked.name == "go":
         # Debian's golang-golang-x-image-dev puts its sources there.
-        settings = {"GO111MODULE": "off", "GOPATH": os.environ.get("GOPATH", "/usr/share/gocode"), "GOCACHE": f"{room}/cache", "GOFLAGS": ""}
+        settings = {
+            "GO111MODULE": "off",
+            "GOPATH": os.environ.get("GOPATH", "/usr/share/gocode"),
+            "GOCACHE": f"{room}/cache",
+            "GOFLAGS": "",
+        }
         need("go")
         built = ["go", "build", "-o", f"{room}/key_packets", str(HERE / "adapters/key_packets.go")]
         if subprocess.run(built, env={**os.environ, **settings}, check=False).returncode != 0:
@@ -212,7 +269,11 @@ def command_of(asked, room):
 
 def asked_streams(asked):
     wanted = set(asked.streams) | ({asked.command} if asked.name in KNOWN and asked.command else set())
-    paths = [path for path in sorted(STREAMS.rglob("*.ivf")) if (asked.beyond or path.parent == STREAMS) and (not wanted or path.stem in wanted)]
+    paths = [
+        path
+        for path in sorted(STREAMS.rglob("*.ivf"))
+        if (asked.beyond or path.parent == STREAMS) and (not wanted or path.stem in wanted)
+    ]
     missing = wanted - {path.stem for path in paths}
     if missing or not paths:
         fail(f"no stream {', '.join(sorted(missing))}; streams/ has their names")
@@ -223,7 +284,10 @@ def summary(name, results):
     """The points that only streams that differ reach, and how much is the same."""
     good = {stream for stream, text, _, _ in results if text is None}
     bad = {row[0] for row in results} - good
-    frames = f"{sum(row[2] for row in results)} of {sum(row[3] for row in results)} {'key ' if name in KEY_ONLY else ''}frames"
+    frames = (
+        f"{sum(row[2] for row in results)} of"
+        f" {sum(row[3] for row in results)} {'key ' if name in KEY_ONLY else ''}frames"
+    )
     total = f"{name}: {len(good)} of {len(results)} streams, {frames}"
     if name in KEY_ONLY:
         return total

@@ -1,5 +1,5 @@
 #!/usr/bin/env python3
-"""Draws docs/stream.svg, and docs/crates.svg from crates.txt: python3 docs/draw.py [--check]
+"""Draws docs/stream.svg, docs/flow.svg, and docs/crates.svg from crates.txt: python3 docs/draw.py [--check]
 
 With --check it writes nothing, and ends with 1 if a picture is not the one that it would draw."""
 
@@ -52,13 +52,18 @@ STYLE = """
 class Drawing:
     def __init__(self, width, height, title):
         self.parts = [
-            f'<svg xmlns="http://www.w3.org/2000/svg" viewBox="0 0 {width} {height}" width="{width}" height="{height}" role="img">',
+            (
+                f'<svg xmlns="http://www.w3.org/2000/svg" viewBox="0 0 {width} {height}" width="{width}"'
+                f' height="{height}" role="img">'
+            ),
             f"<title>{title}</title>",
             f"<style>{STYLE}</style>",
-            '<defs><marker id="arrow" viewBox="0 0 8 8" refX="7" refY="4" markerWidth="7" markerHeight="7" orient="auto">'
-            '<path d="M0,0 L8,4 L0,8 z" class="head-of-arrow"/></marker>'
-            '<marker id="flow" viewBox="0 0 8 8" refX="7" refY="4" markerWidth="6" markerHeight="6" orient="auto">'
-            '<path d="M0,0 L8,4 L0,8 z" class="head-of-flow"/></marker></defs>',
+            (
+                '<defs><marker id="arrow" viewBox="0 0 8 8" refX="7" refY="4" markerWidth="7" markerHeight="7"'
+                ' orient="auto"><path d="M0,0 L8,4 L0,8 z" class="head-of-arrow"/></marker><marker id="flow" viewBox="0'
+                ' 0 8 8" refX="7" refY="4" markerWidth="6" markerHeight="6" orient="auto"><path d="M0,0 L8,4 L0,8 z"'
+                ' class="head-of-flow"/></marker></defs>'
+            ),
         ]
 
     def box(self, x, y, width, height, kind="box"):
@@ -112,7 +117,12 @@ def stream():
         if index in cached:
             draw.dot(middle, 206, cached[index])
     draw.text(left + 2.5 * step - 8, 248, "replace 1: packets 1 to 3 are decoded again", "mark")
-    draw.text(left + 2.5 * step - 8, 265, "the state after packet 3 equals the cached one, so those after it are used again", "small light")
+    draw.text(
+        left + 2.5 * step - 8,
+        265,
+        "the state after packet 3 equals the cached one, so those after it are used again",
+        "small light",
+    )
     draw.text(left + 8 * step, 192, "packet 8 cannot be decoded: frames 7 and 8", "small warn", "start")
     draw.text(left + 8 * step, 207, "are refused as \u201cpacket 8\u201d, up to the next key", "small warn", "start")
     draw.dot(104, 296, "state")
@@ -180,17 +190,118 @@ def crates():
         draw.text(x + 10, y + 19, name, "head", "start")
         columns = max(1, round((width + GAP) / 150))
         for number, crate in enumerate(groups[name]):
-            draw.text(x + 10 + number % columns * (width / columns), y + 19 + LINE * (1 + number // columns), crate, "small", "start")
+            draw.text(
+                x + 10 + number % columns * (width / columns),
+                y + 19 + LINE * (1 + number // columns),
+                crate,
+                "small",
+                "start",
+            )
     for name in boxes:
         for number, low in enumerate(sorted(nearest(uses, name))):
             (x, y, width, high), (under, below, wide, _) = boxes[name], boxes[low]
             at = max(x, under) + (0.25 + 0.2 * number) * (min(x + width, under + wide) - max(x, under))
             if y == below:
-                draw.arrow((x + width, y + high / 2), (under - 1, y + high / 2)) if x < under else draw.arrow((x, y + high / 2), (under + wide + 1, y + high / 2))
-            elif at > 0:
+                (
+                    draw.arrow((x + width, y + high / 2), (under - 1, y + high / 2))
+                    if x < under
+                    else draw.arrow((x, y + high / 2), (under + wide + 1, y + high / 2))
+                )
+            elif min(x + width, under + wide) > max(x, under):
                 draw.arrow((round(at), y + high), (round(at), below - 1))
-    draw.text(LEFT, top - 8, "An arrow: uses. The groups that a group uses through another one have no arrow.", "small light", "start")
+            else:
+                # Nothing of one is above the other: the arrow goes along the gap between their rows.
+                draw.arrow(
+                    (x + 20, y + high),
+                    (x + 20, y + high + 12),
+                    (under + wide - 20, y + high + 12),
+                    (under + wide - 20, below - 1),
+                )
+    draw.text(
+        LEFT,
+        top - 8,
+        "An arrow: uses. The groups that a group uses through another one have no arrow.",
+        "small light",
+        "start",
+    )
     draw.save("crates.svg")
+
+
+# The way of a frame: the stages of a session, each a crate and what it does. The frame goes down.
+STAGES = (
+    ("stream_sources", "packets, times and rate of each file"),
+    ("packet_edits", "edited packets; the script's frame n is packet k"),
+    ("state_cache", "the nearest cached state before packet k"),
+    ("reference_frames", "steps from there: the decoded picture"),
+    ("script_nodes", "the crops and fades of the script"),
+    ("frame_session", "the frame, or the packet that broke"),
+)
+# What a session is given: its place, its name and more of it.
+INPUTS = (
+    (40, "IVF, WebM, Matroska", "IN and up to seven sources"),
+    (132, "AVI, MP4, Ogg, calls", "wokureti copies the packets first"),
+    (230, "a list of edits and requests", "delete 3; script fade 0 24 24 256 0"),
+)
+# What asks a session: its name, the crate or the build that it asks, and who uses it.
+HOSTS = (
+    ("vp8serve", "serve_program", "request lines in, replies and YUV4MPEG2 out"),
+    ("libwokureti", "wokureti_c", "C, Rust, GStreamer, VapourSynth"),
+    ("wokureti, Session", "the library, or vp8serve over pipes", "Python, the page of open, serve, mount"),
+    ("wokureti.html", "the library in WebAssembly", "the page in one file; not proved"),
+)
+
+
+def check_crates(used):
+    """The crates that a picture names are there."""
+    names = {
+        line.partition(":")[0].split()[0]
+        for line in (HERE.parent / "crates.txt").read_text(encoding="utf-8").splitlines()
+        if line[:1] not in ("", "#")
+    }
+    if used - names:
+        sys.exit(f"docs/draw.py: crates.txt has no {', '.join(sorted(used - names))}")
+
+
+def flow():
+    check_crates({name for name, _ in STAGES} | {"lossless_cuts", "list_program", "serve_program", "wokureti_c"})
+    draw = Drawing(960, 372, "The way of a frame from a file to each host")
+    draw.box(270, 8, 330, 356, "key")
+    draw.text(282, 28, "a session, proved", "head", "start")
+    for number, (crate, does) in enumerate(STAGES):
+        top = 40 + 46 * number
+        draw.box(282, top, 306, 36)
+        draw.text(292, top + 15, crate, "head", "start")
+        draw.text(292, top + 30, does, "small light", "start")
+        if number:
+            draw.arrow((435, top - 10), (435, top - 1), kind="flow")
+    draw.box(282, 322, 306, 34)
+    draw.text(292, 337, "lossless_cuts", "head", "start")
+    draw.text(292, 351, "an export: the packets of the frames, some hidden", "small light", "start")
+    draw.arrow((435, 306), (435, 321), kind="flow")
+    for top, name, more in INPUTS:
+        draw.box(8, top, 222, 40)
+        draw.text(18, top + 17, name, "head", "start")
+        draw.text(18, top + 33, more, "small light", "start")
+    draw.arrow((230, 58), (281, 58), kind="flow")
+    draw.arrow((119, 132), (119, 81), kind="flow")
+    draw.arrow((230, 250), (281, 276))
+    draw.box(8, 310, 222, 46)
+    draw.text(18, 328, "vp8list (list_program)", "head", "start")
+    draw.text(18, 345, "reads a file and asks no session", "small light", "start")
+    for number, (name, asks, users) in enumerate(HOSTS):
+        top = 40 + 66 * number
+        draw.box(650, top, 302, 54)
+        draw.text(660, top + 17, name, "head", "start")
+        draw.text(660, top + 32, asks, "small", "start")
+        draw.text(660, top + 47, users, "small light", "start")
+        draw.arrow((588, 288), (620, 288), (620, top + 27), (649, top + 27), kind="flow")
+    draw.box(650, 316, 302, 40)
+    draw.text(660, 333, "an IVF file", "head", "start")
+    draw.text(660, 349, "--save, --export; wokureti writes WebM with sound", "small light", "start")
+    draw.arrow((588, 338), (649, 338), kind="flow")
+    draw.save("flow.svg")
+
 
 stream()
 crates()
+flow()

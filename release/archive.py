@@ -1,7 +1,9 @@
-"""Builds the archive of a static library, and keeps the LLVM module that it is compiled from: archive.py RT FOLDER CPU ARCHIVE MODULE
+"""Builds the archive of a static library, and keeps the LLVM module that it is compiled from: archive.py RT FOLDER CPU
+ARCHIVE MODULE
 
-In the crate FOLDER rattle proves and builds the library as `rt lib` does, with a toolchain whose clang is a script: it copies the module that it is to compile to MODULE, and
-calls the kit's clang. What an earlier call in this folder proved, for whatever processor, is not proved again. The libraries below the crate are proved before.
+In the crate FOLDER rattle proves and builds the library as `rt lib` does, with a toolchain whose clang is a script: it
+copies the module that it is to compile to MODULE, and calls the kit's clang. What an earlier call in this folder
+proved, for whatever processor, is not proved again. The libraries below the crate are proved before.
 """
 
 import pathlib
@@ -38,7 +40,16 @@ def main(rt, folder, cpu, archive, module):
     crate = next(one for one in rtlib.crates_below(str(folder)) if pathlib.Path(one.folder) == folder)
     with tempfile.TemporaryDirectory() as room:
         toolchain(pathlib.Path(room), rt.parents[1], module)
-        words = [*crate.words(["--cpu", cpu]), "--toolchain", room, "--backend", "llvm", *rtlib.KEPT, "-o", str(archive)]
+        words = [
+            *crate.words(["--cpu", cpu]),
+            "--toolchain",
+            room,
+            "--backend",
+            "llvm",
+            *rtlib.KEPT,
+            "-o",
+            str(archive),
+        ]
         status = crate.call(rtlib.RATTLE, "build", *words)
     return status or (0 if archive.is_file() and module.is_file() else "no archive, or no LLVM module, was made")
 

@@ -1,4 +1,5 @@
-"""Builds the programs and the C library for Linux on ARM: proved for that target by the kit, compiled by its clang, and linked by Debian's cross compiler.
+"""Builds the programs and the C library for Linux on ARM: proved for that target by the kit, compiled by its clang, and
+linked by Debian's cross compiler.
 
 The kit has no archives of C functions for ARM. kit_os.c and kit_heap.c in this folder replace them.
 """
@@ -24,7 +25,8 @@ CRATES = (*PROGRAMS, library.CRATE)
 SOURCES = ("kit_heap", "kit_os")
 FILES = tuple(TOP / "release" / f"{name}.c" for name in SOURCES)
 PACKAGES = "gcc-aarch64-linux-gnu and libc6-dev-arm64-cross"
-# What the library may ask of the system, and the newest glibc that it may ask it of: the one that the wheel's tag names.
+# What the library may ask of the system, and the newest glibc that it may ask it of: the one that the wheel's tag
+# names.
 ASKED = {"memcpy", "memmove", "memset", "malloc", "realloc", "free"}
 NEWEST = (2, 17)
 
@@ -58,7 +60,9 @@ def folders(room, is_proved, say, log):
 
 
 def compiled(room, is_proved, say):
-    """The object file of each program and the archive of the library, by the names of their crates: those in `room`, if they are of these sources."""
+    """The object file of each program and the archive of the library, by the names of their crates: those in `room`, if
+    they are of these sources.
+    """
     mark = hashlib.sha256(f"{digest(needed(CRATES))} {kit_here()}".encode()).hexdigest()[:16]
     made = {name: room / f"{name}-{CPU}-{mark}.{'a' if name == library.CRATE else 'o'}" for name in CRATES}
     for old in {path for name in CRATES for path in room.glob(f"{name}-{CPU}-*")} - {*made.values()}:
@@ -69,7 +73,14 @@ def compiled(room, is_proved, say):
     say(f"proving and compiling {', '.join(left)} for {ARM.name}. Output goes to {room}/arm-*.log")
 
     def one(name, folder):
-        words = [sys.executable, TOP / "release/for_target.py", kit_folder() / "bin/rt", folder, TRIPLE, made[name].with_suffix(".new")]
+        words = [
+            sys.executable,
+            TOP / "release/for_target.py",
+            kit_folder() / "bin/rt",
+            folder,
+            TRIPLE,
+            made[name].with_suffix(".new"),
+        ]
         with open(room / f"arm-{name}.log", "w", encoding="utf-8") as log:
             try:
                 proving.run(words, folder, log)
@@ -104,18 +115,25 @@ def check_program(path):
 
 
 def check_library(path):
-    """Refuses a library that asks the system for other functions than those of ASKED, or for newer ones than the wheel's tag allows, and one that exports other calls
-    than the header has."""
+    """Refuses a library that asks the system for other functions than those of ASKED, or for newer ones than the
+    wheel's tag allows, and one that exports other calls than the header has."""
     lines = [line.split() for line in ran(f"{PREFIX}nm", "-D", "--with-symbol-versions", path).splitlines()]
     asked = {words[-1].partition("@") for words in lines if words[-2] == "U"}
     if {name for name, _, _ in asked} != ASKED:
-        raise Failed(f"{path} asks the system for {', '.join(sorted(name for name, _, _ in asked))}, not for {', '.join(sorted(ASKED))}")
+        raise Failed(
+            f"{path} asks the system for {', '.join(sorted(name for name, _, _ in asked))}, not for"
+            f" {', '.join(sorted(ASKED))}"
+        )
     for name, _, version in asked:
         number = re.fullmatch(r"@?GLIBC_(\d+)\.(\d+)(?:\.\d+)?", version)
         if number is None or tuple(map(int, number.groups())) > NEWEST:
-            raise Failed(f"{path} asks for {name} of {version or 'no version'}: the wheel is for glibc {'.'.join(map(str, NEWEST))}")
+            raise Failed(
+                f"{path} asks for {name} of {version or 'no version'}: the wheel is for glibc"
+                f" {'.'.join(map(str, NEWEST))}"
+            )
     calls = {words[-1].partition("@")[0] for words in lines if words[-2] == "T"}
-    wanted = set(re.findall(r"\b(wk_\w+)\(", library.HEADER.read_text(encoding="utf-8")))
+    # Declarations begin a line; the functions of the header's own are static.
+    wanted = set(re.findall(r"(?m)^(?!static )\w[\w *]*\b(wk_\w+)\(", library.HEADER.read_text(encoding="utf-8")))
     if calls != wanted:
         raise Failed(f"{path} exports {', '.join(sorted(calls))}, and the header has {', '.join(sorted(wanted))}")
 

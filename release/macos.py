@@ -1,6 +1,8 @@
-"""Makes the programs and the library for macOS as assembly, for who wants to try them on a Mac: none of it was run by us, and none is shipped.
+"""Makes the programs and the library for macOS as assembly, for who wants to try them on a Mac: none of it was run by
+us, and none is shipped.
 
-In the folder macos are arm64/*.s and x86_64/*.s, and the C files of release/port that they are linked with. README.md there says how.
+In the folder macos are arm64/*.s and x86_64/*.s, and the C files of release/port that they are linked with. README.md
+there says how.
 """
 
 import pathlib
@@ -14,7 +16,8 @@ FOLDER = "macos"
 PORT = TOP / "release/port"
 PROCESSORS = {"arm64": "aarch64-macos", "x86_64": "x86_64-macos"}
 C_FILES = ("common.c", "heap.c", "posix.c", "linux.h")
-README = """Wokureti for macOS, as assembly: the same LLVM modules as for Linux, compiled for another system. Not proved for macOS, and never run by us.
+README = """Wokureti for macOS, as assembly: the same LLVM modules as for Linux, compiled for another system.
+Not proved for macOS, and never run by us.
 
 On a Mac with the command line tools (`xcode-select --install`), in this folder; on an older Mac write x86_64 for arm64:
 
@@ -38,7 +41,10 @@ def made_of(bitcodes, folder):
 def build(room, folder, is_proved, say):
     """Writes the folder."""
     room = pathlib.Path(room)
-    bitcodes = {**modules.programs(room, is_proved, say), "wokureti": library.compiled(room, CPUS[0], is_proved, say)[1]}
+    bitcodes = {
+        **modules.programs(room, is_proved, say),
+        "wokureti": library.compiled(room, CPUS[0], is_proved, say)[1],
+    }
     say("compiling the programs and the library for macOS, outside the verdict")
     folder.parent.mkdir(parents=True, exist_ok=True)
     with tempfile.TemporaryDirectory(dir=folder.parent) as name:

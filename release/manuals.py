@@ -23,7 +23,9 @@ class Option:
 
 @dataclass
 class Page:
-    """A command: what it does in a few words, its usage, the other paragraphs, and its arguments, options and commands."""
+    """A command: what it does in a few words, its usage, the other paragraphs, and its arguments, options and
+    commands.
+    """
 
     name: str
     about: str
@@ -58,9 +60,15 @@ def of_parser(name, parser, about):
     for action in parser._actions:
         if isinstance(action, argparse._SubParsersAction):
             helps = {choice.dest: choice.help for choice in action._choices_actions}
-            page.commands = [of_parser(f"{name} {word}", choice, helps.get(word, "")) for word, choice in action.choices.items()]
+            page.commands = [
+                of_parser(f"{name} {word}", choice, helps.get(word, "")) for word, choice in action.choices.items()
+            ]
         elif action.option_strings:
-            value = "" if action.nargs == 0 else str(action.metavar or (action.choices and "|".join(action.choices)) or action.dest.upper())
+            value = (
+                ""
+                if action.nargs == 0
+                else str(action.metavar or (action.choices and "|".join(action.choices)) or action.dest.upper())
+            )
             page.options.append(Option(action.option_strings, value, action.help or "", list(action.choices or [])))
         elif action.help != argparse.SUPPRESS:
             page.arguments.append((str(action.metavar or action.dest), action.help or ""))
@@ -77,7 +85,14 @@ def of_client():
 
 def escaped(text):
     """A text as roff prints it unchanged."""
-    text = text.replace("\\", "\\e").replace("-", "\\-").replace("'", "\\(aq").replace("`", "\\(ga").replace("^", "\\(ha").replace("~", "\\(ti")
+    text = (
+        text.replace("\\", "\\e")
+        .replace("-", "\\-")
+        .replace("'", "\\(aq")
+        .replace("`", "\\(ga")
+        .replace("^", "\\(ha")
+        .replace("~", "\\(ti")
+    )
     return "\\&" + text if text.startswith(".") else text
 
 
@@ -87,18 +102,47 @@ def roff_of(page):
         yield from (".TP", f".I {escaped(name)}", escaped(about) or "\\&")
     for option in page.options:
         names = ", ".join(f"\\fB{escaped(name)}\\fR" for name in option.names)
-        yield from (".TP", names + (f" \\fI{escaped(option.value)}\\fR" if option.value else ""), escaped(option.help) or "\\&")
+        yield from (
+            ".TP",
+            names + (f" \\fI{escaped(option.value)}\\fR" if option.value else ""),
+            escaped(option.help) or "\\&",
+        )
 
 
 def manual(page, version, date):
     """The manual page."""
     title = page.name.upper()
-    lines = [f'.TH {title} 1 "{date}" "wokureti {version}" "User Commands"', ".SH NAME", f"{page.name} \\- {escaped(page.about)}"]
-    lines += [".SH SYNOPSIS", ".nf", escaped(page.usage), ".fi", ".SH DESCRIPTION", ".nf", *map(escaped, page.text), ".fi", ".SH OPTIONS", *roff_of(page)]
+    lines = [
+        f'.TH {title} 1 "{date}" "wokureti {version}" "User Commands"',
+        ".SH NAME",
+        f"{page.name} \\- {escaped(page.about)}",
+    ]
+    lines += [
+        ".SH SYNOPSIS",
+        ".nf",
+        escaped(page.usage),
+        ".fi",
+        ".SH DESCRIPTION",
+        ".nf",
+        *map(escaped, page.text),
+        ".fi",
+        ".SH OPTIONS",
+        *roff_of(page),
+    ]
     if page.commands:
         lines.append(".SH COMMANDS")
     for command in page.commands:
-        lines += [f".SS {escaped(command.name)}", escaped(command.about) + ".", ".PP", *map(escaped, command.text), ".PP", ".nf", escaped(command.usage), ".fi", *roff_of(command)]
+        lines += [
+            f".SS {escaped(command.name)}",
+            escaped(command.about) + ".",
+            ".PP",
+            *map(escaped, command.text),
+            ".PP",
+            ".nf",
+            escaped(command.usage),
+            ".fi",
+            *roff_of(command),
+        ]
     others = [name for name in ("vp8serve", "vp8list", "wokureti") if name != page.name]
     return "\n".join([*lines, ".SH SEE ALSO", ", ".join(f"\\fB{name}\\fR(1)" for name in others), ""])
 
@@ -110,12 +154,20 @@ def names_of(page):
 def bash(page):
     """Completion for bash: commands, then their options, and files."""
     name = page.name
-    cases = "".join(f"        {command.name.split()[1]}) words='{' '.join(names_of(command))}' ;;\n" for command in page.commands)
-    chosen = f"    case ${{COMP_WORDS[1]}} in\n{cases}    esac\n    [ \"$COMP_CWORD\" -gt 1 ] || words='{' '.join([*(command.name.split()[1] for command in page.commands), *names_of(page)])}'\n" if page.commands else ""
+    cases = "".join(
+        f"        {command.name.split()[1]}) words='{' '.join(names_of(command))}' ;;\n" for command in page.commands
+    )
+    chosen = (
+        f'    case ${{COMP_WORDS[1]}} in\n{cases}    esac\n    [ "$COMP_CWORD" -gt 1 ] ||'
+        f' words=\'{" ".join([*(command.name.split()[1] for command in page.commands), *names_of(page)])}\'\n'
+        if page.commands
+        else ""
+    )
     return f"""# Completion for bash of {name}.
 _{name}() {{
     local words='{' '.join(names_of(page))}'
-{chosen}    COMPREPLY=($(compgen -W "$words" -- "${{COMP_WORDS[COMP_CWORD]}}") $(compgen -f -- "${{COMP_WORDS[COMP_CWORD]}}"))
+{chosen}    COMPREPLY=($(compgen -W "$words" -- "${{COMP_WORDS[COMP_CWORD]}}") \
+$(compgen -f -- "${{COMP_WORDS[COMP_CWORD]}}"))
 }}
 complete -o filenames -F _{name} {name}
 """
@@ -129,7 +181,13 @@ def zsh_words(page):
     """The words of zsh's _arguments for a page."""
     for option in page.options:
         about = quoted(option.help.replace("[", "(").replace("]", ")").replace(":", ","))
-        value = f":{option.value.lower()}:({' '.join(option.choices)})" if option.choices else f":{option.value.lower()}:_files" if option.value else ""
+        value = (
+            f":{option.value.lower()}:({' '.join(option.choices)})"
+            if option.choices
+            else f":{option.value.lower()}:_files"
+            if option.value
+            else ""
+        )
         for name in option.names:
             yield f"'{name}[{about}]{value}'"
     yield "'*:file:_files'"
@@ -140,8 +198,13 @@ def zsh(page):
     if not page.commands:
         return f"#compdef {page.name}\n_arguments \\\n    " + " \\\n    ".join(zsh_words(page)) + "\n"
     about = " ".join(f"'{command.name.split()[1]}:{quoted(command.about)}'" for command in page.commands)
-    cases = "".join(f"    {command.name.split()[1]}) _arguments {' '.join(zsh_words(command))} ;;\n" for command in page.commands)
-    return f"#compdef {page.name}\nif (( CURRENT == 2 )); then\n    local -a commands=({about})\n    _describe command commands\nelse\n    case $words[2] in\n{cases}    esac\nfi\n"
+    cases = "".join(
+        f"    {command.name.split()[1]}) _arguments {' '.join(zsh_words(command))} ;;\n" for command in page.commands
+    )
+    return (
+        f"#compdef {page.name}\nif (( CURRENT == 2 )); then\n    local -a commands=({about})\n    _describe command"
+        f" commands\nelse\n    case $words[2] in\n{cases}    esac\nfi\n"
+    )
 
 
 def fish(page):

@@ -1,6 +1,8 @@
-"""The LLVM modules of the programs, as rattle makes them of the proved crates. `retarget` compiles them for other targets.
+"""The LLVM modules of the programs, as rattle makes them of the proved crates. `retarget` compiles them for other
+targets.
 
-They are made for plain x86-64: for x86-64-v2 and v3 a program begins with a test of the processor. The library has no such test, so `library.compiled` has its module.
+They are made for plain x86-64: for x86-64-v2 and v3 a program begins with a test of the processor. The library has no
+such test, so `library.compiled` has its module.
 """
 
 import hashlib
@@ -19,7 +21,19 @@ def make(name, crates, room, is_proved, out):
     with open(room / f"{name}.log", "w", encoding="utf-8") as log, tempfile.TemporaryDirectory(dir=room) as fresh:
         try:
             folder = proving.over_ci(name, crates, room, log) if is_proved else room / name / "crates" / name
-            proving.run([sys.executable, TOP / "release/archive.py", kit_folder() / "bin/rt", folder, CPU, f"{fresh}/o", f"{fresh}/bc"], folder, log)
+            proving.run(
+                [
+                    sys.executable,
+                    TOP / "release/archive.py",
+                    kit_folder() / "bin/rt",
+                    folder,
+                    CPU,
+                    f"{fresh}/o",
+                    f"{fresh}/bc",
+                ],
+                folder,
+                log,
+            )
         except Failed as failed:
             text = (room / f"{name}.log").read_text(encoding="utf-8", errors="replace")
             raise Failed(f"{text[-2000:]}no module of {name} was made: {failed}") from None

@@ -1,7 +1,8 @@
 """The builders of the programs for other systems than the one that they are built on.
 
-Each is a module with FOLDER, its folder below bin/, FILES, the files besides crates/ that its programs are made of, and the functions `missing`, `linker`,
-`programs` and `build`, as release/arm.py has them. A target without a wheel may have one too.
+Each is a module with FOLDER, its folder below bin/, FILES, the files besides crates/ that its programs are made of, and
+the functions `missing`, `linker`, `programs` and `build`, as release/arm.py has them. A target without a wheel may have
+one too.
 """
 
 import hashlib

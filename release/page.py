@@ -1,7 +1,9 @@
-"""Puts the page of clients/python/wokureti/page, the engine in WebAssembly and its worker together as one file, which a browser opens from the disk.
+"""Puts the page of clients/python/wokureti/page, the engine in WebAssembly and its worker together as one file, which a
+browser opens from the disk.
 
-From the disk a browser starts no module script of another file and no worker of one. So the modules are joined in the order of their imports, each as a function that returns what
-it exports; the worker's text and the module are data in the page. The policy in the file lets it ask for nothing, from anywhere.
+From the disk a browser starts no module script of another file and no worker of one. So the modules are joined in the
+order of their imports, each as a function that returns what it exports; the worker's text and the module are data in
+the page. The policy in the file lets it ask for nothing, from anywhere.
 """
 
 import base64
@@ -23,7 +25,8 @@ IMPORT = re.compile(r'^import (?:(\{[^}]*\}|\* as \w+) from )?"(\.[^"]+)";\n', r
 EXPORTED = re.compile(r"^export (?=(?:async )?(?:function|class|const|let) )", re.M)
 NAMES = re.compile(r"^export (?:async )?(?:function\*? (\w+)|class (\w+)|(?:const|let) (\w+|[\[{][^=]*[\]}]) =)", re.M)
 POLICY = (
-    "default-src 'none'; script-src '{script}' 'wasm-unsafe-eval'; worker-src blob:; style-src 'unsafe-inline'; img-src data: blob:; media-src blob:; base-uri 'none'; form-action 'none'"
+    "default-src 'none'; script-src '{script}' 'wasm-unsafe-eval'; worker-src blob:; style-src 'unsafe-inline'; img-src"
+    " data: blob:; media-src blob:; base-uri 'none'; form-action 'none'"
 )
 
 
@@ -31,7 +34,13 @@ def sources():
     """A text that changes with each file that the page is made of, the library's own crates apart."""
     found = hashlib.sha256()
     own = [path for path in FOLDER.rglob("*") if path.suffix in (".js", ".css", ".html", ".svg")]
-    for path in sorted([*own, *(TOP / "release/wasm").iterdir(), *(TOP / "release" / name for name in ("page.py", "retarget.py", "web.py"))]):
+    for path in sorted(
+        [
+            *own,
+            *(TOP / "release/wasm").iterdir(),
+            *(TOP / "release" / name for name in ("page.py", "retarget.py", "web.py")),
+        ]
+    ):
         found.update(f"{path.relative_to(TOP)} {sum_of(path)}\n".encode())
     return found.hexdigest()
 
@@ -66,8 +75,13 @@ def as_function(name, text):
     inside = EXPORTED.sub("", inside)
     left = re.search(r"^(?:import|export)\b.*", inside, re.M)
     if left or "import(" in inside or "import.meta" in inside:
-        raise Failed(f"{name} has an import or an export of a form that release/page.py does not know: {left.group(0) if left else 'import( or import.meta'}")
-    return f"// {name}\nconst {module_of(name)} = (() => {{\n{inside}return {{ {', '.join(names_in(text))} }};\n}})();\n"
+        raise Failed(
+            f"{name} has an import or an export of a form that release/page.py does not know:"
+            f" {left.group(0) if left else 'import( or import.meta'}"
+        )
+    return (
+        f"// {name}\nconst {module_of(name)} = (() => {{\n{inside}return {{ {', '.join(names_in(text))} }};\n}})();\n"
+    )
 
 
 def resolved(name, other):
@@ -114,12 +128,27 @@ def made(module, version):
     digest = base64.b64encode(hashlib.sha256(script.encode()).digest()).decode()
     packed = base64.b64encode(gzip.compress(module, 9, mtime=0)).decode()
     icon = base64.b64encode((FOLDER / "icon.svg").read_bytes()).decode()
-    text = (FOLDER / "index.html").read_text(encoding="utf-8").replace('"icon.svg"', f'"data:image/svg+xml;base64,{icon}"')
+    text = (
+        (FOLDER / "index.html").read_text(encoding="utf-8").replace('"icon.svg"', f'"data:image/svg+xml;base64,{icon}"')
+    )
     policy = html.escape(POLICY.format(script=f"sha256-{digest}"), quote=False)
-    text = replaced(text, '<meta charset="utf-8">\n', f'<meta charset="utf-8">\n<meta http-equiv="Content-Security-Policy" content="{policy}">\n<meta name="version" content="{version}">\n')
-    text = replaced(text, '<link rel="stylesheet" href="page.css">\n', f"<style>\n{(FOLDER / 'page.css').read_text(encoding='utf-8')}</style>\n")
+    text = replaced(
+        text,
+        '<meta charset="utf-8">\n',
+        (
+            f'<meta charset="utf-8">\n<meta http-equiv="Content-Security-Policy" content="{policy}">\n<meta'
+            f' name="version" content="{version}">\n'
+        ),
+    )
+    text = replaced(
+        text,
+        '<link rel="stylesheet" href="page.css">\n',
+        f"<style>\n{(FOLDER / 'page.css').read_text(encoding='utf-8')}</style>\n",
+    )
     text = replaced(text, '<script type="module" src="served.js"></script>\n', "")
-    end = data_script("module-text", packed) + data_script("worker-text", joined(WORKER)) + f"<script>{script}</script>\n"
+    end = (
+        data_script("module-text", packed) + data_script("worker-text", joined(WORKER)) + f"<script>{script}</script>\n"
+    )
     data = replaced(text, "</body>\n", f"{end}</body>\n").encode()
     if len(data) > MOST:
         raise Failed(f"{NAME} has {len(data):,} bytes, and must have {MOST:,} at most")

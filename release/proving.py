@@ -69,7 +69,15 @@ def take_libraries(names, one, other):
 
 def run(words, folder, log, each_line=lambda line: None):
     """Runs a command, its lines to the log and to `each_line`. It ends with this program."""
-    with subprocess.Popen(words, cwd=folder, stdin=subprocess.DEVNULL, stdout=subprocess.PIPE, stderr=subprocess.STDOUT, text=True, errors="replace") as ran:
+    with subprocess.Popen(
+        words,
+        cwd=folder,
+        stdin=subprocess.DEVNULL,
+        stdout=subprocess.PIPE,
+        stderr=subprocess.STDOUT,
+        text=True,
+        errors="replace",
+    ) as ran:
         try:
             for line in ran.stdout:
                 log.write(line)
@@ -143,8 +151,13 @@ class Build:
 
 
 def build(crates, room, cpus, say):
-    """Proves the crates, and builds both programs for these processors. Returns the object files by name and processor."""
-    say(f"proving {len(crates)} crates, up to {jobs()} at a time: allow 40 minutes on 4 idle processors. rt's output goes to {room / 'build.log'}")
+    """Proves the crates, and builds both programs for these processors. Returns the object files by name and
+    processor.
+    """
+    say(
+        f"proving {len(crates)} crates, up to {jobs()} at a time: allow 40 minutes on 4 idle processors. rt's output"
+        f" goes to {room / 'build.log'}"
+    )
     work = Build(crates, room, say)
     try:
         return work.whole(cpus)
@@ -156,13 +169,24 @@ def build(crates, room, cpus, say):
 
 
 def made_by_ci(program, room):
-    """The object file that `rt ci` has built in this checkout of a program, for the processor that is the kit's default, if there is one: rt links the program next to it
-    of it, byte for byte. There is none if rt kept the program from an earlier run."""
+    """The object file that `rt ci` has built in this checkout of a program, for the processor that is the kit's
+    default, if there is one: rt links the program next to it of it, byte for byte. There is none if rt kept the program
+    from an earlier run."""
     made, kit = TOP / "crates" / program / "out" / f"{program}.o", kit_folder()
     if not made.is_file() or not made.with_suffix("").is_file():
         return None
     linked = room / f"{program}-linked"
-    words = ["--target", "x86_64-unknown-linux-gnu", "--toolchain", kit / "toolchain", "-o", linked, made, kit / "c/libos_c.a", kit / "c/liblibc_c.a"]
+    words = [
+        "--target",
+        "x86_64-unknown-linux-gnu",
+        "--toolchain",
+        kit / "toolchain",
+        "-o",
+        linked,
+        made,
+        kit / "c/libos_c.a",
+        kit / "c/liblibc_c.a",
+    ]
     done = subprocess.run(list(map(str, [kit / "bin/rattle-link", *words])), capture_output=True, check=False)
     is_same = done.returncode == 0 and linked.read_bytes() == made.with_suffix("").read_bytes()
     return made if is_same else None
@@ -178,8 +202,8 @@ def over_ci(program, crates, room, log):
 
 
 def build_in(crates, room, cpus, say):
-    """Builds both programs over the libraries that `rt ci` has proved in this checkout: only the programs' own crates are proved again, and for the kit's default
-    processor not even these, if `rt ci` has built them."""
+    """Builds both programs over the libraries that `rt ci` has proved in this checkout: only the programs' own crates
+    are proved again, and for the kit's default processor not even these, if `rt ci` has built them."""
     say(f"building {' and '.join(PROGRAMS)} for {' and '.join(cpus)}")
 
     def one(program):

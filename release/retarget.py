@@ -1,11 +1,11 @@
 """Compiles an LLVM module that rattle makes for Linux on x86-64 for another target. No proof covers the result.
 
-For example, the module of the library for `wasm32`: its text gets the target's triple and data layout, its pointers of 8 bytes become pointers of 4 bytes, and
-the kit's clang compiles it with the options that rattle passes.
+For example, the module of the library for `wasm32`: its text gets the target's triple and data layout, its pointers of
+8 bytes become pointers of 4 bytes, and the kit's clang compiles it with the options that rattle passes.
 
-What a module has of Linux on x86-64: the data layout, attributes of the processor, and the numbers of some C functions (flags of `open`, error numbers, the
-fields of `statx`). These functions get the prefix `wokureti_os_`; the files in release/port define them. It has no instruction of x86 and makes no pointer of a
-number.
+What a module has of Linux on x86-64: the data layout, attributes of the processor, and the numbers of some C functions
+(flags of `open`, error numbers, the fields of `statx`). These functions get the prefix `wokureti_os_`; the files in
+release/port define them. It has no instruction of x86 and makes no pointer of a number.
 """
 
 import functools
@@ -32,11 +32,18 @@ TARGETS = {
     "x86_64-macos": Target("x86_64-apple-macosx10.15.0", ("-march=x86-64-v2",), ("-no-x86-call-frame-opt",)),
 }
 # What rattle itself passes to clang. Without the passes' options, clang compiles some correct modules wrongly.
-PASSES = ("-no-trap-after-noreturn", "-trap-unreachable", "-disable-machine-licm", "-disable-postra-machine-licm", "-sink-common-insts=false")
+PASSES = (
+    "-no-trap-after-noreturn",
+    "-trap-unreachable",
+    "-disable-machine-licm",
+    "-disable-postra-machine-licm",
+    "-sink-common-insts=false",
+)
 OPTIONS = ("-O3", "-ffunction-sections", "-fdata-sections", "-Wno-override-module")
 # Functions of Linux whose numbers are other ones on the target.
 OF_LINUX = (
-    "open close read write isatty clock_gettime statx readlink chown ftruncate fchmod fsync fdatasync flock unlink rename lseek __xpg_strerror_r __sysv_signal".split()
+    "open close read write isatty clock_gettime statx readlink chown ftruncate fchmod fsync fdatasync flock unlink"
+    " rename lseek __xpg_strerror_r __sysv_signal".split()
 )
 SYSTEM_CALL = re.compile(rf"@({'|'.join(OF_LINUX)})\(")
 SYSTEM_NAME = re.compile(rf"@(?:{'|'.join(OF_LINUX)}|main)\b(?![-.:$])")
@@ -57,12 +64,23 @@ ADDRESS = re.compile(r"^ *(%[-\w.]+) = ptrtoaddr ptr (\S+) to i64$")
 STATIC = re.compile(r"^(@\S+ = [a-z_ ]*)<\{ ([^}]*) \}> <\{ (.*) \}>(, align \d+)$")
 POINTER = re.compile(r"\bptr (null|@[-\w.]+|getelementptr (?:inbounds )?(?:nuw )?\([^()]*\))(?=,|$)")
 # Lines that would have to be changed in a way that is not known here.
-UNKNOWN = re.compile(r"\b(?:ptrtoint|inttoptr|addrspacecast)\b|\b(?:load|store|alloca|getelementptr|byval)\b[^%@]*[{[<][^]}>%@]*\bptr\b|\bgetelementptr (?:\w+ )*ptr,")
+UNKNOWN = re.compile(
+    r"\b(?:ptrtoint|inttoptr|addrspacecast)\b"
+    r"|\b(?:load|store|alloca|getelementptr|byval)\b[^%@]*[{[<][^]}>%@]*\bptr\b"
+    r"|\bgetelementptr (?:\w+ )*ptr,"
+)
 
 
 def clang(*words, name="clang", data=None):
     """Runs the kit's clang, or its linker under another name, and returns what it prints."""
-    done = subprocess.run([name, *map(str, words)], executable=kit_folder() / "toolchain/bin/clang", input=data, capture_output=True, text=True, check=False)
+    done = subprocess.run(
+        [name, *map(str, words)],
+        executable=kit_folder() / "toolchain/bin/clang",
+        input=data,
+        capture_output=True,
+        text=True,
+        check=False,
+    )
     if done.returncode != 0:
         raise Failed(f"{name} could not make the module: {done.stderr.strip()[-2000:]}")
     return done.stdout
@@ -150,8 +168,9 @@ def narrow_line(line):
 
 
 def narrowed(text):
-    """The text for pointers of 4 bytes. In all of rattle's layouts a pointer has 8 bytes, and it is in the first 4 of them. Sizes and places are counted in
-    bytes, so nothing moves. This is done before any pass of clang, which would make vectors of pointers."""
+    """The text for pointers of 4 bytes. In all of rattle's layouts a pointer has 8 bytes, and it is in the first 4 of
+    them. Sizes and places are counted in bytes, so nothing moves. This is done before any pass of clang, which would
+    make vectors of pointers."""
     return "\n".join(map(narrow_line, text.split("\n")))
 
 
@@ -169,9 +188,23 @@ def for_target(text, target):
 
 
 def compile_with(text, target, out, options):
-    """Compiles the text of a module for a target, with these options of passes: to an object file, or to assembly if `out` ends in .s."""
+    """Compiles the text of a module for a target, with these options of passes: to an object file, or to assembly if
+    `out` ends in .s.
+    """
     form = ("-S", "-fno-addrsig") if str(out).endswith(".s") else ("-c",)
-    clang(f"--target={TARGETS[target].triple}", *OPTIONS, *TARGETS[target].options, *options, *form, "-x", "ir", "-", "-o", out, data=text)
+    clang(
+        f"--target={TARGETS[target].triple}",
+        *OPTIONS,
+        *TARGETS[target].options,
+        *options,
+        *form,
+        "-x",
+        "ir",
+        "-",
+        "-o",
+        out,
+        data=text,
+    )
     return out
 
 

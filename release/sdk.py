@@ -1,4 +1,6 @@
-"""What a compiler needs next to the shared library: files for the linker, pkg-config and CMake, which find the library and the header from where they are."""
+"""What a compiler needs next to the shared library: files for the linker, pkg-config and CMake, which find the library
+and the header from where they are.
+"""
 
 from .sources import version
 
@@ -21,10 +23,10 @@ CMAKE = """if(NOT TARGET wokureti::wokureti)
     INTERFACE_INCLUDE_DIRECTORIES "${{CMAKE_CURRENT_LIST_DIR}}{header}")
 endif()
 """
-# As Cargo has it: versions 0.x are compatible if x is the same, and none is older than the one that is asked for.
+# As the header says, and the library's name: what was written for an earlier version of the same major one works.
 CMAKE_VERSION = """set(PACKAGE_VERSION "{version}")
-string(REGEX MATCH "^[0-9]+\\.[0-9]+" wokureti_here "${{PACKAGE_VERSION}}")
-string(REGEX MATCH "^[0-9]+\\.[0-9]+" wokureti_asked "${{PACKAGE_FIND_VERSION}}")
+string(REGEX MATCH "^[0-9]+" wokureti_here "${{PACKAGE_VERSION}}")
+string(REGEX MATCH "^[0-9]+" wokureti_asked "${{PACKAGE_FIND_VERSION}}")
 if(wokureti_here STREQUAL wokureti_asked AND NOT PACKAGE_VERSION VERSION_LESS PACKAGE_FIND_VERSION)
   set(PACKAGE_VERSION_COMPATIBLE TRUE)
 endif()
@@ -32,9 +34,18 @@ if(PACKAGE_VERSION VERSION_EQUAL PACKAGE_FIND_VERSION)
   set(PACKAGE_VERSION_EXACT TRUE)
 endif()
 """
-FILES = {"libwokureti.so": LINK, "wokureti.pc": PC, "wokureti-config.cmake": CMAKE, "wokureti-config-version.cmake": CMAKE_VERSION}
+FILES = {
+    "libwokureti.so": LINK,
+    "wokureti.pc": PC,
+    "wokureti-config.cmake": CMAKE,
+    "wokureti-config-version.cmake": CMAKE_VERSION,
+}
 
 
 def texts(header, number=None):
-    """The files by their names, for a folder from which the header is at `header`, which is empty or begins with a slash; of this version or another."""
-    return {name: text.format(version=number or version(), shared=SHARED, header=header) for name, text in FILES.items()}
+    """The files by their names, for a folder from which the header is at `header`, which is empty or begins with a
+    slash; of this version or another.
+    """
+    return {
+        name: text.format(version=number or version(), shared=SHARED, header=header) for name, text in FILES.items()
+    }

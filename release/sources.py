@@ -1,4 +1,6 @@
-"""What the programs are built from: their crates, a digest of all files, the version, and the text dist/SOURCES that names them."""
+"""What the programs are built from: their crates, a digest of all files, the version, and the text dist/SOURCES that
+names them.
+"""
 
 import hashlib
 import pathlib
@@ -22,7 +24,24 @@ def version():
     text = (TOP / "VERSION").read_text(encoding="ascii").strip()
     source = TOP / "crates/command_lines/src/arguments.rt"
     if source.is_file() and f'"{text}"' not in source.read_text(encoding="utf-8"):
-        raise Failed(f"VERSION is {text}, and the programs have another version: change VERSION in {source.relative_to(TOP)} too")
+        raise Failed(
+            f"VERSION is {text}, and the programs have another version: change VERSION in {source.relative_to(TOP)} too"
+        )
+    header, number = TOP / "clients/c/include/wokureti.h", [int(part) for part in text.split(".")]
+    if (
+        header.is_file()
+        and [
+            int(part)
+            for part in re.findall(
+                r"#define WK_VERSION_(?:MAJOR|MINOR|PATCH) (\d+)", header.read_text(encoding="utf-8")
+            )
+        ]
+        != number
+    ):
+        raise Failed(
+            f"VERSION is {text}, and the header of the library has another version: change WK_VERSION_MAJOR, _MINOR and"
+            f" _PATCH in {header.relative_to(TOP)} too"
+        )
     return text
 
 
@@ -65,8 +84,8 @@ def digest(crates):
 
 
 def kit():
-    """The line of the kit that docs/proofs.md names."""
-    text = " ".join((TOP / "docs/proofs.md").read_text().split())
+    """The line of the kit that docs/design/proofs.md names."""
+    text = " ".join((TOP / "docs/design/proofs.md").read_text().split())
     found = re.search(r"rattle-kit-\S+ logic [0-9a-f]+", text)
     return found.group(0) if found else ""
 

@@ -1,7 +1,8 @@
 """Notes in a copy of crates which of their libraries are proved, as `rt check` notes it: stamps.py RT FOLDER
 
-`rt ci` proves every library from nothing, and leaves them without the stamp by which `rt run` knows them, since its own checks keep another form of them. In
-a copy that has only the libraries of one `rt ci` they go together. Each stamp is computed by the kit's own code.
+`rt ci` proves every library from nothing, and leaves them without the stamp by which `rt run` knows them, since its own
+checks keep another form of them. In a copy that has only the libraries of one `rt ci` they go together. Each stamp is
+computed by the kit's own code.
 """
 
 import importlib.machinery

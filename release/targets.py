@@ -1,6 +1,7 @@
 """The systems that Wokureti runs on: how each one gets it, what is proved of its build, and how that build was tested.
 
-The names of wheels, dist/SOURCES, the table in README.md and the second line of `wokureti --version` are made of this table.
+The names of wheels, dist/SOURCES, the table in docs/design/proofs.md and the second line of `wokureti --version` are
+made of this table.
 """
 
 import platform
@@ -16,11 +17,13 @@ PLACE = "data/lib/wokureti"
 
 @dataclass(frozen=True)
 class Target:
-    """A system. `builds` are the processors that its files are made for, the most general one first; `system` and `machines` are the names that Python's `platform`
-    has for it.
+    """A system. `builds` are the processors that its files are made for, the most general one first; `system` and
+    `machines` are the names that Python's `platform` has for it.
 
-    Without `tags` there is no wheel for it. `place` is a file's place in the wheel's folder of data: `data/` is installed below the environment's folder,
-    `scripts/` among its commands. With a launcher, a script of each program's name starts the file for the processor."""
+    Without `tags` there is no wheel for it. `place` is a file's place in the wheel's folder of data: `data/` is
+    installed below the environment's folder, `scripts/` among its commands. With a launcher, a script of each program's
+    name starts the file for the processor.
+    """
 
     name: str
     installed: str
@@ -34,7 +37,8 @@ class Target:
     place: str = "scripts/{name}"
     place_of_library: str = "data/lib/wokureti/{name}"
     has_launcher: bool = False
-    # Whether the wheel has what a compiler needs: the archive of the library, for the most general processor, and the texts of `release/sdk.py`.
+    # Whether the wheel has what a compiler needs: the archive of the library, for the most general processor, and the
+    # texts of `release/sdk.py`.
     has_sdk: bool = False
     system: str = ""
     machines: tuple = ()
@@ -51,11 +55,17 @@ class Target:
 
     @property
     def made(self):
-        """Each file that is built, with its processor: for each processor the programs and the library, and the archive."""
-        return [(name, build) for build in self.builds for name in self.files] + ([(ARCHIVE, self.builds[0])] if self.has_sdk else [])
+        """Each file that is built, with its processor: for each processor the programs and the library, and the
+        archive.
+        """
+        return [(name, build) for build in self.builds for name in self.files] + (
+            [(ARCHIVE, self.builds[0])] if self.has_sdk else []
+        )
 
     def place_of(self, name, build):
-        """The place of a program or of the library for one of the `builds`. The loader of glibc finds the library for a better processor below that of the most general one."""
+        """The place of a program or of the library for one of the `builds`. The loader of glibc finds the library for a
+        better processor below that of the most general one.
+        """
         if name == ARCHIVE or (name == self.library and build == self.builds[0]):
             return f"{PLACE}/{name}"
         return (self.place_of_library if name == self.library else self.place).format(name=name, build=build)
@@ -89,7 +99,9 @@ ARM = Target(
     name="Linux on ARM",
     installed="the wheel",
     proof=VERDICT,
-    tested="under `qemu-aarch64`: rows, clips, conformance, findings, options, saving, and the library by its tests in C",
+    tested=(
+        "under `qemu-aarch64`: rows, clips, conformance, findings, options, saving, and the library by its tests in C"
+    ),
     caution="run by us under an emulator only",
     tags=("manylinux_2_17_aarch64", "musllinux_1_1_aarch64"),
     builds=("aarch64",),
@@ -141,12 +153,22 @@ def of_build(build):
     """The target whose wheel has files for this processor."""
     found = next((target for target in TARGETS if build in target.builds), None)
     if found is None:
-        raise Failed(f"there is no build for {build}: {', '.join(name for target in TARGETS for name in target.builds)}")
+        raise Failed(
+            f"there is no build for {build}: {', '.join(name for target in TARGETS for name in target.builds)}"
+        )
     return found
 
 
 def table():
-    """The lines of README's table."""
+    """The lines of the table in docs/design/proofs.md."""
     rows = [("System", "How it is installed", "What is proved", "How it is tested"), ("---",) * 4]
-    rows += [(target.name, target.installed, target.proof, "; ".join(part for part in (target.tested, target.caution) if part)) for target in TARGETS]
+    rows += [
+        (
+            target.name,
+            target.installed,
+            target.proof,
+            "; ".join(part for part in (target.tested, target.caution) if part),
+        )
+        for target in TARGETS
+    ]
     return [f"| {' | '.join(row)} |" if row[0] != "---" else f"|{'|'.join(row)}|" for row in rows]

@@ -1,6 +1,8 @@
-"""Builds the programs for WASI, which are only compared with the native ones and not shipped. Node runs them, by tests/run_wasi.mjs.
+"""Builds the programs for WASI, which are only compared with the native ones and not shipped. Node runs them, by
+tests/run_wasi.mjs.
 
-They show that modules with pointers of 4 bytes do what the native programs do, with the whole program and not only the library.
+They show that modules with pointers of 4 bytes do what the native programs do, with the whole program and not only the
+library.
 """
 
 import pathlib
@@ -13,7 +15,17 @@ from .sources import TOP, Failed
 FOLDER = "wasi"
 PORT = TOP / "release/port"
 INCLUDE, LIBC = pathlib.Path("/usr/include/wasm32-wasi"), pathlib.Path("/usr/lib/wasm32-wasi")
-C_OPTIONS = ("--target=wasm32-wasip1", "-std=gnu11", "-O2", "-nostdinc", "-isystem", INCLUDE, "-Wall", "-Wextra", "-Werror")
+C_OPTIONS = (
+    "--target=wasm32-wasip1",
+    "-std=gnu11",
+    "-O2",
+    "-nostdinc",
+    "-isystem",
+    INCLUDE,
+    "-Wall",
+    "-Wextra",
+    "-Werror",
+)
 
 
 def is_possible():
@@ -22,12 +34,16 @@ def is_possible():
 
 
 def c_objects(folder):
-    """The object files of release/port, and of the numbers of 128 bits. The kit's clang has no headers of its own: stddef.h is gcc's."""
+    """The object files of release/port, and of the numbers of 128 bits. The kit's clang has no headers of its own:
+    stddef.h is gcc's.
+    """
     made = []
     own = subprocess.run(["gcc", "-print-file-name=include"], capture_output=True, text=True, check=True).stdout.strip()
     for name in ("common", "heap", "posix"):
         made.append(folder / f"{name}.o")
-        retarget.clang(*C_OPTIONS, "-isystem", own, *retarget.TARGETS[web.TARGET].options, "-c", PORT / f"{name}.c", "-o", made[-1])
+        retarget.clang(
+            *C_OPTIONS, "-isystem", own, *retarget.TARGETS[web.TARGET].options, "-c", PORT / f"{name}.c", "-o", made[-1]
+        )
     return [*made, web.c_object("wide.c", folder)]
 
 
@@ -40,7 +56,9 @@ def linked(bitcodes, folder):
         for program, bitcode in bitcodes.items():
             own = retarget.compiled(bitcode, web.TARGET, room / f"{program}.o")
             made[program] = folder / f"{program}.wasm"
-            retarget.clang(*web.STACK, "-o", made[program], LIBC / "crt1-command.o", own, *parts, LIBC / "libc.a", name="wasm-ld")
+            retarget.clang(
+                *web.STACK, "-o", made[program], LIBC / "crt1-command.o", own, *parts, LIBC / "libc.a", name="wasm-ld"
+            )
     return made
 
 

@@ -1,7 +1,9 @@
-"""Builds the page that needs no server, one file: the LLVM module of the proved library, compiled for WebAssembly with 32-bit memory, and the page around it.
+"""Builds the page that needs no server, one file: the LLVM module of the proved library, compiled for WebAssembly with
+32-bit memory, and the page around it.
 
-The kit proves the library for wasm64, which Safari does not run, and does not compile its heap. So `retarget` compiles the module that rattle makes for x86-64 (the same
-for both processors, except attributes and the alignment of vectors), and it is linked with the heap of release/wasm/heap.c. No proof covers the result.
+The kit proves the library for wasm64, which Safari does not run, and does not compile its heap. So `retarget` compiles
+the module that rattle makes for x86-64 (the same for both processors, except attributes and the alignment of vectors),
+and it is linked with the heap of release/wasm/heap.c. No proof covers the result.
 """
 
 import hashlib
@@ -14,7 +16,21 @@ from .sources import TOP, sum_of, version
 
 WASM = TOP / "release/wasm"
 TARGET = "wasm32"
-CALLS = ("wk_version", "wk_open", "wk_open_bytes", "wk_close", "wk_frame", "wk_request", "wk_why", "wk_save", "wk_save_source", "wk_export", "wk_text", "wk_room", "wk_free")
+CALLS = (
+    "wk_version",
+    "wk_open",
+    "wk_open_bytes",
+    "wk_close",
+    "wk_frame",
+    "wk_request",
+    "wk_why",
+    "wk_save",
+    "wk_save_source",
+    "wk_export",
+    "wk_text",
+    "wk_room",
+    "wk_free",
+)
 # A stack that is full ends the call, and writes over nothing.
 STACK = ("--gc-sections", "--strip-all", "--stack-first", "-z", "stack-size=1048576")
 LINKING = ("--no-entry", *STACK, *(f"--export={name}" for name in CALLS))

@@ -21,14 +21,22 @@ def in_wheel(version, place):
 
 def about(target, version):
     """The files that say what the wheel is, by their names."""
-    summary = "Serves, edits, lists and repairs VP8 streams" + (" with proved programs" if target.proof == VERDICT else "")
+    summary = "Serves, edits, lists and repairs VP8 streams" + (
+        " with proved programs" if target.proof == VERDICT else ""
+    )
     metadata = (
         f"Metadata-Version: 2.1\nName: wokureti\nVersion: {version}\nSummary: {summary}\nRequires-Python: >=3.9\n"
         'Provides-Extra: arrays\nRequires-Dist: numpy; extra == "arrays"\nDescription-Content-Type: text/markdown\n\n'
-        f"This wheel is for {target.sentence}.\n\n"
-    ) + (TOP / "clients/README.md").read_text(encoding="utf-8")
-    wheel = "Wheel-Version: 1.0\nGenerator: wokureti build.py\nRoot-Is-Purelib: false\n" + "".join(f"Tag: py3-none-{tag}\n" for tag in target.tags)
-    return {"METADATA": metadata, "WHEEL": wheel, "entry_points.txt": "[console_scripts]\nwokureti = wokureti.commands:main\n"}
+        f"This wheel is for {target.sentence}.\n\n" + (TOP / "docs/guide/python.md").read_text(encoding="utf-8")
+    )
+    wheel = "Wheel-Version: 1.0\nGenerator: wokureti build.py\nRoot-Is-Purelib: false\n" + "".join(
+        f"Tag: py3-none-{tag}\n" for tag in target.tags
+    )
+    return {
+        "METADATA": metadata,
+        "WHEEL": wheel,
+        "entry_points.txt": "[console_scripts]\nwokureti = wokureti.commands:main\n",
+    }
 
 
 def client_files():
@@ -39,8 +47,9 @@ def client_files():
 
 
 def entries(target, version, programs, shared):
-    """The files of the wheel but for its record: path, mode and bytes. `programs` has a path for each (name, processor), the library's too, and `shared` a
-    text for each file below share/. What is proved of the programs is in the file BUILD of the client."""
+    """The files of the wheel but for its record: path, mode and bytes. `programs` has a path for each (name,
+    processor), the library's too, and `shared` a text for each file below share/. What is proved of the programs is in
+    the file BUILD of the client."""
     for path, data in client_files():
         yield path, FILE, data
     yield "wokureti/VERSION", FILE, f"{version}\n".encode()
@@ -59,7 +68,9 @@ def entries(target, version, programs, shared):
 
 
 def write(out, target, version, date, programs, shared):
-    """Writes the wheel for a target. Each of its files has the time of the version's day, so that the same files make the same wheel."""
+    """Writes the wheel for a target. Each of its files has the time of the version's day, so that the same files make
+    the same wheel.
+    """
     record = f"wokureti-{version}.dist-info/RECORD"
     lines = []
     with zipfile.ZipFile(out, "w", zipfile.ZIP_DEFLATED, compresslevel=9) as file:

@@ -1,4 +1,5 @@
-"""Builds the programs and the library for Windows: the LLVM modules of the proved crates, compiled by `retarget` and linked by Debian's mingw-w64.
+"""Builds the programs and the library for Windows: the LLVM modules of the proved crates, compiled by `retarget` and
+linked by Debian's mingw-w64.
 
 No proof covers the result. release/port has the functions of C that the modules call.
 """
@@ -20,11 +21,31 @@ LIBRARY = "wokureti.dll"
 PORT = TOP / "release/port"
 FILES = (*sorted(PORT.iterdir()), TOP / "release/retarget.py", TOP / "release/windows.py", library.HEADER)
 C_OPTIONS = ("-std=gnu11", "-O2", "-ffunction-sections", "-Wall", "-Wextra", "-Werror")
-# The linker is the kit's: that of binutils takes minutes for so many sections. Without the time of the build in it, the same objects make the same file.
-LINKING = ("-m", "i386pep", "-Bstatic", "-s", "--gc-sections", "--no-insert-timestamp", "--dynamicbase", "--high-entropy-va", "--nxcompat")
+# The linker is the kit's: that of binutils takes minutes for so many sections. Without the time of the build in it, the
+# same objects make the same file.
+LINKING = (
+    "-m",
+    "i386pep",
+    "-Bstatic",
+    "-s",
+    "--gc-sections",
+    "--no-insert-timestamp",
+    "--dynamicbase",
+    "--high-entropy-va",
+    "--nxcompat",
+)
 # What a program is linked with of mingw-w64 and of gcc; what the library is. The stack is as large as on Linux.
 OBJECTS_OF_PROGRAMS = ("crt2.o", "crtbegin.o", "crtend.o")
-LIBRARIES_OF_PROGRAMS = ("libmingw32.a", "libmingwex.a", "libmoldname.a", "libmsvcrt.a", "libkernel32.a", "libshell32.a", "libgcc.a", "libgcc_eh.a")
+LIBRARIES_OF_PROGRAMS = (
+    "libmingw32.a",
+    "libmingwex.a",
+    "libmoldname.a",
+    "libmsvcrt.a",
+    "libkernel32.a",
+    "libshell32.a",
+    "libgcc.a",
+    "libgcc_eh.a",
+)
 LIBRARIES_OF_LIBRARY = ("libmsvcrt.a", "libgcc.a")
 STACK = 8 << 20
 OF_PROGRAMS = ("common", "heap", "windows")
@@ -43,7 +64,9 @@ def ran(*words):
 
 def missing():
     """What has to be installed to build for Windows, or an empty text."""
-    return "" if shutil.which(f"{PREFIX}gcc") else f"programs for Windows are linked with {PREFIX}gcc: install {PACKAGE}"
+    return (
+        "" if shutil.which(f"{PREFIX}gcc") else f"programs for Windows are linked with {PREFIX}gcc: install {PACKAGE}"
+    )
 
 
 def part(name):
@@ -90,7 +113,7 @@ def link_program(made, out, folder):
 
 def calls():
     """The functions that the header declares."""
-    return sorted(set(re.findall(r"\b(wk_\w+)\(", library.HEADER.read_text(encoding="utf-8"))))
+    return sorted(set(re.findall(r"(?m)^(?!static )\w[\w *]*\b(wk_\w+)\(", library.HEADER.read_text(encoding="utf-8"))))
 
 
 def link_library(made, out, folder):
@@ -121,11 +144,16 @@ def mark_of(bitcodes):
 
 
 def programs(room, is_proved, say):
-    """Both programs and the library for Windows by name and processor, and the modules that they are compiled from: those in `room`, if they were made there of these sources."""
+    """Both programs and the library for Windows by name and processor, and the modules that they are compiled from:
+    those in `room`, if they were made there of these sources.
+    """
     if missing():
         raise Failed(missing())
     room = pathlib.Path(room)
-    bitcodes = {**modules.programs(room, is_proved, say), library.CRATE: library.compiled(room, CPUS[0], is_proved, say)[1]}
+    bitcodes = {
+        **modules.programs(room, is_proved, say),
+        library.CRATE: library.compiled(room, CPUS[0], is_proved, say)[1],
+    }
     folder = room / f"{TARGET}-{mark_of(bitcodes)}"
     made = {**{name: folder / f"{name}.exe" for name in PROGRAMS}, library.CRATE: folder / LIBRARY}
     if not all(path.is_file() for path in made.values()):

@@ -1,9 +1,11 @@
 #!/usr/bin/env python3
-"""Runs wokureti on Linux as Python of another system would: WOKURETI_AS=windows (or macos) as_system.py -m wokureti cut IN OUT --from f3
+"""Runs wokureti on Linux as Python of another system would: WOKURETI_AS=windows (or macos) as_system.py -m wokureti cut
+IN OUT --from f3
 
-What that Python does not have is taken away: modules, functions, flags, signals and paths. As on Windows, a file that is open is neither renamed nor removed, text
-files get CRLF, names have none of `<>:"|?*`, locks are of bytes, and a process inherits no descriptor. Paths keep their form: tests of the functions that read them have the
-rest. `-c CODE` runs code after that. The tests of tests/test_systems.py use it.
+What that Python does not have is taken away: modules, functions, flags, signals and paths. As on Windows, a file that
+is open is neither renamed nor removed, text files get CRLF, names have none of `<>:"|?*`, locks are of bytes, and a
+process inherits no descriptor. Paths keep their form: tests of the functions that read them have the rest. `-c CODE`
+runs code after that. The tests of tests/test_systems.py use it.
 """
 
 import argparse
@@ -37,31 +39,77 @@ import urllib.request
 import webbrowser
 import xml.etree.ElementTree
 
-# The standard library keeps what it took of these modules when it was imported, as it does not need them on the other system.
-IMPORTED = (argparse, concurrent.futures.thread, contextlib, ctypes, http.client, importlib.metadata, logging, mmap, random, secrets, shutil, socket, threading, urllib.request, webbrowser, xml.etree.ElementTree)
+# The standard library keeps what it took of these modules when it was imported, as it does not need them on the other
+# system.
+IMPORTED = (
+    argparse,
+    concurrent.futures.thread,
+    contextlib,
+    ctypes,
+    http.client,
+    importlib.metadata,
+    logging,
+    mmap,
+    random,
+    secrets,
+    shutil,
+    socket,
+    threading,
+    urllib.request,
+    webbrowser,
+    xml.etree.ElementTree,
+)
 SYSTEM = os.environ.get("WOKURETI_AS", "")
 PLATFORMS = {"windows": "win32", "macos": "darwin"}
 MODULES = {"windows": "fcntl resource termios tty pty pwd grp syslog", "macos": ""}
-LINUX_ONLY = """sched_getaffinity sched_setaffinity posix_fadvise posix_fallocate fdatasync pipe2 memfd_create copy_file_range splice eventfd O_TMPFILE O_PATH
-    getxattr setxattr listxattr removexattr pidfd_open"""
+LINUX_ONLY = """sched_getaffinity sched_setaffinity posix_fadvise posix_fallocate fdatasync pipe2 memfd_create
+    copy_file_range splice eventfd O_TMPFILE O_PATH getxattr setxattr listxattr removexattr pidfd_open"""
 FUNCTIONS = {
-    "windows": f"""{LINUX_ONLY} pread pwrite preadv pwritev readv writev killpg getpgid setpgid getpgrp setsid getsid getuid geteuid getgid getegid getgroups setuid
-        register_at_fork statvfs fstatvfs fork forkpty vfork posix_spawn chown lchown fchown fchmod mkfifo mknod nice getloadavg set_blocking get_blocking waitid wait wait3
-        wait4 sendfile sync uname sysconf pathconf ttyname openpty chroot O_CLOEXEC O_NOFOLLOW O_DIRECTORY O_NONBLOCK O_NOCTTY O_SYNC O_DSYNC""",
+    "windows": f"""{LINUX_ONLY} pread pwrite preadv pwritev readv writev killpg getpgid setpgid getpgrp setsid
+        getsid getuid geteuid getgid getegid getgroups setuid register_at_fork statvfs fstatvfs fork forkpty
+        vfork posix_spawn chown lchown fchown fchmod mkfifo mknod nice getloadavg set_blocking get_blocking
+        waitid wait wait3 wait4 sendfile sync uname sysconf pathconf ttyname openpty chroot O_CLOEXEC O_NOFOLLOW
+        O_DIRECTORY O_NONBLOCK O_NOCTTY O_SYNC O_DSYNC""",
     "macos": LINUX_ONLY,
 }
 WAITS = {"windows": "poll epoll", "macos": "epoll"}
-SIGNALS = {"windows": "SIGHUP SIGALRM SIGPIPE SIGUSR1 SIGUSR2 SIGCHLD SIGQUIT SIGKILL SIGSTOP SIGTSTP SIGCONT SIGWINCH SIGTTIN SIGTTOU", "macos": "SIGPWR SIGSTKFLT"}
+SIGNALS = {
+    "windows": (
+        "SIGHUP SIGALRM SIGPIPE SIGUSR1 SIGUSR2 SIGCHLD SIGQUIT SIGKILL SIGSTOP SIGTSTP SIGCONT SIGWINCH SIGTTIN"
+        " SIGTTOU"
+    ),
+    "macos": "SIGPWR SIGSTKFLT",
+}
 # The flags that Windows has, as bits that Linux does not use; and Ctrl-Break, as a signal that nothing sends here.
 BINARY, TEMPORARY, BREAK = 1 << 29, 1 << 28, signal.SIGTTIN
 NULL = "nul" if SYSTEM == "windows" else os.devnull
 HIDDEN = {"windows": ("/proc/", "/dev/"), "macos": ("/proc/",)}
-real = types.SimpleNamespace(**{name: getattr(os, name) for name in ("open", "stat", "lstat", "access", "listdir", "scandir", "readlink", "unlink", "rename", "replace", "fstat")}, file=open)
+real = types.SimpleNamespace(
+    **{
+        name: getattr(os, name)
+        for name in (
+            "open",
+            "stat",
+            "lstat",
+            "access",
+            "listdir",
+            "scandir",
+            "readlink",
+            "unlink",
+            "rename",
+            "replace",
+            "fstat",
+        )
+    },
+    file=open,
+)
 F_OFD_SETLK, KILL = 37, signal.SIGKILL
 
 
 def seen(path):
-    """A path as this system has it: `nul` is the device of Linux; `FileNotFoundError` if the system does not have it."""
+    """A path as this system has it: `nul` is the device of Linux; `FileNotFoundError` if the system does not have
+    it.
+    """
     if not isinstance(path, (str, bytes, os.PathLike)):
         return path
     text = os.path.abspath(os.fsdecode(path)) + "/"
@@ -78,14 +126,23 @@ def hiding(function):
 
 
 def duplicate(path):
-    """On macOS a path below /dev/fd is another descriptor of the same open file, read from where that one is. None for another path."""
-    found = re.fullmatch("/dev/fd/([0-9]+)", {"/dev/stdin": "/dev/fd/0"}.get(path, path)) if isinstance(path, str) else None
+    """On macOS a path below /dev/fd is another descriptor of the same open file, read from where that one is. None for
+    another path.
+    """
+    found = (
+        re.fullmatch("/dev/fd/([0-9]+)", {"/dev/stdin": "/dev/fd/0"}.get(path, path)) if isinstance(path, str) else None
+    )
     return os.dup(int(found.group(1))) if found and SYSTEM == "macos" else None
 
 
 def check_name(path, writes):
     """`OSError` if a new file has a name that Windows does not take."""
-    if SYSTEM == "windows" and writes and isinstance(path, (str, os.PathLike)) and re.search('[<>:"|?*]', os.path.basename(os.fsdecode(path))):
+    if (
+        SYSTEM == "windows"
+        and writes
+        and isinstance(path, (str, os.PathLike))
+        and re.search('[<>:"|?*]', os.path.basename(os.fsdecode(path)))
+    ):
         raise OSError(errno.EINVAL, "Invalid argument", os.fsdecode(path))
 
 
@@ -120,8 +177,14 @@ def refuse_open(path, **more):
     """`PermissionError` if a file is open in this process. That it is not there is said by what is called next."""
     found = stat_or_none(real.lstat, path, **more)
     others = (stat_or_none(real.fstat, int(name)) for name in real.listdir("/proc/self/fd"))
-    if found is not None and any(other is not None and (found.st_dev, found.st_ino) == (other.st_dev, other.st_ino) for other in others):
-        raise PermissionError(errno.EACCES, "The process cannot access the file because it is being used by another process", os.fsdecode(path))
+    if found is not None and any(
+        other is not None and (found.st_dev, found.st_ino) == (other.st_dev, other.st_ino) for other in others
+    ):
+        raise PermissionError(
+            errno.EACCES,
+            "The process cannot access the file because it is being used by another process",
+            os.fsdecode(path),
+        )
 
 
 def stat_or_none(function, *words, **more):

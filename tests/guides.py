@@ -1,4 +1,4 @@
-"""The commands and programs of a section of clients/README.md, for the tests that run them."""
+"""The commands and programs of a section of docs/guide/c.md, for the tests that run them."""
 
 import pathlib
 import shutil
@@ -8,8 +8,10 @@ TOP = pathlib.Path(__file__).resolve().parent.parent
 
 
 def blocks(title):
-    """The texts that are indented in the section with this title, in order: each without its indentation. It ends at the next heading, of whichever level."""
-    lines = (TOP / "clients/README.md").read_text(encoding="utf-8").splitlines()
+    """The texts that are indented in the section with this title, in order: each without its indentation. It ends at
+    the next heading, of whichever level.
+    """
+    lines = (TOP / "docs/guide/c.md").read_text(encoding="utf-8").splitlines()
     start = next(place for place, line in enumerate(lines) if line in (f"## {title}", f"### {title}")) + 1
     end = next((place for place in range(start, len(lines)) if lines[place].startswith("#")), len(lines))
     found = [[]]
@@ -24,7 +26,9 @@ def blocks(title):
 
 
 def checkout(folder, library):
-    """Makes a folder in which the commands can run: `clients`, and `bin` with what `./serve.sh` puts there for a compiler."""
+    """Makes a folder in which the commands can run: `clients`, and `bin` with what `./serve.sh` puts there for a
+    compiler.
+    """
     (folder / "bin").mkdir(parents=True)
     (folder / "clients").symlink_to(TOP / "clients")
     for name in ("libwokureti.so", "libwokureti.so.0"):
@@ -35,5 +39,7 @@ def checkout(folder, library):
 
 def run(text, folder, room, limit=120):
     """The lines of a block as a shell script that ends at the first error: its status and what it writes."""
-    done = subprocess.run(["bash", "-euc", text], cwd=folder, env=room, capture_output=True, text=True, timeout=limit, check=False)
+    done = subprocess.run(
+        ["bash", "-euc", text], cwd=folder, env=room, capture_output=True, text=True, timeout=limit, check=False
+    )
     return done.returncode, done.stdout + done.stderr

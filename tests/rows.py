@@ -3,7 +3,8 @@
 A file of rows/ has these lines, in this order:
 
     # what it shows
-    packets: 10 00 00 .. | 11 00 00     a stream, its packets separated by `|`; `-` is a packet of no bytes. The next such line is source 1
+    packets: 10 00 00 .. | 11 00 00     a stream, its packets separated by `|`; `-` is a packet of no bytes. The next
+                                        such line is source 1
     cut: 3                              the last bytes of the file that are left out
     tables: 80                          the long tables have this byte throughout
     options: --cache 8                  more words of the command line
@@ -50,7 +51,9 @@ def read(path):
     for line in path.read_text(encoding="ascii").splitlines():
         mark, _, rest = line.partition(" ")
         if mark == "packets:":
-            row.sources.append([bytes.fromhex(text.replace("-", "")) for text in rest.split("|")] if rest.strip() else [])
+            row.sources.append(
+                [bytes.fromhex(text.replace("-", "")) for text in rest.split("|")] if rest.strip() else []
+            )
         elif mark in ("cut:", "status:"):
             setattr(row, mark[:-1], int(rest))
         elif mark in ("tables:", "exported:", "needs:"):
@@ -115,7 +118,13 @@ def differences(row, program, folder, is_live):
     ran = subprocess.run([program, *words], input=requests.encode(), capture_output=True, timeout=LIMIT, check=False)
     made = (folder / "out.y4m").read_bytes() if (folder / "out.y4m").exists() else b""
     exported = (folder / "exported.ivf").read_bytes() if (folder / "exported.ivf").exists() else b""
-    found = (ran.stdout.decode().splitlines(), ran.stderr.decode().splitlines(), ran.returncode, made, packets_in(exported) if row.exported else "")
+    found = (
+        ran.stdout.decode().splitlines(),
+        ran.stderr.decode().splitlines(),
+        ran.returncode,
+        made,
+        packets_in(exported) if row.exported else "",
+    )
     wanted = (row.replies, row.errors, row.status, y4m(row.frames), row.exported)
     names = ("replies", "standard error", "status", "frames", "exported")
     return [f"{name}: {got!r:.300}, not {want!r:.300}" for name, got, want in zip(names, found, wanted) if got != want]

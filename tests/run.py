@@ -1,8 +1,9 @@
 #!/usr/bin/env python3
 """Runs every test that needs no proof over the programs: ./test.sh starts it.
 
-The programs are those of the variables VP8SERVE and VP8LIST. It prints a line for each test when it ends, and `N passed, M failed`
-at the end; its exit status is 1 if one failed. Tests run side by side, as many as there are processors; each has a time limit.
+The programs are those of the variables VP8SERVE and VP8LIST. It prints a line for each test when it ends, and
+`N passed, M failed` at the end; its exit status is 1 if one failed. Tests run side by side, as many as there are
+processors; each has a time limit.
 """
 
 import collections
@@ -32,7 +33,15 @@ LIMIT = 900
 # Tests whose parts are run side by side.
 PARTS = {
     "tests/test_arm.py": ("programs", "options", "saving", "library"),
-    "tests/test_one_file.py": ("chromium", "firefox", "engines-chromium", "engines-firefox", "streams-chromium", "streams-firefox", "kills"),
+    "tests/test_one_file.py": (
+        "chromium",
+        "firefox",
+        "engines-chromium",
+        "engines-firefox",
+        "streams-chromium",
+        "streams-firefox",
+        "kills",
+    ),
 }
 # Tests of what the version in dist/ may not have yet, by a text of the help that has it.
 LATER = {"tests/test_questions.py": "check FIRST COUNT", "tests/test_long_lines.py": "--fail-refused"}
@@ -56,7 +65,9 @@ class Result:
 def ran(words, data=b"", folder=None, limit=LIMIT, more=(), environment=os.environ):
     """Runs a program to its end, with all that it starts, and with more variables than those of an environment."""
     streams = {"stdin": subprocess.PIPE, "stdout": subprocess.PIPE, "stderr": subprocess.STDOUT}
-    with subprocess.Popen(list(map(str, words)), **streams, cwd=folder, env={**environment, **dict(more)}, start_new_session=True) as process:
+    with subprocess.Popen(
+        list(map(str, words)), **streams, cwd=folder, env={**environment, **dict(more)}, start_new_session=True
+    ) as process:
         try:
             output, _ = process.communicate(data, timeout=limit)
         except subprocess.TimeoutExpired:
@@ -67,7 +78,9 @@ def ran(words, data=b"", folder=None, limit=LIMIT, more=(), environment=os.envir
 
 
 def script(path, *words, **variables):
-    """A test that is a script of its own: it prints nothing and ends with 0 if all is well. A line `skipped: ..` names what it could not run."""
+    """A test that is a script of its own: it prints nothing and ends with 0 if all is well. A line `skipped: ..` names
+    what it could not run.
+    """
 
     def test():
         status, output = ran([sys.executable, TOP / path, *words], more=variables)
@@ -84,8 +97,16 @@ def stored_run(name, program):
 
     def test():
         crate = CRATES / name
-        texts = {part: (crate / part).read_bytes() if (crate / part).exists() else b"" for part in ("stdin", "stdout", "args", "status")}
-        status, output = ran([program, *texts["args"].decode().splitlines()], texts["stdin"], crate / "data" if (crate / "data").is_dir() else None, 60)
+        texts = {
+            part: (crate / part).read_bytes() if (crate / part).exists() else b""
+            for part in ("stdin", "stdout", "args", "status")
+        }
+        status, output = ran(
+            [program, *texts["args"].decode().splitlines()],
+            texts["stdin"],
+            crate / "data" if (crate / "data").is_dir() else None,
+            60,
+        )
         wanted = (int(texts["status"] or 0), texts["stdout"])
         return ([] if (status, output) == wanted else [f"status {status}, {output[:300]!r}"]), []
 
@@ -106,7 +127,9 @@ def frames_of(paths, order):
     size = {word[:1]: int(word[1:]) for word in head.split()[1:3]}
     width, height = size[b"W"], size[b"H"]
     bytes_of_frame = len(b"FRAME\n") + width * height + 2 * ((width + 1) // 2) * ((height + 1) // 2)
-    pieces = {number: rest[place * bytes_of_frame + 6 : (place + 1) * bytes_of_frame] for place, number in enumerate(order)}
+    pieces = {
+        number: rest[place * bytes_of_frame + 6 : (place + 1) * bytes_of_frame] for place, number in enumerate(order)
+    }
     return hashlib.md5(b"".join(pieces[number] for number in sorted(pieces))).hexdigest()
 
 
@@ -167,30 +190,50 @@ def row(path):
 
 
 def versions():
-    """All three commands have the version of this checkout, and so have the examples for CMake in the documents. wokureti says what is proved, in a second line."""
+    """All three commands have the version of this checkout, and so have the examples for CMake in the documents.
+    wokureti says what is proved, in a second line.
+    """
     version = (TOP / "VERSION").read_text().strip()
     said = f"what is proved of it is not known: VP8SERVE names {SERVE}, VP8LIST names {LIST}\n"
     words = {"vp8serve": [SERVE], "vp8list": [LIST], "wokureti": [sys.executable, "-m", "wokureti"]}
     room = {name: value for name, value in os.environ.items() if name != "LIBWOKURETI"}
-    found = {name: ran([*command, "--version"], folder=TOP / "clients/python", limit=60, environment=room) for name, command in words.items()}
-    wrong = [f"{name}: {got!r}" for name, got in found.items() if got != (0, f"{name} {version}\n{said if name == 'wokureti' else ''}".encode())]
-    asked = re.findall(r"find_package\(wokureti ([0-9.]+)", (TOP / "clients/README.md").read_text())
+    found = {
+        name: ran([*command, "--version"], folder=TOP / "clients/python", limit=60, environment=room)
+        for name, command in words.items()
+    }
+    wrong = [
+        f"{name}: {got!r}"
+        for name, got in found.items()
+        if got != (0, f"{name} {version}\n{said if name == 'wokureti' else ''}".encode())
+    ]
+    asked = re.findall(r"find_package\(wokureti ([0-9.]+)", (TOP / "docs/guide/c.md").read_text())
     if not asked or {*asked} != {version.rpartition(".")[0]}:
-        wrong.append(f"clients/README.md: find_package(wokureti {asked}) is not for {version}")
+        wrong.append(f"docs/guide/c.md: find_package(wokureti {asked}) is not for {version}")
     return wrong, []
 
 
 def links():
-    """bin/wokureti, as build.py writes it, is started by a link of another name in another folder, and by a link to that, with the programs next to it."""
+    """bin/wokureti, as build.py writes it, is started by a link of another name in another folder, and by a link to
+    that, with the programs next to it.
+    """
     version, wrong = (TOP / "VERSION").read_text().strip(), []
-    room = {name: value for name, value in os.environ.items() if name not in ("PYTHONPATH", "VP8SERVE", "VP8LIST", "LIBWOKURETI")}
+    room = {
+        name: value
+        for name, value in os.environ.items()
+        if name not in ("PYTHONPATH", "VP8SERVE", "VP8LIST", "LIBWOKURETI")
+    }
     with tempfile.TemporaryDirectory() as name:
         folder = pathlib.Path(name)
         programs, command = folder / "a tree/bin", folder / "a tree/bin/wokureti"
         programs.mkdir(parents=True)
         command.write_text(build.WOKURETI)
         command.chmod(0o755)
-        for path, target in ((programs / "vp8serve", os.path.abspath(SERVE)), (programs / "vp8list", os.path.abspath(LIST)), (folder / "a tree/clients", TOP / "clients"), (folder / "one", "a tree/bin/wokureti")):
+        for path, target in (
+            (programs / "vp8serve", os.path.abspath(SERVE)),
+            (programs / "vp8list", os.path.abspath(LIST)),
+            (folder / "a tree/clients", TOP / "clients"),
+            (folder / "one", "a tree/bin/wokureti"),
+        ):
             path.symlink_to(target)
         other = folder / "another folder/two"
         other.parent.mkdir()
@@ -199,7 +242,12 @@ def links():
             said = ran([link, "--version"], folder=folder, limit=60, environment=room)
             if said[0] or not said[1].startswith(f"wokureti {version}\n".encode()):
                 wrong.append(f"{link.name} --version: {said}")
-        said = ran([other, "cut", TOP / "examples/mandelbrot.ivf", "part.ivf", "--from", "f0", "--to", "f5"], folder=folder, limit=60, environment=room)
+        said = ran(
+            [other, "cut", TOP / "examples/mandelbrot.ivf", "part.ivf", "--from", "f0", "--to", "f5"],
+            folder=folder,
+            limit=60,
+            environment=room,
+        )
         if said[0] or not (folder / "part.ivf").is_file():
             wrong.append(f"{other.name} cut: {said}")
     return wrong, []
@@ -209,7 +257,7 @@ def growths():
     program = CRATES / "gate_memory/out/gate_memory"
     if not program.is_file():
         raise Skipped(f"{program.relative_to(TOP)} is built by `rt ci`")
-    return script("compare/growths.py", "--quiet")()
+    return script("tests/faults/growths.py", "--quiet")()
 
 
 def by_the_library(name):
@@ -227,7 +275,10 @@ def by_the_library(name):
 def all_tests():
     """Each test by its name, those that take longest first."""
     names = sorted(path.stem for path in CLIENT.glob("test_*.py"))
-    found = {f"clients/python/tests/{name}.py": script("clients/python/tests/run.py", name, WOKURETI_ENGINE="program") for name in names}
+    found = {
+        f"clients/python/tests/{name}.py": script("clients/python/tests/run.py", name, WOKURETI_ENGINE="program")
+        for name in names
+    }
     found |= {f"clients/python/tests/{name}.py, by the library": by_the_library(name) for name in names}
     found |= {f"tests/{path.name}": script(f"tests/{path.name}") for path in sorted(HERE.glob("test_*.py"))}
     found |= {path: later(text, path) for path, text in LATER.items()}
@@ -235,11 +286,19 @@ def all_tests():
     for path in PARTS:
         del found[path]
     found |= {name: script(name) for name in ("conformance/records.py", "conformance/check")}
-    found |= {name: script(name, "--quiet") for name in ("compare/definitions.py", "compare/first_command.py", "compare/options.py")}
+    found |= {
+        name: script(name, "--quiet")
+        for name in ("tests/documents/definitions.py", "tests/install/first_command.py", "tests/programs/options.py")
+    }
     found |= {"docs/draw.py": script("docs/draw.py", "--check")}
-    found |= {"compare/growths.py": growths, "findings": checks, "links": links, "versions": versions}
-    found |= {f"stored run of {name}": stored_run(name, program) for name, program in (("vp8serve", SERVE), ("vp8list", LIST))}
-    found |= {f"clip {' '.join(line.split()[:-2])}": clip(line) for line in (CRATES / "gate_clips/stdout").read_text().splitlines()}
+    found |= {"tests/faults/growths.py": growths, "findings": checks, "links": links, "versions": versions}
+    found |= {
+        f"stored run of {name}": stored_run(name, program) for name, program in (("vp8serve", SERVE), ("vp8list", LIST))
+    }
+    found |= {
+        f"clip {' '.join(line.split()[:-2])}": clip(line)
+        for line in (CRATES / "gate_clips/stdout").read_text().splitlines()
+    }
     return found | {f"row {path.stem}": row(path) for path in sorted(rows.ROWS.glob("*.row"))}
 
 
@@ -256,7 +315,9 @@ def timed(name, test):
 
 
 def pass_no_ignored_signals():
-    """Under nohup, or in the background of a script, these are ignored, and so they would be by what a test starts and ends by them. A handler is not passed on."""
+    """Under nohup, or in the background of a script, these are ignored, and so they would be by what a test starts and
+    ends by them. A handler is not passed on.
+    """
     for number in (signal.SIGINT, signal.SIGHUP):
         if signal.getsignal(number) == signal.SIG_IGN:
             signal.signal(number, lambda *_: None)
@@ -266,17 +327,26 @@ def main(names):
     pass_no_ignored_signals()
     for path in (SERVE, LIST):
         if not os.access(path, os.X_OK):
-            sys.exit(f"tests/run.py: the programs of VP8SERVE and VP8LIST are not there: {path or 'not set'}; ./test.sh names them")
+            sys.exit(
+                f"tests/run.py: the programs of VP8SERVE and VP8LIST are not there: {path or 'not set'}; ./test.sh"
+                " names them"
+            )
     tests = {name: test for name, test in all_tests().items() if not names or any(word in name for word in names)}
     counts, skipped = collections.Counter(), []
     with concurrent.futures.ThreadPoolExecutor(len(os.sched_getaffinity(0))) as pool:
         for ended in concurrent.futures.as_completed([pool.submit(timed, name, test) for name, test in tests.items()]):
             result = ended.result()
-            print(f"{result.word:7} {result.name} ({result.seconds:.1f} s)", *result.wrong, sep="\n        ", flush=True)
+            print(
+                f"{result.word:7} {result.name} ({result.seconds:.1f} s)", *result.wrong, sep="\n        ", flush=True
+            )
             counts[result.word] += 1
             skipped += result.skipped
     print(*skipped, sep="\n", end="\n" if skipped else "")
-    print(f"{counts['ok']} passed, {counts['FAILED']} failed" + (f", {counts['skipped']} skipped" if counts["skipped"] else ""), flush=True)
+    print(
+        f"{counts['ok']} passed, {counts['FAILED']} failed"
+        + (f", {counts['skipped']} skipped" if counts["skipped"] else ""),
+        flush=True,
+    )
     return 1 if counts["FAILED"] or not counts["ok"] else 0
 
 

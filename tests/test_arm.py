@@ -1,11 +1,11 @@
 #!/usr/bin/env python3
-"""Tests the programs and the library for Linux on ARM under `qemu-aarch64`: rows, clips, findings, stored runs, conformance, options, saving, and the
-library's tests in C against the vp8serve of this machine.
+"""Tests the programs and the library for Linux on ARM under `qemu-aarch64`: rows, clips, findings, stored runs,
+conformance, options, saving, and the library's tests in C against the vp8serve of this machine.
 
     test_arm.py [programs | options | saving | library]
 
-They are those of bin/arm, which `./build.py --arm` makes, or of the wheel in dist/, if it is of these sources. It prints what fails and ends with 1, or prints
-nothing and ends with 0; a line `skipped: ..` names what could not be run.
+They are those of bin/arm, which `./build.py --arm` makes, or of the wheel in dist/, if it is of these sources. It
+prints what fails and ends with 1, or prints nothing and ends with 0; a line `skipped: ..` names what could not be run.
 """
 
 import os
@@ -32,7 +32,9 @@ TESTS = ("row ", "clip ", "findings", "stored run", "conformance/", "test_writte
 
 
 def programs(folder):
-    """The folder with the programs and the library, of the same sources as the other programs that are tested; or the reason why there is none."""
+    """The folder with the programs and the library, of the same sources as the other programs that are tested; or the
+    reason why there is none.
+    """
     if read_names(MADE / ".built").get("sources") == sources(arm):
         return MADE, ""
     dist = read_names()
@@ -41,6 +43,7 @@ def programs(folder):
     try:
         for name in ARM.files:
             (folder / name).write_bytes(wheel.program(dist["version"], name, CPU))
+            (folder / name).chmod(0o755)
     except Failed as failed:
         return None, str(failed)
     return folder, ""
@@ -71,18 +74,24 @@ def of_programs(there, folder):
 
 
 def of_options(there, folder):
-    return ran([TOP / "compare/options.py", "--quiet", "--few"], started_by_qemu(there, folder))
+    return ran([TOP / "tests/programs/options.py", "--quiet", "--few"], started_by_qemu(there, folder))
 
 
 def of_saving(there, folder):
-    return ran([TOP / "compare/saving.py", "--quiet"], started_by_qemu(there, folder))
+    return ran([TOP / "tests/faults/saving.py", "--quiet"], started_by_qemu(there, folder))
 
 
 def of_library(there, _):
-    """The library's tests in C, whose programs the cross compiler makes; the lists of requests are answered by vp8serve of this machine too."""
+    """The library's tests in C, whose programs the cross compiler makes; the lists of requests are answered by vp8serve
+    of this machine too.
+    """
     if shutil.which(f"{PREFIX}gcc") is None:
         return [], [f"skipped: the library for {ARM.name}: {PREFIX}gcc is not there"]
-    variables = {"LIBWOKURETI": str(there / library.SHARED), "WOKURETI_CC": f"{PREFIX}gcc", "WOKURETI_EMULATOR": f"{QEMU} -L {ROOT}"}
+    variables = {
+        "LIBWOKURETI": str(there / library.SHARED),
+        "WOKURETI_CC": f"{PREFIX}gcc",
+        "WOKURETI_EMULATOR": f"{QEMU} -L {ROOT}",
+    }
     return ran([TOP / "tests/test_library.py"], variables)
 
 
@@ -95,6 +104,8 @@ def main(names):
         return 0
     with tempfile.TemporaryDirectory() as name:
         folder = pathlib.Path(name)
+        # One test starts the programs as another user.
+        folder.chmod(0o755)
         there, why = programs(folder)
         if there is None:
             print(f"skipped: {ARM.name}: {why}")
@@ -104,7 +115,12 @@ def main(names):
             room.mkdir()
         found = [PARTS[name](there, room) for name, room in rooms.items()]
     wrong, skipped = [line for part, _ in found for line in part], [line for _, part in found for line in part]
-    print(*(f"skipped: under qemu: {line.removeprefix('skipped: ')}" for line in skipped), *wrong, sep="\n", end="\n" if wrong or skipped else "")
+    print(
+        *(f"skipped: under qemu: {line.removeprefix('skipped: ')}" for line in skipped),
+        *wrong,
+        sep="\n",
+        end="\n" if wrong or skipped else "",
+    )
     return 1 if wrong else 0
 
 

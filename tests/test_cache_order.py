@@ -1,10 +1,12 @@
 #!/usr/bin/env python3
-"""Tests which cached state a full cache drops: the number of decoding steps of many frames in a random order is that of the defined order.
+"""Tests which cached state a full cache drops: the number of decoding steps of many frames in a random order is that of
+the defined order.
 
-The order is that of crates/state_cache/specs/Evictions.antt: a cached outcome saves as many steps as the packets that it is after the one cached
-before it in its run, times those that it is before the one after it; its age is 1 and the uses since it was used. The one that saves least
-over its age is dropped, the first among equals. The model here keeps each run as a list, and knows nothing of how the program does it.
-It prints what differs and ends with 1, or prints nothing and ends with 0.
+The order is that of crates/state_cache/specs/Evictions.antt: a cached outcome saves as many steps as the packets that
+it is after the one cached before it in its run, times those that it is before the one after it; its age is 1 and the
+uses since it was used. The one that saves least over its age is dropped, the first among equals. The model here keeps
+each run as a list, and knows nothing of how the program does it. It prints what differs and ends with 1, or prints
+nothing and ends with 0.
 """
 
 import os
@@ -26,7 +28,9 @@ REQUESTS, LIMIT = 300, 120
 
 @dataclass
 class Run:
-    """Outcomes that were stepped from one another, by their packets: `first` is the packet before it, `last` the last one that was cached."""
+    """Outcomes that were stepped from one another, by their packets: `first` is the packet before it, `last` the last
+    one that was cached.
+    """
 
     first: int
     last: int
@@ -34,7 +38,9 @@ class Run:
 
 
 class Cache:
-    """The cached outcomes of one stream, in the order in which they are kept: the last one moves to the place of one that is dropped."""
+    """The cached outcomes of one stream, in the order in which they are kept: the last one moves to the place of one
+    that is dropped.
+    """
 
     def __init__(self, keys, capacity):
         self.keys, self.capacity = keys, capacity

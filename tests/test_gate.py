@@ -1,5 +1,6 @@
 #!/usr/bin/env python3
-"""Tests the gate: processor time of a command by part (.ci/parts.py), the limit of docs/proofs.md, and what one part of the gate takes of an earlier one.
+"""Tests the gate: processor time of a command by part (.ci/parts.py), the limit of docs/design/proofs.md, and what one
+part of the gate takes of an earlier one.
 
 It prints what differs and ends with 1, or prints nothing and ends with 0.
 """
@@ -25,14 +26,19 @@ LIMIT = 120
 # What a process takes, and what its start may take more.
 SECONDS, LOST = 1.5, 0.6
 BURN = f"import time\nwhile time.process_time() < {SECONDS}: pass\n"
-# A command that starts what rt starts, each next to the others: a proof, a wrong body whose time is a child's, tests, and a program that is compiled.
+# A command that starts what rt starts, each next to the others: a proof, a wrong body whose time is a child's, tests,
+# and a program that is compiled.
 COMMAND = f"""
 import os, subprocess, sys, tempfile
 room = tempfile.mkdtemp(prefix="rt-edit-1-", dir=sys.argv[1])
 inner = [sys.executable, "-c", {BURN!r}]
-outer = [sys.executable, "-c", "import subprocess, sys; subprocess.run(sys.argv[3:], check=True)", "/kit/bin/rattle", "check", *inner]
+outer = [sys.executable, "-c",
+         "import subprocess, sys; subprocess.run(sys.argv[3:], check=True)",
+         "/kit/bin/rattle", "check", *inner]
 burn = lambda *words: [*inner, "/kit/bin/rattle", *words]
-started = [subprocess.Popen(burn("build", "-o", "a.rlib")), subprocess.Popen(outer, cwd=room), subprocess.Popen(burn("check", "--test")),
+started = [subprocess.Popen(burn("build", "-o", "a.rlib")),
+           subprocess.Popen(outer, cwd=room),
+           subprocess.Popen(burn("check", "--test")),
            subprocess.Popen(burn("build", "--crate-checked", "there")), subprocess.Popen([*inner, "rattle-link"])]
 print("begun", flush=True)
 for one in started:
@@ -58,7 +64,13 @@ def parts():
 def check_times(room):
     """Each part has its own process, and the rest what is no part of it."""
     file = room / "parts"
-    done = subprocess.run([sys.executable, SCRIPT, "run", file, "rest", sys.executable, "-c", COMMAND, room], capture_output=True, text=True, timeout=LIMIT, check=False)
+    done = subprocess.run(
+        [sys.executable, SCRIPT, "run", file, "rest", sys.executable, "-c", COMMAND, room],
+        capture_output=True,
+        text=True,
+        timeout=LIMIT,
+        check=False,
+    )
     expect("status and output", (done.returncode, done.stdout.splitlines()[:1], done.stderr), (3, ["begun"], ""))
     one = json.loads(file.read_text())
     expect("from nothing", one["anew"], True)
@@ -85,10 +97,19 @@ def told(room, minutes, is_anew, here):
 def check_limit(room):
     """A run from nothing on the machine of the limit fails above it; no other one does."""
     here = (4, "Some processor")
-    lines = ["gate: proofs: 299.0 min", "gate: rest: 0.5 min", "gate: page: 0.5 min", "gate: in all: 300.0 min of processor time"]
+    lines = [
+        "gate: proofs: 299.0 min",
+        "gate: rest: 0.5 min",
+        "gate: page: 0.5 min",
+        "gate: in all: 300.0 min of processor time",
+    ]
     expect("at the limit", told(room, 299, True, here), (0, lines))
     busy = told(room, 300, True, here)
-    expect("above the limit, next to other work", (busy[0], busy[1][-1]), (0, "gate: a run from nothing took more than 300 minutes of processor time on this machine"))
+    expect(
+        "above the limit, next to other work",
+        (busy[0], busy[1][-1]),
+        (0, "gate: a run from nothing took more than 300 minutes of processor time on this machine"),
+    )
     os.environ["GATE_QUIET"] = "1"
     status, lines = told(room, 300, True, here)
     expect("above it", (status, lines[-1][:13]), (1, "gate: FAILED:"))
@@ -101,14 +122,31 @@ def check_last(room):
     """The sum comes before the last line, whose status is the command's."""
     (room / "log").write_text(json.dumps({"parts": {"proofs": 60}, "anew": True}) + "\n")
     words = ["sh", "-c", "echo one; echo; echo 9 passed, 2 failed; exit 1"]
-    done = subprocess.run([sys.executable, SCRIPT, "last", room / "log", "tests", *words], capture_output=True, text=True, timeout=LIMIT, check=False)
-    lines = ["one", "", "gate: proofs: 1.0 min", "gate: tests: 0.0 min", "gate: in all: 1.0 min of processor time", "9 passed, 2 failed"]
+    done = subprocess.run(
+        [sys.executable, SCRIPT, "last", room / "log", "tests", *words],
+        capture_output=True,
+        text=True,
+        timeout=LIMIT,
+        check=False,
+    )
+    lines = [
+        "one",
+        "",
+        "gate: proofs: 1.0 min",
+        "gate: tests: 0.0 min",
+        "gate: in all: 1.0 min of processor time",
+        "9 passed, 2 failed",
+    ]
     expect("the last part", (done.returncode, done.stdout.splitlines(), done.stderr), (1, lines, ""))
 
 
 def check_document():
-    """docs/proofs.md has the limit, and rt says of a run from nothing what the script looks for."""
-    expect("the limit of docs/proofs.md", [found[0] for found in parts().LIMIT.findall(parts().PROOFS.read_text(encoding="utf-8"))], ["300"])
+    """docs/design/proofs.md has the limit, and rt says of a run from nothing what the script looks for."""
+    expect(
+        "the limit of docs/design/proofs.md",
+        [found[0] for found in parts().LIMIT.findall(parts().PROOFS.read_text(encoding="utf-8"))],
+        ["300"],
+    )
 
 
 def check_library(room):
@@ -123,7 +161,12 @@ def check_library(room):
     def texts(cpu):
         return [path.read_text() for path in library.compiled(room, cpu, True, print)]
 
-    given = {"prove_below": lambda *_: room, "kit_folder": lambda: room, "digest": lambda _: said["digest"], "kit_here": lambda: said["kit_here"]}
+    given = {
+        "prove_below": lambda *_: room,
+        "kit_folder": lambda: room,
+        "digest": lambda _: said["digest"],
+        "kit_here": lambda: said["kit_here"],
+    }
     with mock.patch.multiple(library, **given), mock.patch.object(proving, "run", run):
         expect("the first one", texts("v2"), ["archive 1", "module 1"])
         expect("another processor", texts("v3"), ["archive 2", "module 2"])

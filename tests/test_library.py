@@ -1,10 +1,12 @@
 #!/usr/bin/env python3
-"""Tests the library over real clips: random request lists, answered by a C program that uses it and by vp8serve, give the same replies, the same
-samples and the same files of `--save` and `--export`. 1,000 more lists are answered in this process, and by `vp8serve --live`.
+"""Tests the library over real clips: random request lists, answered by a C program that uses it and by vp8serve, give
+the same replies, the same samples and the same files of `--save` and `--export`. 1,000 more lists are answered in this
+process, and by `vp8serve --live`.
 
-The C program is clients/c/session.c, compiled with `-fsanitize=address,undefined` where the compiler has it. The library is that of the variable
-LIBWOKURETI, or bin/libwokureti.so.0. It prints what differs and ends with 1, or prints nothing and ends with 0; a line `skipped: ..` names what
-could not be run. For a library of another processor the variable WOKURETI_CC names its compiler, and WOKURETI_EMULATOR what its programs are started by.
+The C program is clients/c/session.c, compiled with `-fsanitize=address,undefined` where the compiler has it. The
+library is that of the variable LIBWOKURETI, or bin/libwokureti.so.0. It prints what differs and ends with 1, or prints
+nothing and ends with 0; a line `skipped: ..` names what could not be run. For a library of another processor the
+variable WOKURETI_CC names its compiler, and WOKURETI_EMULATOR what its programs are started by.
 """
 
 import ctypes
@@ -30,33 +32,94 @@ LISTS, LIVE_LISTS, LIMIT = 60, 1000, 120
 # Clips of the live lists have fewer bytes.
 MOST_BYTES = 40_000
 SERVE = os.environ.get("VP8SERVE") or str(TOP / "bin/vp8serve")
-REASON = re.compile(r"vp8serve: frame (?P<frame>\d+) is (changed by node (?P<node>\d+)|refused: ((source (?P<source>\d+) )?packet (?P<packet>\d+) .*|CropOutside))")
+REASON = re.compile(
+    r"vp8serve: frame (?P<frame>\d+) is (changed by node (?P<node>\d+)|refused: ((source (?P<source>\d+) )?packet"
+    r" (?P<packet>\d+) .*|CropOutside))"
+)
 CC, EMULATOR = os.environ.get("WOKURETI_CC") or "gcc", shlex.split(os.environ.get("WOKURETI_EMULATOR", ""))
 LIBRARY = pathlib.Path(os.environ.get("LIBWOKURETI") or TOP / "bin/libwokureti.so.0")
 
 
 def compiled(folder):
-    """The words that start the C program, and whether its accesses to memory are checked. An emulator does not run such checks."""
-    words = [CC, "-std=c11", "-D_GNU_SOURCE", "-O1", "-g", "-Wall", "-Wextra", "-Werror", "-I", TOP / "clients/c/include", TOP / "clients/c/session.c", LIBRARY]
+    """The words that start the C program, and whether its accesses to memory are checked. An emulator does not run such
+    checks.
+    """
+    words = [
+        CC,
+        "-std=c11",
+        "-D_GNU_SOURCE",
+        "-O1",
+        "-g",
+        "-Wall",
+        "-Wextra",
+        "-Werror",
+        "-I",
+        TOP / "clients/c/include",
+        TOP / "clients/c/session.c",
+        LIBRARY,
+    ]
     made = folder / "session"
     for checks in ([] if EMULATOR else ["-fsanitize=address,undefined", "-fno-sanitize-recover=all"], []):
-        ran = subprocess.run([*map(str, words), *checks, "-o", str(made), f"-Wl,-rpath,{LIBRARY.parent}"], capture_output=True, text=True, check=False)
+        ran = subprocess.run(
+            [*map(str, words), *checks, "-o", str(made), f"-Wl,-rpath,{LIBRARY.parent}"],
+            capture_output=True,
+            text=True,
+            check=False,
+        )
         if ran.returncode == 0:
             return [*EMULATOR, made], bool(checks)
     raise SystemExit(f"the C program does not compile: {ran.stderr}")
 
 
 def checks(folder):
-    """The checks in C, over the archive: each request for memory refused, rooms of every size, a million lines, threads."""
+    """The checks in C, over the archive: each request for memory refused, rooms of every size, a million lines,
+    threads, small stacks, NULL, the numbers of each call.
+    """
     archive = LIBRARY.with_name("libwokureti.a")
     if not archive.is_file():
         print(f"skipped: {archive.name} is not next to the library")
         return
     made = folder / "checks"
-    words = [CC, "-std=c11", "-D_GNU_SOURCE", "-O1", "-g", "-Wall", "-Wextra", "-Werror", "-I", TOP / "clients/c/include", TOP / "clients/c/checks.c", archive, "-pthread", "-Wl,--wrap=malloc,--wrap=realloc", "-o", made]
+    words = [
+        CC,
+        "-std=c11",
+        "-D_GNU_SOURCE",
+        "-O1",
+        "-g",
+        "-Wall",
+        "-Wextra",
+        "-Werror",
+        "-I",
+        TOP / "clients/c/include",
+        TOP / "clients/c/checks.c",
+        archive,
+        "-pthread",
+        "-Wl,--wrap=malloc,--wrap=realloc",
+        "-o",
+        made,
+    ]
     subprocess.run(list(map(str, words)), check=True, timeout=LIMIT)
-    for what, clip in (("growths", "small"), ("rooms", "small"), ("rooms", "odd-size"), ("threads", "small"), ("fuzz", "small")):
-        done = subprocess.run([*EMULATOR, made, what, CLIPS / f"{clip}.ivf"], capture_output=True, text=True, timeout=5 * LIMIT, check=False)
+    stacks = tuple(
+        ("stacks", clip)
+        for clip in ("small", "scene-cuts", "hidden-altref", "eight-partitions", "size-before-a-change")
+    )
+    for what, clip in (
+        ("growths", "small"),
+        ("rooms", "small"),
+        ("rooms", "odd-size"),
+        ("threads", "small"),
+        ("nulls", "small"),
+        ("numbers", "small"),
+        ("fuzz", "small"),
+        *stacks,
+    ):
+        done = subprocess.run(
+            [*EMULATOR, made, what, CLIPS / f"{clip}.ivf"],
+            capture_output=True,
+            text=True,
+            timeout=5 * LIMIT,
+            check=False,
+        )
         if done.returncode != 0:
             yield f"checks {what} {clip}: status {done.returncode}: {done.stdout}{done.stderr}"
 
@@ -69,7 +132,21 @@ def of_readme(folder):
     text = "\n".join(lines[start : end + 1])
     source, made, clip = folder / "readme.c", folder / "readme", TOP / "examples/mandelbrot.ivf"
     source.write_text(README % text)
-    words = [CC, "-std=c11", "-O1", "-Wall", "-Wextra", "-Werror", "-I", TOP / "clients/c/include", source, LIBRARY, "-o", made, f"-Wl,-rpath,{LIBRARY.parent}"]
+    words = [
+        CC,
+        "-std=c11",
+        "-O1",
+        "-Wall",
+        "-Wextra",
+        "-Werror",
+        "-I",
+        TOP / "clients/c/include",
+        source,
+        LIBRARY,
+        "-o",
+        made,
+        f"-Wl,-rpath,{LIBRARY.parent}",
+    ]
     subprocess.run(list(map(str, words)), check=True, timeout=LIMIT)
     done = subprocess.run([*EMULATOR, made, clip], capture_output=True, timeout=LIMIT, check=False)
     y4m = folder / "readme.y4m"
@@ -77,7 +154,10 @@ def of_readme(folder):
     head, _, rest = y4m.read_bytes().partition(b"\n")
     width, height = (int(word[1:]) for word in head.split()[1:3])
     if done.returncode or done.stdout != rest[6 : 6 + width * height]:
-        yield f"the example of README.md: status {done.returncode}, {len(done.stdout)} samples of luma: {done.stderr[-500:]!r}"
+        yield (
+            f"the example of README.md: status {done.returncode}, {len(done.stdout)} samples of luma:"
+            f" {done.stderr[-500:]!r}"
+        )
 
 
 # A program around the example: the samples of luma on standard output.
@@ -100,28 +180,47 @@ target_link_libraries(example wokureti::wokureti)
 """
 EXAMPLE = """#include <stdio.h>
 #include <wokureti.h>
-int main(void) { return printf("%u\\n", (unsigned)wk_version()) < 0; }
+#if WK_VERSION != {number}
+#error another version
+#endif
+int main(void) {{ return printf("%u\\n", (unsigned)wk_version()) < 0; }}
 """
 
 
 def cmake(folder):
-    """A project of CMake finds the library by its config file, in its version or an older one of the same row, and no other."""
+    """A project of CMake finds the library by its config file if it asks for this version or an older one of the same
+    major version, and for no other.
+    """
     if shutil.which("cmake") is None or not LIBRARY.with_name("wokureti-config.cmake").is_file():
         print("skipped: cmake, or wokureti-config.cmake next to the library, is missing")
         return
     first, second, third = map(int, (TOP / "VERSION").read_text().split("."))
-    for wanted, is_found in ((f"{first}.{second}", True), (f"{first}.{second}.999", False), (f"{first}.{second + 1}", False), (f"{first + 1}.0", False)):
+    number = 10000 * first + 100 * second + third
+    older, newer = (f"{first}.{second}", f"{first}.{second - 1}"), (
+        f"{first}.{second}.{third + 1}",
+        f"{first}.{second + 1}",
+        f"{first + 1}.0",
+    )
+    for wanted, is_found in [(text, True) for text in older] + [(text, False) for text in newer]:
         room = folder / wanted
         room.mkdir()
         (room / "CMakeLists.txt").write_text(PROJECT.format(version=wanted))
-        (room / "example.c").write_text(EXAMPLE)
-        ran = subprocess.run(["cmake", "-S", room, "-B", room / "made", f"-Dwokureti_DIR={LIBRARY.parent}"], capture_output=True, text=True, timeout=LIMIT, check=False)
+        (room / "example.c").write_text(EXAMPLE.format(number=number))
+        ran = subprocess.run(
+            ["cmake", "-S", room, "-B", room / "made", f"-Dwokureti_DIR={LIBRARY.parent}"],
+            capture_output=True,
+            text=True,
+            timeout=LIMIT,
+            check=False,
+        )
         if (ran.returncode == 0) != is_found:
             yield f"cmake: version {wanted}: status {ran.returncode}: {ran.stderr[-300:]}"
         elif is_found:
             subprocess.run(["cmake", "--build", room / "made"], check=True, capture_output=True, timeout=LIMIT)
-            said = subprocess.run([room / "made/example"], check=True, capture_output=True, text=True, timeout=LIMIT).stdout
-            if int(said) != 10000 * first + 100 * second + third:
+            said = subprocess.run(
+                [room / "made/example"], check=True, capture_output=True, text=True, timeout=LIMIT
+            ).stdout
+            if int(said) != number:
                 yield f"cmake: the example reports version {said.strip()}"
 
 
@@ -147,8 +246,15 @@ def compare(chance, session, folder, number):
     more = ["--sources", ":".join(map(str, clips[1:]))] if len(clips) > 1 else []
     pads, restamps = chance.random() < 0.5, chance.random() < 0.5
     padded, restamped = ["--pad"] * pads, ["--restamp"] * restamps
-    served = subprocess.run([SERVE, clips[0], asked, y4m, *more, "--cache", str(states), "--save", saved, *padded, *restamped], capture_output=True, timeout=LIMIT, check=False)
-    exported = subprocess.run([SERVE, clips[0], asked, "-", *more, "--export", its, *padded], capture_output=True, timeout=LIMIT, check=False)
+    served = subprocess.run(
+        [SERVE, clips[0], asked, y4m, *more, "--cache", str(states), "--save", saved, *padded, *restamped],
+        capture_output=True,
+        timeout=LIMIT,
+        check=False,
+    )
+    exported = subprocess.run(
+        [SERVE, clips[0], asked, "-", *more, "--export", its, *padded], capture_output=True, timeout=LIMIT, check=False
+    )
     words = [*session, "-" if counts else samples, str(states), mine, ours, "o" + "p" * pads + "r" * restamps, *clips]
     done = subprocess.run(words, input=text.encode(), capture_output=True, timeout=LIMIT, check=False)
     where = f"list {number} over {', '.join(clip.name for clip in clips)}"
@@ -182,7 +288,9 @@ def unlike(served, its, done, ours):
 
 
 def answered(states, files, lines, writes):
-    """The replies of the library in this process, and the samples of the frames that it served, if they are asked for."""
+    """The replies of the library in this process, and the samples of the frames that it served, if they are asked
+    for.
+    """
     engine = library.Engine(library.load(str(LIBRARY)), files, states, b"", False)
     replies, samples = [], []
     try:
@@ -201,7 +309,9 @@ def answered(states, files, lines, writes):
 
 def live(chance, folder, number):
     """One list over small clips, against `vp8serve --live`. What differs, or nothing."""
-    clips = chance.sample([clip for clip in sorted(CLIPS.glob("*.ivf")) if clip.stat().st_size < MOST_BYTES], chance.choice((1, 1, 2, 3)))
+    clips = chance.sample(
+        [clip for clip in sorted(CLIPS.glob("*.ivf")) if clip.stat().st_size < MOST_BYTES], chance.choice((1, 1, 2, 3))
+    )
     counts = number % 2 == 0
     text, states, y4m = requests(chance, len(clips), 12, counts), chance.choice((1, 2, 32)), folder / "live.y4m"
     more = ["--sources", ":".join(map(str, clips[1:]))] if len(clips) > 1 else []
@@ -221,11 +331,20 @@ def refusals(session, folder):
     clip, other = CLIPS / "small.ivf", folder / "other"
     other.write_bytes(b"no file of packets, but longer than a header\n")
     wanted = [
-        ([other], 32, "opened 2 source 0 cause 2"), ([clip, other], 32, "opened 2 source 1 cause 2"), ([clip], 0, "opened 1 source 0 cause 0"),
-        ([clip], 4097, "opened 1 source 0 cause 0"), ([clip] * 9, 32, "opened 1 source 0 cause 0"),
+        ([other], 32, "opened 2 source 0 cause 2"),
+        ([clip, other], 32, "opened 2 source 1 cause 2"),
+        ([clip], 0, "opened 1 source 0 cause 0"),
+        ([clip], 4097, "opened 1 source 0 cause 0"),
+        ([clip] * 9, 32, "opened 1 source 0 cause 0"),
     ]
     for files, states, line in wanted:
-        done = subprocess.run([*session, "-", str(states), "-", "-", "o", *files], input=b"", capture_output=True, timeout=LIMIT, check=False)
+        done = subprocess.run(
+            [*session, "-", str(states), "-", "-", "o", *files],
+            input=b"",
+            capture_output=True,
+            timeout=LIMIT,
+            check=False,
+        )
         if (done.returncode, done.stdout.decode()) != (3, line + "\n"):
             yield f"{len(files)} files and {states} states: {done.stdout!r} {done.stderr!r}"
 
@@ -242,10 +361,18 @@ def main():
         folder = pathlib.Path(name)
         session, is_checked = compiled(folder)
         if EMULATOR:
-            print(f"skipped: {LIVE_LISTS} lists in this process, CMake, -fsanitize=address: the library is for another processor")
+            print(
+                f"skipped: {LIVE_LISTS} lists in this process, CMake, -fsanitize=address: the library is for another"
+                " processor"
+            )
         elif not is_checked:
             print("skipped: the compiler has no -fsanitize=address")
-        differ += [*refusals(session, folder), *checks(folder), *([] if EMULATOR else cmake(folder)), *of_readme(folder)]
+        differ += [
+            *refusals(session, folder),
+            *checks(folder),
+            *([] if EMULATOR else cmake(folder)),
+            *of_readme(folder),
+        ]
         for number in range(LISTS):
             differ += compare(chance, session, folder, number)
         for number in range(0 if EMULATOR else LIVE_LISTS):

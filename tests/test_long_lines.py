@@ -1,8 +1,9 @@
 #!/usr/bin/env python3
-"""Tests lines of several MiB with ample memory, a stream that is too long, and the last line of requests that come one after another.
+"""Tests lines of several MiB with ample memory, a stream that is too long, and the last line of requests that come one
+after another.
 
-A line of 4 MiB is answered, and so is HEX of 2 MiB: neither is lost or refused as NoMemory. A carriage return before the end of the last line,
-which has no newline, is a part of that line, in a live run too.
+A line of 4 MiB is answered, and so is HEX of 2 MiB: neither is lost or refused as NoMemory. A carriage return before
+the end of the last line, which has no newline, is a part of that line, in a live run too.
 It prints what differs and ends with 1, or prints nothing and ends with 0.
 """
 
@@ -31,7 +32,13 @@ def expect(name, got, wanted):
 
 def ran(lines, *words):
     """The status and the texts of a run over a key packet."""
-    done = subprocess.run([os.environ["VP8SERVE"], "a.ivf", "-", "-", *words], input=lines, capture_output=True, timeout=LIMIT, check=False)
+    done = subprocess.run(
+        [os.environ["VP8SERVE"], "a.ivf", "-", "-", *words],
+        input=lines,
+        capture_output=True,
+        timeout=LIMIT,
+        check=False,
+    )
     return done.returncode, done.stdout.decode(), done.stderr.decode()
 
 
@@ -43,12 +50,21 @@ def long_hex():
     for more in ([], ["--live"]):
         wanted = (0, "ok 2\nok 2\nserved 1\nserved 0\npackets 2 frames 2\n", "")
         expect(f"HEX of 2 MiB {more}", ran(lines, "--save", "b.ivf", *more), wanted)
-        expect(f"HEX of 2 MiB, saved {more}", list(packets_of(pathlib.Path("b.ivf").read_bytes())) == [other, packet], True)
+        expect(
+            f"HEX of 2 MiB, saved {more}", list(packets_of(pathlib.Path("b.ivf").read_bytes())) == [other, packet], True
+        )
 
 
 def long_lines():
-    """Lines of 4 MiB that change nothing: a comment, an empty line, words that are no request, and one with many spaces."""
-    parts = {b"#" + b"x" * (4 * MIB): "", b" " * (4 * MIB): "", b"x" * (4 * MIB): "refused Line\n", b"count" + b" y" * (2 * MIB): "refused Line\n"}
+    """Lines of 4 MiB that change nothing: a comment, an empty line, words that are no request, and one with many
+    spaces.
+    """
+    parts = {
+        b"#" + b"x" * (4 * MIB): "",
+        b" " * (4 * MIB): "",
+        b"x" * (4 * MIB): "refused Line\n",
+        b"count" + b" y" * (2 * MIB): "refused Line\n",
+    }
     parts |= {b" " * (4 * MIB) + b"count": "packets 1 frames 1\n", b"count" + b" " * (4 * MIB): "packets 1 frames 1\n"}
     for end in (b"\n", b"\r\n"):
         lines = b"".join(part + end + b"count" + end for part in parts)
@@ -58,7 +74,9 @@ def long_lines():
 
 
 def last_line():
-    """What is said of a last line without its newline: a carriage return is its last byte, one before a newline is not."""
+    """What is said of a last line without its newline: a carriage return is its last byte, one before a newline is
+    not.
+    """
     for lines, replies, told in (
         (b"count\r\ncount\r", "packets 1 frames 1\nrefused Line\n", "line 2: count\\x0D: there is no such request\n"),
         (b"frame 0\r", "refused Line\n", "line 1: frame: 0\\x0D is not a number below 2^64\n"),
@@ -68,7 +86,11 @@ def last_line():
         expect(f"{lines}", both[0], (0, replies, told))
     packet = KEY.hex()
     for more in ([], ["--live"]):
-        expect(f"HEX with a carriage return {more}", ran(f"insert 0 0 {packet}\r\ninsert 0 0 {packet}\r".encode(), *more)[:2], (0, "ok 2\nrefused Line\n"))
+        expect(
+            f"HEX with a carriage return {more}",
+            ran(f"insert 0 0 {packet}\r\ninsert 0 0 {packet}\r".encode(), *more)[:2],
+            (0, "ok 2\nrefused Line\n"),
+        )
 
 
 def long_stream():
@@ -76,9 +98,17 @@ def long_stream():
     with open("long.ivf", "wb") as file:
         file.truncate(2**30 + 1)
     long = "vp8serve: long.ivf is too long\nlong.ivf has more than 1073741824 bytes"
-    cut = ": cut it at key packets, for example by ffmpeg -i long.ivf -c copy -f segment -segment_time 600 part%03d.ivf\n"
-    for words, told in ((["long.ivf"], long + cut), (["a.ivf", "--sources", "long.ivf"], long + cut), (["a.ivf", "long.ivf"], long + "\n")):
-        done = subprocess.run([os.environ["VP8SERVE"], *words, "--explain"], input=b"", capture_output=True, timeout=LIMIT, check=False)
+    cut = (
+        ": cut it at key packets, for example by ffmpeg -i long.ivf -c copy -f segment -segment_time 600 part%03d.ivf\n"
+    )
+    for words, told in (
+        (["long.ivf"], long + cut),
+        (["a.ivf", "--sources", "long.ivf"], long + cut),
+        (["a.ivf", "long.ivf"], long + "\n"),
+    ):
+        done = subprocess.run(
+            [os.environ["VP8SERVE"], *words, "--explain"], input=b"", capture_output=True, timeout=LIMIT, check=False
+        )
         expect(f"{words}", (done.returncode, done.stdout, done.stderr.decode()), (1, b"", told))
 
 

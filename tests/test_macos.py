@@ -1,8 +1,10 @@
 #!/usr/bin/env python3
-"""Assembles and links the programs and the library for macOS, which are not run: the assembly of bin/macos, with the C files next to it. Apple's SDK is not needed; macos/sdk.h
-has the declarations of the C library that they use, and macos/libSystem.tbd its names.
+"""Assembles and links the programs and the library for macOS, which are not run: the assembly of bin/macos, with the C
+files next to it. Apple's SDK is not needed; macos/sdk.h has the declarations of the C library that they use, and
+macos/libSystem.tbd its names.
 
-It prints what fails and ends with 1, or prints nothing and ends with 0; a line `skipped: ..` names what could not be run.
+It prints what fails and ends with 1, or prints nothing and ends with 0; a line `skipped: ..` names what could not be
+run.
 """
 
 import pathlib
@@ -17,7 +19,20 @@ sys.path.insert(1, str(TOP))
 from release.sources import kit_folder  # noqa: E402
 
 FOLDER, SDK = TOP / "bin/macos", TOP / "tests/macos"
-HEADERS = ("errno.h", "fcntl.h", "signal.h", "stddef.h", "stdint.h", "stdio.h", "stdlib.h", "string.h", "time.h", "unistd.h", "sys/file.h", "sys/stat.h")
+HEADERS = (
+    "errno.h",
+    "fcntl.h",
+    "signal.h",
+    "stddef.h",
+    "stdint.h",
+    "stdio.h",
+    "stdlib.h",
+    "string.h",
+    "time.h",
+    "unistd.h",
+    "sys/file.h",
+    "sys/stat.h",
+)
 VERSIONS = {"arm64": "11.0.0", "x86_64": "10.15.0"}
 FILES = {"vp8serve": ("common", "heap", "posix"), "vp8list": ("common", "heap", "posix"), "wokureti": ("heap",)}
 LINKER, LIMIT = "ld64.lld-19", 300
@@ -42,7 +57,19 @@ def objects(processor, folder):
     clang = [kit_folder() / "toolchain/bin/clang", f"--target={processor}-apple-macosx{VERSIONS[processor]}", "-c"]
     include = headers(folder / "include")
     for source in sorted((FOLDER / "port").glob("*.c")):
-        yield from ran(*clang, "-O2", "-nostdinc", "-isystem", include, "-Wall", "-Wextra", "-Werror", source, "-o", folder / f"{source.stem}.o")
+        yield from ran(
+            *clang,
+            "-O2",
+            "-nostdinc",
+            "-isystem",
+            include,
+            "-Wall",
+            "-Wextra",
+            "-Werror",
+            source,
+            "-o",
+            folder / f"{source.stem}.o",
+        )
     for source in sorted((FOLDER / processor).glob("*.s")):
         yield from ran(*clang, source, "-o", folder / f"{source.stem}.o")
 
@@ -50,7 +77,17 @@ def objects(processor, folder):
 def linked(processor, folder):
     """Links the files of a processor. What fails."""
     version = VERSIONS[processor]
-    words = [LINKER, "-arch", processor, "-platform_version", "macos", version, version, "-dead_strip", SDK / "libSystem.tbd"]
+    words = [
+        LINKER,
+        "-arch",
+        processor,
+        "-platform_version",
+        "macos",
+        version,
+        version,
+        "-dead_strip",
+        SDK / "libSystem.tbd",
+    ]
     for name, parts in FILES.items():
         kind = ["-dylib", "-exported_symbol", "_wk_*"] if name == "wokureti" else []
         out = folder / name

@@ -1,6 +1,7 @@
 #!/usr/bin/env python3
-"""Runs both programs under limits on their memory, from one that is too low to start up to one that is ample: from the first limit on at which a run begins, no run is
-ended by a signal, so a stack that has to grow is never what lacks memory.
+"""Runs both programs under limits on their memory, from one that is too low to start up to one that is ample: from the
+first limit on at which a run begins, no run is ended by a signal, so a stack that has to grow is never what lacks
+memory.
 
     tests/test_memory_limits.py
 
@@ -46,7 +47,11 @@ def wrong(words):
 
 
 def main():
-    found = [*wrong([SERVE, STREAM, "-", "/dev/null"]), *wrong([LIST, STREAM, "--check"]), *wrong([LIST, STREAM, "--macroblocks", "3"])]
+    found = [
+        *wrong([SERVE, STREAM, "-", "/dev/null"]),
+        *wrong([LIST, STREAM, "--check"]),
+        *wrong([LIST, STREAM, "--macroblocks", "3"]),
+    ]
     for text in found:
         print(text)
     return 1 if found else 0

@@ -1,9 +1,11 @@
 #!/usr/bin/env python3
-"""Tests how much memory vp8serve asks for where the bytes of packets are shared, by counting its requests to the C library.
+"""Tests how much memory vp8serve asks for where the bytes of packets are shared, by counting its requests to the C
+library.
 
-Reading a stream asks for no memory a packet, `copy` of a packet of 1 MB asks for none beside its place in the list, as often as one of 10 bytes
-does, and a run with many copies needs no more memory than one without.
-It prints what differs and ends with 1, or prints nothing but what it skipped, and ends with 0. It needs Linux on x86-64.
+Reading a stream asks for no memory a packet, `copy` of a packet of 1 MB asks for none beside its place in the list, as
+often as one of 10 bytes does, and a run with many copies needs no more memory than one without.
+It prints what differs and ends with 1, or prints nothing but what it skipped, and ends with 0. It needs Linux on
+x86-64.
 """
 
 import os
@@ -57,13 +59,17 @@ def reading():
 def copying():
     """Copies within a source and from another one."""
     pathlib.Path("b.ivf").write_bytes(ivf(16, 16, [BIG]))
-    for name, line, sources in (("copy", "copy 0 0 1", []), ("copy of another source", "copy 1 0 1", ["--sources", "b.ivf"])):
+    for name, line, sources in (
+        ("copy", "copy 0 0 1", []),
+        ("copy of another source", "copy 1 0 1", ["--sources", "b.ivf"]),
+    ):
         for count in (1, COPIES):
             pathlib.Path("b.ivf").write_bytes(ivf(16, 16, [BIG]))
             big = requests_of([BIG], [line] * count, sources) - requests_of([BIG], [], sources)
             pathlib.Path("b.ivf").write_bytes(ivf(16, 16, [KEY]))
             small = requests_of([KEY], [line] * count, sources) - requests_of([KEY], [], sources)
-            # The list of requests is longer by as many lines: reading it may take more requests, of the same number in both.
+            # The list of requests is longer by as many lines: reading it may take more requests, of the same number in
+            # both.
             expect(f"{name}, {count} times: more requests for 1 MB", big - small, 0)
             if big > 40:
                 wrong.append(f"{name}, {count} times: {big} requests for memory")
@@ -79,7 +85,14 @@ def limited():
         resource.setrlimit(resource.RLIMIT_AS, (96 * MIB, 96 * MIB))
 
     for more in ([], ["--live"]):
-        done = subprocess.run([str(SERVE), "a.ivf", *more], input=lines.encode(), capture_output=True, timeout=LIMIT, check=False, preexec_fn=limit)
+        done = subprocess.run(
+            [str(SERVE), "a.ivf", *more],
+            input=lines.encode(),
+            capture_output=True,
+            timeout=LIMIT,
+            check=False,
+            preexec_fn=limit,
+        )
         expect(f"copies in 96 MiB {more}", (done.returncode, done.stdout.decode(), done.stderr), (0, replies, b""))
 
 

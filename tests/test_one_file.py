@@ -1,12 +1,14 @@
 #!/usr/bin/env python3
-"""Opens the page in one file from a folder that has nothing else, in a network namespace that has no network, and does what a person does there, in chromium and in
-Firefox; the same acts on the page of `wokureti open`. Files that come out, and answers, are those of the other engine and of vp8serve with the same lines. Chromium is killed after
-edits, KILLS times.
+"""Opens the page in one file from a folder that has nothing else, in a network namespace that has no network, and does
+what a person does there, in chromium and in Firefox; the same acts on the page of `wokureti open`. Files that come out,
+and answers, are those of the other engine and of vp8serve with the same lines. Chromium is killed after edits, KILLS
+times; if KILLS is set, compare/results.txt gets the total.
 
     tests/test_one_file.py [PART ..] [--shots FOLDER]
 
-The page is that of the variable WOKURETI_PAGE, or bin/wokureti.html: ./build.py --web makes it. It prints what differs and ends with 1, or prints nothing and ends
-with 0; a line `skipped: ..` names what could not be run. With --shots it writes what the page looks like.
+The page is that of the variable WOKURETI_PAGE, or bin/wokureti.html: ./build.py --web makes it. It prints what differs
+and ends with 1, or prints nothing and ends with 0; a line `skipped: ..` names what could not be run. With --shots it
+writes what the page looks like.
 """
 
 import base64
@@ -29,10 +31,12 @@ import time
 
 sys.dont_write_bytecode = True
 import pages  # noqa: E402
+import results  # noqa: E402
 import test_web  # noqa: E402
 from test_web import EXAMPLE, PAGE, SERVE, TOP, ran, webm  # noqa: E402
+from browser import HEARD, INKED  # noqa: E402
 from wokureti import Session  # noqa: E402
-from wokureti.tools import ivf  # noqa: E402
+from wokureti.media import ivf  # noqa: E402
 
 CLIPS = TOP / "crates/gate_clips/data"
 MOST_TIME = 800
@@ -46,7 +50,8 @@ SCRIPTS = (
     "crop 0 16 16 64 48; trim 1 9 5",
 )
 PARTS = ("chromium", "firefox", "engines-chromium", "engines-firefox", "streams-chromium", "streams-firefox", "kills")
-KILLS = int(os.environ.get("KILLS", "3"))
+# Kills, and the seconds after an edit in which each comes.
+KILLS, MOST_KILL = int(os.environ.get("KILLS", "3")), 0.2
 
 
 def samples_of(path, lines=()):
@@ -54,9 +59,18 @@ def samples_of(path, lines=()):
     count = int(ran(SERVE, path, input="".join(f"{line}\n" for line in [*lines, "count"]).encode()).stdout.split()[-1])
     with tempfile.TemporaryDirectory() as folder:
         out = pathlib.Path(folder, "out.y4m")
-        done = ran(SERVE, path, "-", out, input="".join(f"{line}\n" for line in [*lines, *(f"frame {n}" for n in range(count))]).encode())
+        done = ran(
+            SERVE,
+            path,
+            "-",
+            out,
+            input="".join(f"{line}\n" for line in [*lines, *(f"frame {n}" for n in range(count))]).encode(),
+        )
         found = test_web.pieces(out.read_bytes())
-    return [bytes(next(found)) if reply.startswith("served ") else reply for reply in done.stdout.decode().splitlines()[len(lines) :]]
+    return [
+        bytes(next(found)) if reply.startswith("served ") else reply
+        for reply in done.stdout.decode().splitlines()[len(lines) :]
+    ]
 
 
 def written(path, lines, folder, *options):
@@ -92,11 +106,17 @@ class Alone:
         browser.open(self.address)
         self.page.wait("document.getElementById('welcome') && !document.getElementById('welcome').hidden")
         # Each act begins without edits.
-        self.page.js("await new Promise((done) => { const request = indexedDB.deleteDatabase('wokureti'); request.onsuccess = request.onerror = request.onblocked = done; })")
+        self.page.js(
+            "await new Promise((done) => { const request = indexedDB.deleteDatabase('wokureti'); request.onsuccess ="
+            " request.onerror = request.onblocked = done; })"
+        )
         self.page.drop(*paths)
         self.page.ready()
         yield self.page
-        self.page.js("window.onbeforeunload = null; addEventListener('beforeunload', (event) => event.stopImmediatePropagation(), { capture: true })")
+        self.page.js(
+            "window.onbeforeunload = null; addEventListener('beforeunload', (event) =>"
+            " event.stopImmediatePropagation(), { capture: true })"
+        )
         browser.open("about:blank")
 
     def saved(self, folder):
@@ -121,11 +141,39 @@ class Served:
             for path in paths:
                 shutil.copyfile(path, folder / path.name)
             first, *others = [folder / path.name for path in paths]
-            words = [sys.executable, "-m", "wokureti", "open", first, "--no-browser", *(word for path in others for word in ("--source", path))]
-            environment = {**os.environ, "PYTHONPATH": str(TOP / "clients/python"), "PYTHONDONTWRITEBYTECODE": "1", "PYTHONUNBUFFERED": "1", "XDG_STATE_HOME": str(folder / "state")}
-            with subprocess.Popen(list(map(str, words)), stdout=subprocess.PIPE, stderr=subprocess.STDOUT, text=True, env=environment, cwd=folder) as server:
+            words = [
+                sys.executable,
+                "-m",
+                "wokureti",
+                "open",
+                first,
+                "--no-browser",
+                *(word for path in others for word in ("--source", path)),
+            ]
+            environment = {
+                **os.environ,
+                "PYTHONPATH": str(TOP / "clients/python"),
+                "PYTHONDONTWRITEBYTECODE": "1",
+                "PYTHONUNBUFFERED": "1",
+                "XDG_STATE_HOME": str(folder / "state"),
+            }
+            with subprocess.Popen(
+                list(map(str, words)),
+                stdout=subprocess.PIPE,
+                stderr=subprocess.STDOUT,
+                text=True,
+                env=environment,
+                cwd=folder,
+            ) as server:
                 try:
-                    address = next((found.group(0) for found in (re.search(r"http://127\.0\.0\.1:\d+/\S+", line) for line in server.stdout) if found), None)
+                    address = next(
+                        (
+                            found.group(0)
+                            for found in (re.search(r"http://127\.0\.0\.1:\d+/\S+", line) for line in server.stdout)
+                            if found
+                        ),
+                        None,
+                    )
                     if address is None:
                         raise AssertionError("wokureti open names no address")
                     self.page.browser.open(address)
@@ -180,20 +228,32 @@ def repaired(engine, clip):
         page.checked()
         page.js("document.querySelector('#findings-list .row').click()")
         page.wait("document.querySelector('.repairs button')")
-        offers = page.js("return wokureti.findings.open.repairs.map(({ name, title, lines, packet }) => ({ name, title, lines, packet }))")
+        offers = page.js(
+            "return wokureti.findings.open.repairs.map(({ name, title, lines, packet }) => ({ name, title, lines,"
+            " packet }))"
+        )
         page.js("document.querySelector('.repairs button').click()")
         page.wait("document.getElementById('preview-result').textContent")
         result = page.js("return document.getElementById('preview-result').textContent")
         state = page.session()
         page.press("preview-take")
         left = [one for one in page.checked() if one["severity"] == "damage"]
-        return {"offers": offers, "result": result, "before": state["edits"], "after": page.session()["edits"], "left": left}
+        return {
+            "offers": offers,
+            "result": result,
+            "before": state["edits"],
+            "after": page.session()["edits"],
+            "left": left,
+        }
 
 
 def others(engine, clip, other):
     """Two streams: packets are copied from the second one, which is joined."""
     with engine.opened(clip, other) as page:
-        page.js("await wokureti.model.useSource(1); wokureti.model.select(2, 4); await wokureti.editing.copy(false); await wokureti.model.useSource(0); await wokureti.model.goPacket(3)")
+        page.js(
+            "await wokureti.model.useSource(1); wokureti.model.select(2, 4); await wokureti.editing.copy(false); await"
+            " wokureti.model.useSource(0); await wokureti.model.goPacket(3)"
+        )
         page.press("paste")
         page.js("await wokureti.cutting.join(1)")
         session = page.session()
@@ -202,10 +262,21 @@ def others(engine, clip, other):
 
 def exports(page, *values):
     """Presses Export, and in its dialog sets the fields to these values and goes on. Returns what the dialog says."""
-    page.js("window.offered = null; document.getElementById('export').dispatchEvent(new MouseEvent('click', { bubbles: true, cancelable: true }))")
+    page.js(
+        "window.offered = null; document.getElementById('export').dispatchEvent(new MouseEvent('click', { bubbles:"
+        " true, cancelable: true }))"
+    )
     page.wait("document.getElementById('ask').open")
-    said = page.js("return document.querySelector('#ask .fields').textContent + document.querySelector('#ask .note').textContent")
-    page.js("[...document.querySelectorAll('#ask input, #ask select')].forEach((input, place) => (input.value = args[0][place])); document.querySelector('#ask button[value=yes]').click()", values)
+    said = page.js(
+        "return document.querySelector('#ask .fields').textContent + document.querySelector('#ask .note').textContent"
+    )
+    page.js(
+        (
+            "[...document.querySelectorAll('#ask input, #ask select')].forEach((input, place) => (input.value ="
+            " args[0][place])); document.querySelector('#ask button[value=yes]').click()"
+        ),
+        values,
+    )
     return said
 
 
@@ -215,7 +286,9 @@ def decibels(one, other):
 
 
 def coded(engine, clip, folder, least=38):
-    """Frames that a fade changes are coded again: Export says how many, they are as good as was asked for, and all others are those of the clip. It can be stopped."""
+    """Frames that a fade changes are coded again: Export says how many, they are as good as was asked for, and all
+    others are those of the clip. It can be stopped.
+    """
     plain = samples_of(clip)
     count = len(plain)
     line = f"script fade 0 {count - 6} 5 256 0"
@@ -223,21 +296,39 @@ def coded(engine, clip, folder, least=38):
     with engine.opened(clip) as page:
         page.set_script(line.removeprefix("script "))
         # The encoder takes long enough to be stopped.
-        page.js("window.flush = VideoEncoder.prototype.flush; VideoEncoder.prototype.flush = async function () { await new Promise((done) => setTimeout(done, 5000)); return window.flush.call(this); }")
+        page.js(
+            "window.flush = VideoEncoder.prototype.flush; VideoEncoder.prototype.flush = async function () { await new"
+            " Promise((done) => setTimeout(done, 5000)); return window.flush.call(this); }"
+        )
         exports(page, 60)
-        page.wait("/^exporting: coding 5 frames from frame .* on, try \\d/.test(document.getElementById('status').textContent)")
+        page.wait(
+            "/^exporting: coding 5 frames from frame .* on, try"
+            " \\d/.test(document.getElementById('status').textContent)"
+        )
         page.js("document.getElementById('export').click()")
         page.wait("document.getElementById('status').textContent === 'the export was stopped'")
         page.js("VideoEncoder.prototype.flush = window.flush")
-        if exports(page, least) != f"Decibels that each coded frame has at least5 of {count} frames are coded again; all others stay as they are.":
+        if (
+            exports(page, least)
+            != f"Decibels that each coded frame has at least5 of {count} frames are coded again; all others stay as"
+            " they are."
+        ):
             yield f"{page.browser.name}, {clip.name}: the dialog says something else"
         page.wait("window.offered")
-        said = page.wait("/; 5 of .* frames are coded again, in [\\d,]+ bytes, PSNR [\\d.]+ dB at least and [\\d.]+ dB in the mean/.exec(document.getElementById('status').textContent)?.[0]")
+        said = page.wait(
+            "/; 5 of .* frames are coded again, in [\\d,]+ bytes, PSNR [\\d.]+ dB at least and [\\d.]+ dB in the"
+            " mean/.exec(document.getElementById('status').textContent)?.[0]"
+        )
         out.write_bytes(base64.b64decode(page.js("return window.offered[1]")))
     found = samples_of(out)
     good = [decibels(one, other) for one, other in zip(found, wanted)]
     told = [float(text) for text in re.findall(r"([\d.]+) dB", said)]
-    if len(found) != count or found[: count - 5] != plain[: count - 5] or min(good) < least or abs(told[0] - min(good)) > 0.06:
+    if (
+        len(found) != count
+        or found[: count - 5] != plain[: count - 5]
+        or min(good) < least
+        or abs(told[0] - min(good)) > 0.06
+    ):
         yield f"{engine.page.browser.name}, {clip.name}: {len(found)} frames, {[round(one, 1) for one in good]}, {said}"
     if [stamp for stamp, _ in ivf.read_packets(out)[1]] != [stamp for stamp, _ in ivf.read_packets(clip)[1]]:
         yield f"{engine.page.browser.name}, {clip.name}: other times"
@@ -252,10 +343,17 @@ def long_lead(engine, clip, folder):
     with engine.opened(path) as page:
         page.set_script("trim 0 30 10")
         said = exports(page, 36, "coded")
-        for text in ("Frame 0 is 12 s after a key frame", f"hidden: 30 packets, {hidden:,} bytes", f"its first 10 frames, {own:,} bytes now, are coded again, and nothing is hidden"):
+        for text in (
+            "Frame 0 is 12 s after a key frame",
+            f"hidden: 30 packets, {hidden:,} bytes",
+            f"its first 10 frames, {own:,} bytes now, are coded again, and nothing is hidden",
+        ):
             if text not in said:
                 yield f"{page.browser.name}: a long lead: {said}"
-        page.wait("/in 10 packets, none of them hidden; 10 of 10 frames are coded again/.test(document.getElementById('status').textContent)")
+        page.wait(
+            "/in 10 packets, none of them hidden; 10 of 10 frames are coded"
+            " again/.test(document.getElementById('status').textContent)"
+        )
 
 
 def costs(engine, clip, other):
@@ -273,9 +371,16 @@ def uncoded(engine, clip):
     """A browser without an encoder says so."""
     with engine.opened(clip) as page:
         page.set_script("fade 0 0 5 0 256")
-        page.js("window.VideoEncoder = undefined; document.getElementById('export').dispatchEvent(new MouseEvent('click', { bubbles: true, cancelable: true }))")
+        page.js(
+            "window.VideoEncoder = undefined; document.getElementById('export').dispatchEvent(new MouseEvent('click', {"
+            " bubbles: true, cancelable: true }))"
+        )
         said = page.wait("document.querySelector('#notices [data-id=exported] span')?.textContent")
-        if "5 of" not in said or "This browser has no VideoEncoder for VP8" not in said or "wokureti export --code-changed" not in said:
+        if (
+            "5 of" not in said
+            or "This browser has no VideoEncoder for VP8" not in said
+            or "wokureti export --code-changed" not in said
+        ):
             yield f"{page.browser.name}: no encoder: {said}"
 
 
@@ -310,7 +415,19 @@ def compare(name, one, other):
     """What differs between what two engines give."""
     for key in one:
         if one[key] != other[key]:
-            first = next((pair for pair in zip(one[key], other[key]) if pair[0] != pair[1]), None) if isinstance(one[key], list) else {part: (one[key][part], other[key].get(part)) for part in one[key] if one[key][part] != other[key].get(part)} if isinstance(one[key], dict) else (one[key], other[key])
+            first = (
+                next((pair for pair in zip(one[key], other[key]) if pair[0] != pair[1]), None)
+                if isinstance(one[key], list)
+                else (
+                    {
+                        part: (one[key][part], other[key].get(part))
+                        for part in one[key]
+                        if one[key][part] != other[key].get(part)
+                    }
+                    if isinstance(one[key], dict)
+                    else (one[key], other[key])
+                )
+            )
             yield f"{name}: {key} differ: {str(first)[:700]}"
 
 
@@ -327,18 +444,29 @@ def same(alone, served, folder):
         lines = mine[0]
         if mine != other:
             yield f"{clip.name}: files of both engines differ: {mine[0]} {other[0]}"
-        if mine[1] != written(clip, lines, folder, "--save", "--pad", "--restamp") or mine[2] != written(clip, lines, folder, "--export", "--pad"):
+        if mine[1] != written(clip, lines, folder, "--save", "--pad", "--restamp") or mine[2] != written(
+            clip, lines, folder, "--export", "--pad"
+        ):
             yield f"{clip.name}: the files are not vp8serve's with {lines}"
+    for engine in (alone, served):
+        yield from strings(engine, folder)
     yield from compare("repairs", repaired(alone, broken), repaired(served, broken))
     yield from compare("costs", *(costs(one, EXAMPLE, CLIPS / "scene-cuts.ivf") for one in (alone, served)))
     mine, other = (shown(one, EXAMPLE, CLIPS / "scene-cuts.ivf") for one in (alone, served))
-    yield from (f"{engine}, {name}: {found[name]}" for engine, found in (("one file", mine), ("server", other)) for name in found if name.startswith("wrong") and found[name])
+    yield from (
+        f"{engine}, {name}: {found[name]}"
+        for engine, found in (("one file", mine), ("server", other))
+        for name in found
+        if name.startswith("wrong") and found[name]
+    )
     yield from compare("the programme", mine, other)
     yield from compare("two streams", *(others(one, EXAMPLE, CLIPS / "scene-cuts.ivf") for one in (alone, served)))
 
 
 def kept(alone, clip):
-    """Edits are there again when the file is opened again, with their titles; a list that is not this stream's is not made."""
+    """Edits are there again when the file is opened again, with their titles; a list that is not this stream's is not
+    made.
+    """
     with alone.opened(clip) as page:
         page.select(3, 6)
         page.press("delete")
@@ -356,11 +484,20 @@ def kept(alone, clip):
     page.browser.open("about:blank")
     page.browser.open(alone.address)
     found = page.wait("document.querySelector('#recent-list .row .text')?.textContent")
-    about = page.js("return [document.querySelector('#recent-list .row .sub').textContent.split(' · ')[0], document.getElementById('recent').hidden]")
+    about = page.js(
+        "return [document.querySelector('#recent-list .row .sub').textContent.split(' · ')[0],"
+        " document.getElementById('recent').hidden]"
+    )
     if found != clip.name or about != [f"{len(before)} edits", False]:
         yield f"{page.browser.name}: what was edited before is {found}, {about}"
-    page.js("window.asked = 0; document.getElementById('welcome-file').click = () => window.asked++; document.querySelector('#recent-list .row').click()")
-    if page.js("return [window.asked, document.getElementById('welcome-text').textContent]") != [1, f"Choose {clip.name} again: its edits are there then."]:
+    page.js(
+        "window.asked = 0; document.getElementById('welcome-file').click = () => window.asked++;"
+        " document.querySelector('#recent-list .row').click()"
+    )
+    if page.js("return [window.asked, document.getElementById('welcome-text').textContent]") != [
+        1,
+        f"Choose {clip.name} again: its edits are there then.",
+    ]:
         yield f"{page.browser.name}: a stream that was edited before is not asked for"
 
 
@@ -379,7 +516,10 @@ def tabs(alone, clip):
         page.ready()
         said = page.wait("document.querySelector('#notices [data-id=only] span')?.textContent")
         edits = page.session()["edits"]
-        page.js("document.querySelectorAll('#notices .notice').forEach((one) => one.remove()); wokureti.model.select(8, 9); document.getElementById('delete').click()")
+        page.js(
+            "document.querySelectorAll('#notices .notice').forEach((one) => one.remove()); wokureti.model.select(8, 9);"
+            " document.getElementById('delete').click()"
+        )
         again = page.wait("document.querySelector('#notices span')?.textContent")
         if "another tab" not in said or said != again or page.session()["edits"] != edits or len(edits) != 3:
             yield f"two tabs: {said!r}, {again!r}, {edits}, {page.session()['edits']}"
@@ -389,7 +529,9 @@ def tabs(alone, clip):
 
 
 def killed(folder, address, clip, kills):
-    """The browser is killed at a random moment after the page showed an edit: the next one with the same profile has it."""
+    """The browser is killed at a random moment after the page showed an edit: the next one with the same profile has
+    it.
+    """
     profile, chance, wanted = folder / "profile", random.Random(96), []
     for turn in range(kills + 1):
         browser = pages.Chromium(profile=profile)
@@ -408,7 +550,7 @@ def killed(folder, address, clip, kills):
             page.select(4, 5)
             page.press("hold" if turn % 2 else "drop")
             wanted = page.session()["edits"]
-            time.sleep(chance.random() * 0.2)
+            time.sleep(MOST_KILL * chance.random())
             os.kill(browser.browser.process, signal.SIGKILL)
         finally:
             browser.end()
@@ -416,11 +558,17 @@ def killed(folder, address, clip, kills):
 
 def policed(page):
     """The policy of the page lets nothing out: no request, no picture from elsewhere, no other script."""
-    script = """const found = []; const heard = (event) => found.push(event.effectiveDirective); document.addEventListener("securitypolicyviolation", heard);
+    script = """const found = [];
+        const heard = (event) => found.push(event.effectiveDirective);
+        document.addEventListener("securitypolicyviolation", heard);
         const asked = await fetch(args[0]).then(() => "answered", (error) => error.name);
-        document.body.append(Object.assign(document.createElement("script"), { textContent: "window.injected = true" }));
-        await new Promise((done) => { const image = new Image(); image.onload = image.onerror = done; image.src = args[0]; });
-        await new Promise((done) => setTimeout(done, 300)); document.removeEventListener("securitypolicyviolation", heard); return [asked, window.injected ?? null, found.sort()]"""
+        document.body.append(
+            Object.assign(document.createElement("script"), { textContent: "window.injected = true" }));
+        await new Promise((done) => { const image = new Image();
+            image.onload = image.onerror = done; image.src = args[0]; });
+        await new Promise((done) => setTimeout(done, 300));
+        document.removeEventListener("securitypolicyviolation", heard);
+        return [asked, window.injected ?? null, found.sort()]"""
     heard = []
 
     class Handler(http.server.BaseHTTPRequestHandler):
@@ -461,6 +609,7 @@ def in_browser(browser, folder, address):
     with alone.opened(path) as page:
         if page.frames() != samples_of(EXAMPLE) or page.session()["rate"] != [25, 1]:
             yield f"{browser.name}: a WebM file: {page.session()['rate']}"
+    yield from heard(alone, folder)
     yield from coded(alone, EXAMPLE, folder)
     if browser.name == "chromium":
         yield from coded(alone, CLIPS / "odd-size.ivf", folder)
@@ -473,6 +622,31 @@ def in_browser(browser, folder, address):
         yield f"{browser.name}: {errors[:3]}"
 
 
+def heard(alone, folder):
+    """A tone in the frames 25 to 29 of a clip is drawn there, and goes with them; a clip without sound has no room for
+    it.
+    """
+    if shutil.which("ffmpeg") is None:
+        print("skipped: ffmpeg is not there, so no sound is drawn")
+        return
+    path, tone = folder / "tone.webm", "aevalsrc=0.8*sin(2*PI*1000*t)*between(t\\,1\\,1.2):s=48000:d=4"
+    inputs = ["-f", "lavfi", "-i", "testsrc=size=96x64:rate=25:duration=4", "-f", "lavfi", "-i", tone]
+    ran(
+        "ffmpeg", "-nostdin", "-y", "-v", "error", *inputs, "-c:v", "libvpx", "-b:v", "150k", "-c:a", "libopus", path
+    ).check_returncode()
+    for clip, whole, moved in ((path, [*range(25, 30)], [*range(5, 10)]), (EXAMPLE, [], [])):
+        with alone.opened(clip) as page:
+            found = []
+            for script in ("-", "parts 0 20 20 0 0 20"):
+                if script != "-":
+                    page.set_script(script)
+                page.wait(HEARD)
+                found.append(page.js(INKED))
+            room = page.js("return wokureti.waves.tall(100) > 0")
+        if found != [whole, moved] or room != (clip == path):
+            yield f"{page.browser.name}: the sound of {clip.name} is drawn at {found}, not {[whole, moved]}"
+
+
 def refused(alone, folder):
     """Files that are none of a stream are refused by name, and the page goes on."""
     page = alone.page
@@ -483,15 +657,16 @@ def refused(alone, folder):
         page.browser.open(alone.address)
         page.wait("document.getElementById('welcome') && !document.getElementById('welcome').hidden")
         page.drop(path)
-        said = page.wait("document.querySelector('#notices span')?.textContent || (document.getElementById('status').textContent !== 'ready' && document.getElementById('status').textContent)")
+        said = page.wait(
+            "document.querySelector('#notices span')?.textContent || (document.getElementById('status').textContent !=="
+            " 'ready' && document.getElementById('status').textContent)"
+        )
         if word not in said or page.js("return document.querySelector('#notices b, #status b') !== null"):
             yield f"{page.browser.name}: {name}: {said!r}"
     page.drop(EXAMPLE)
     page.ready()
 
 
-# A name and a text that are an element where they are taken as HTML.
-ELEMENT = '<img src="x" onerror="window.injected = 1">'
 PUT = """await new Promise((done, failed) => {
       const request = indexedDB.open("wokureti", 1);
       request.onupgradeneeded = () => request.result.createObjectStore("lists");
@@ -505,17 +680,26 @@ PUT = """await new Promise((done, failed) => {
 
 
 def hostile(alone, folder):
-    """Names of files, and lists that another page from the disk put into the store, have HTML: the page shows it as text."""
-    page, name = alone.page, f"{ELEMENT}.ivf"
+    """Names of files, and lists that another page from the disk put into the store, have HTML: the page shows it as
+    text.
+    """
+    page, name = alone.page, f"{pages.ELEMENT}.ivf"
     (folder / name).write_bytes(EXAMPLE.read_bytes())
     with Session(EXAMPLE) as session:
         item = session.edits.contents().inputs.all[0]
-        first, digest = "# wokureti: edits of {} packets, {} bytes, sha256 {}\n".format(*item.extent(), item.digest()), item.digest()
+        first, digest = (
+            "# wokureti: edits of {} packets, {} bytes, sha256 {}\n".format(*item.extent(), item.digest()),
+            item.digest(),
+        )
     lists = {
-        "a title": (f"{first}# step 2 {ELEMENT}\ndelete 4\nhold 2\n", ["delete 4", "hold 2"], "#edits-list"),
-        "a source": (f'{first}# source 1: 1 packets, 1 bytes, sha256 {64 * "0"}, "{ELEMENT}"\ndelete 4\n', [], "#notices"),
-        "no edit": (f"{first}{ELEMENT}\n", [], "#notices"),
-        "no stream": (ELEMENT, [], "#notices"),
+        "a title": (f"{first}# step 2 {pages.ELEMENT}\ndelete 4\nhold 2\n", ["delete 4", "hold 2"], "#edits-list"),
+        "a source": (
+            f'{first}# source 1: 1 packets, 1 bytes, sha256 {64 * "0"}, "{pages.ELEMENT}"\ndelete 4\n',
+            [],
+            "#notices",
+        ),
+        "no edit": (f"{first}{pages.ELEMENT}\n", [], "#notices"),
+        "no stream": (pages.ELEMENT, [], "#notices"),
     }
     for what, (text, edits, place) in lists.items():
         with alone.opened(EXAMPLE):
@@ -527,13 +711,53 @@ def hostile(alone, folder):
         page.ready()
         page.js("document.getElementById('tab-edits').click()")
         page.wait("document.querySelector(args[0]).textContent.includes('<img src=')", place)
-        page.js("await wokureti.editing.step([args[0]], args[0]).catch(() => {})", ELEMENT)
+        page.js("await wokureti.editing.step([args[0]], args[0]).catch(() => {})", pages.ELEMENT)
         page.select(3, 4)
         page.press("delete")
-        found = page.js("return [document.querySelector('img[onerror], img[src=\"x\"]'), window.injected ?? null, wokureti.model.session.names, wokureti.model.session.edits]")
+        found = page.js(
+            "return [document.querySelector('img[onerror], img[src=\"x\"]'), window.injected ?? null,"
+            " wokureti.model.session.names, wokureti.model.session.edits]"
+        )
         if found != [None, None, [name], [*edits, "delete 3"]]:
             yield f"{page.browser.name}: HTML in {what}: {found}"
         page.js("addEventListener('beforeunload', (event) => event.stopImmediatePropagation(), { capture: true })")
+
+
+def strings(engine, folder):
+    """A WebM file whose strings and name are HTML: nothing of it runs, and what is shown is text. So is what is said of
+    one that is refused, whose codec is HTML.
+    """
+    path, other = (folder / f"{name}{pages.ELEMENT}.webm" for name in ("", "other "))
+    head, packets = ivf.read_packets(damaged(folder))
+    packets = [packet for _, packet in packets]
+    pages.write_marked(path, packets, head[:2])
+    pages.write_marked(other, packets, head[:2], f"V_{pages.MARKUP}")
+    with engine.opened(path) as page:
+        page.checked()
+        found = {"opened": page.js(pages.INJECTED)}
+        report = page.offered("report")[1].decode()
+        page.select(5, 6)
+        page.press("hold")
+        page.js("document.getElementById('tab-edits').click()")
+        # The server finds a file that is dropped in the folder of the stream.
+        if hasattr(engine, "folder"):
+            shutil.copyfile(other, engine.folder / other.name)
+        page.drop(other)
+        page.wait("document.getElementById('ask').open")
+        found["asked"] = page.js(pages.INJECTED)
+        page.js("document.querySelector('#ask button[value=yes]').click()")
+        said = page.wait("document.querySelector('#notices [data-id=opened] span')?.textContent")
+        found["refused"] = page.js(pages.INJECTED)
+        names, edits = (page.session()[name] for name in ("names", "edits"))
+        title = page.js("return document.title + document.body.innerText")
+    for what, one in found.items():
+        if one != [0, False, None]:
+            yield f"{engine.name}: strings of a WebM file that is {what} are HTML: {one}"
+    made = ["hold 6", "delete 5"]
+    if names != [path.name] or edits != made or pages.ELEMENT not in title or other.name not in said:
+        yield f"{engine.name}: a WebM file whose strings are HTML: {names}, {edits}, {said!r}, {title[:99]!r}"
+    if "<img" in report or "<script" in report or "&lt;img src=" not in report:
+        yield f"{engine.name}: the report of a WebM file whose strings are HTML: {report[:300]!r}"
 
 
 @contextlib.contextmanager
@@ -590,34 +814,49 @@ def by_hand(begin, folder, address):
 
 SUMS = """await wokureti.engine.instead(toFile(args[0], args[1]));
     while (wokureti.model.session.names[0] !== args[1]) await new Promise((done) => setTimeout(done, 20));
-    const found = []; const hex = (sum) => Array.from(new Uint8Array(sum), (byte) => byte.toString(16).padStart(2, "0")).join("");
+    const found = [];
+    const hex = (sum) => Array.from(new Uint8Array(sum), (byte) => byte.toString(16).padStart(2, "0")).join("");
     for (let n = 0; n < wokureti.model.frames; n++) {
-      try { found.push(hex(await crypto.subtle.digest("SHA-256", (await wokureti.frames.get(n)).samples))); } catch (error) { found.push(error.reply || error.message); }
+      try { found.push(hex(await crypto.subtle.digest("SHA-256", (await wokureti.frames.get(n)).samples))); }
+      catch (error) { found.push(error.reply || error.message); }
     }
     return [found, wokureti.model.session.edits, wokureti.model.frames]"""
 
 
 def streams(begin, address):
-    """Each clip and conformance stream is opened in the place of the one before: its frames are those of vp8serve, and it has no edit."""
+    """Each clip and conformance stream is opened in the place of the one before: its frames are those of vp8serve, and
+    it has no edit.
+    """
     with started(begin) as browser, Alone(browser, address).opened(EXAMPLE) as page:
         page.select(3, 4)
         page.press("hold")
         for path in [*test_web.CLIPS, *test_web.STREAMS]:
-            found, edits, count = page.js(SUMS, base64.b64encode(path.read_bytes()).decode(), f"{path.parent.name}-{path.name}")
-            wanted = [hashlib.sha256(frame).hexdigest() if isinstance(frame, bytes) else frame for frame in samples_of_sizes(path)]
+            found, edits, count = page.js(
+                SUMS, base64.b64encode(path.read_bytes()).decode(), f"{path.parent.name}-{path.name}"
+            )
+            wanted = [
+                hashlib.sha256(frame).hexdigest() if isinstance(frame, bytes) else frame
+                for frame in samples_of_sizes(path)
+            ]
             if found != wanted or edits or count != len(wanted):
                 first = next((place for place, pair in enumerate(zip(found, wanted)) if pair[0] != pair[1]), None)
                 yield f"{path.name}: {count} frames, the first other one is {first}, {edits}"
 
 
 def samples_of_sizes(path):
-    """The samples of each frame, whatever its size, or why vp8serve refuses it: a run of vp8serve serves frames of one size."""
+    """The samples of each frame, whatever its size, or why vp8serve refuses it: a run of vp8serve serves frames of one
+    size.
+    """
     found = samples_of(path)
     while "refused SizeDiffers" in found:
         left = [n for n, frame in enumerate(found) if frame == "refused SizeDiffers"]
         with tempfile.TemporaryDirectory() as folder:
             out = pathlib.Path(folder, "out.y4m")
-            replies = ran(SERVE, path, "-", out, input="".join(f"frame {n}\n" for n in left).encode()).stdout.decode().splitlines()
+            replies = (
+                ran(SERVE, path, "-", out, input="".join(f"frame {n}\n" for n in left).encode())
+                .stdout.decode()
+                .splitlines()
+            )
             pictures = test_web.pieces(out.read_bytes())
             for n, reply in zip(left, replies):
                 found[n] = bytes(next(pictures)) if reply.startswith("served ") else reply
@@ -654,20 +893,33 @@ def run(folder, parts):
         if f"streams-{name}" in parts:
             yield from (f"{name}: {line}" for line in streams(begin, address))
     if "kills" in parts and "chromium" in here:
-        yield from killed(folder, address, EXAMPLE, KILLS)
+        wrong = list(killed(folder, address, EXAMPLE, KILLS))
+        yield from wrong
+        if "KILLS" in os.environ:
+            results.total(
+                f"{KILLS} kills of chromium within {1000 * MOST_KILL:.0f} ms after the page in one file shows an edit:"
+                f" {'some edits are gone' if wrong else 'all edits are there again'}",
+                len(wrong),
+            )
     if "--shots" in sys.argv and "chromium" in here:
         with started(here["chromium"]) as browser:
             shots(pathlib.Path(sys.argv[-1]), Alone(browser, address))
 
 
 def without_network():
-    """Starts this test again where there is no network but that of the machine with itself. Returns only if that cannot be."""
+    """Starts this test again where there is no network but that of the machine with itself. Returns only if that cannot
+    be.
+    """
     if os.environ.get("WOKURETI_ALONE") or shutil.which("unshare") is None or shutil.which("ip") is None:
         return
     if subprocess.run(["unshare", "-n", "ip", "link", "set", "lo", "up"], capture_output=True, check=False).returncode:
         print("skipped: without a network: unshare -n is refused here")
         return
-    os.execve(shutil.which("unshare"), ["unshare", "-n", "sh", "-c", 'ip link set lo up && exec "$0" "$@"', sys.executable, *sys.argv], {**os.environ, "WOKURETI_ALONE": "1"})
+    os.execve(
+        shutil.which("unshare"),
+        ["unshare", "-n", "sh", "-c", 'ip link set lo up && exec "$0" "$@"', sys.executable, *sys.argv],
+        {**os.environ, "WOKURETI_ALONE": "1"},
+    )
 
 
 def main():

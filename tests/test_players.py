@@ -1,8 +1,10 @@
 #!/usr/bin/env python3
-"""Plays a clip of which the last frames and their sound were coded again, to its end: in chromium, Firefox, ffmpeg, GStreamer, mpv and VLC, those that are here. All other frames
-are the clip's, by ffmpeg, and so are all other packets of sound.
+"""Plays a clip of which the last frames and their sound were coded again, to its end: in chromium, Firefox, ffmpeg,
+GStreamer, mpv and VLC, those that are here. All other frames are the clip's, by ffmpeg, and so are all other packets of
+sound.
 
-It prints what differs and ends with 1, or prints nothing and ends with 0; a line `skipped: ..` names what could not be run.
+It prints what differs and ends with 1, or prints nothing and ends with 0; a line `skipped: ..` names what could not be
+run.
 """
 
 import os
@@ -18,13 +20,24 @@ import pages  # noqa: E402
 
 TOP = pathlib.Path(__file__).resolve().parent.parent
 LIMIT = 120
-# Frames of the clip and of the fade; the packets of sound before the fade, of 20 ms, the first of which begins 6.5 ms early.
+# Frames of the clip and of the fade; the packets of sound before the fade, of 20 ms, the first of which begins 6.5 ms
+# early.
 FRAMES, FADED, RATE = 100, 24, 25
 SOUND_BEFORE = 150
 # Packets of the programs of Debian.
-PLAYERS = {"ffmpeg": "ffmpeg", "gst-launch-1.0": "gstreamer1.0-tools and gstreamer1.0-plugins-good", "mpv": "mpv", "cvlc": "vlc-bin and vlc-plugin-base"}
-BROWSERS = """const video = document.createElement("video"); video.muted = true; video.src = args[0]; document.body.append(video);
-    const over = new Promise((done) => { video.onended = () => done("ended"); video.onerror = () => done(video.error.message || "error"); setTimeout(() => done("not ended"), 60000); });
+PLAYERS = {
+    "ffmpeg": "ffmpeg",
+    "gst-launch-1.0": "gstreamer1.0-tools and gstreamer1.0-plugins-good",
+    "mpv": "mpv",
+    "cvlc": "vlc-bin and vlc-plugin-base",
+}
+BROWSERS = """const video = document.createElement("video"); video.muted = true;
+    video.src = args[0]; document.body.append(video);
+    const over = new Promise((done) => {
+        video.onended = () => done("ended");
+        video.onerror = () => done(video.error.message || "error");
+        setTimeout(() => done("not ended"), 60000);
+    });
     await video.play(); const how = await over;
     return [how, video.currentTime, video.videoWidth, video.getVideoPlaybackQuality().totalVideoFrames]"""
 
@@ -43,14 +56,48 @@ def frames_of(path):
 
 
 def sound_of(path):
-    return ran("ffprobe", "-v", "error", "-select_streams", "a", "-show_entries", "packet=data_hash", "-show_data_hash", "md5", "-of", "csv=p=0", path).stdout.split()
+    return ran(
+        "ffprobe",
+        "-v",
+        "error",
+        "-select_streams",
+        "a",
+        "-show_entries",
+        "packet=data_hash",
+        "-show_data_hash",
+        "md5",
+        "-of",
+        "csv=p=0",
+        path,
+    ).stdout.split()
 
 
 def made(folder):
     """The clip, and the one that fades at its end."""
     clip, out = folder / "talk.webm", folder / "ending.webm"
     sources = ["-f", "lavfi", "-i", f"testsrc=size=320x180:rate={RATE}", "-f", "lavfi", "-i", "sine=duration=4"]
-    ran("ffmpeg", "-nostdin", "-v", "error", "-y", *sources, "-frames:v", FRAMES, "-c:v", "libvpx", "-b:v", "300k", "-g", 50, "-auto-alt-ref", 0, "-c:a", "libopus", "-shortest", clip)
+    ran(
+        "ffmpeg",
+        "-nostdin",
+        "-v",
+        "error",
+        "-y",
+        *sources,
+        "-frames:v",
+        FRAMES,
+        "-c:v",
+        "libvpx",
+        "-b:v",
+        "300k",
+        "-g",
+        50,
+        "-auto-alt-ref",
+        0,
+        "-c:a",
+        "libopus",
+        "-shortest",
+        clip,
+    )
     done = wokureti("cut", clip, out, "--from", "0", "--fade-out", f"f{FADED + 1}", "--fade-sound", "--psnr", "40")
     if done.returncode:
         raise SystemExit(f"it was not made: {done.stderr}")
@@ -60,19 +107,41 @@ def made(folder):
     if frames_of(out)[: FRAMES - FADED] != frames_of(clip)[: FRAMES - FADED] or len(frames_of(out)) != FRAMES:
         yield "frames before the fade are others"
     before, after = sound_of(clip), sound_of(out)
-    if after[: SOUND_BEFORE - 1] != before[: SOUND_BEFORE - 1] or after[SOUND_BEFORE + 1 : SOUND_BEFORE + 40] == before[SOUND_BEFORE + 1 : SOUND_BEFORE + 40]:
+    if (
+        after[: SOUND_BEFORE - 1] != before[: SOUND_BEFORE - 1]
+        or after[SOUND_BEFORE + 1 : SOUND_BEFORE + 40] == before[SOUND_BEFORE + 1 : SOUND_BEFORE + 40]
+    ):
         yield "packets of sound before the fade are others, or those of the fade are not"
 
 
 def commands(path):
     """What plays a file, by the name of the program. VLC refuses to be root."""
-    nobody = ["setpriv", "--reuid=65534", "--regid=65534", "--clear-groups", "env", f"HOME={path.parent}"] if os.geteuid() == 0 else []
-    elements = f"filesrc location={path} ! matroskademux name=d d. ! queue ! vp8dec ! fakesink sync=true d. ! queue ! opusdec ! fakesink sync=true"
+    nobody = (
+        ["setpriv", "--reuid=65534", "--regid=65534", "--clear-groups", "env", f"HOME={path.parent}"]
+        if os.geteuid() == 0
+        else []
+    )
+    elements = (
+        f"filesrc location={path} ! matroskademux name=d d. ! queue ! vp8dec ! fakesink sync=true d. ! queue ! opusdec"
+        " ! fakesink sync=true"
+    )
     return {
         "ffmpeg": ["ffmpeg", "-nostdin", "-v", "error", "-i", path, "-f", "null", "-"],
         "gst-launch-1.0": ["gst-launch-1.0", "-q", *elements.split()],
         "mpv": ["mpv", "--no-config", "--msg-level=all=warn,cplayer=info", "--vo=null", "--ao=null", path],
-        "cvlc": [*nobody, "cvlc", "-q", "--intf", "dummy", "--vout", "dummy", "--aout", "dummy", "--play-and-exit", path],
+        "cvlc": [
+            *nobody,
+            "cvlc",
+            "-q",
+            "--intf",
+            "dummy",
+            "--vout",
+            "dummy",
+            "--aout",
+            "dummy",
+            "--play-and-exit",
+            path,
+        ],
     }
 
 
@@ -82,13 +151,20 @@ def by_programs(path):
             print(f"skipped: {name}: {PLAYERS[name]}")
             continue
         done = ran(*words, stdin=subprocess.DEVNULL)
-        if done.returncode or (name == "mpv" and "End of file" not in done.stdout) or (name in ("ffmpeg", "gst-launch-1.0") and done.stderr):
+        if (
+            done.returncode
+            or (name == "mpv" and "End of file" not in done.stdout)
+            or (name in ("ffmpeg", "gst-launch-1.0") and done.stderr)
+        ):
             yield f"{name}: status {done.returncode}, {(done.stdout + done.stderr)[-500:]}"
 
 
 def by_browsers(path):
     (path.parent / "play.html").write_text("<!doctype html><meta charset=utf-8><title>play</title>")
-    for begin, is_here in ((pages.Chromium, shutil.which("chromium") and shutil.which("chromedriver")), (pages.Firefox, pages.firefox.find())):
+    for begin, is_here in (
+        (pages.Chromium, shutil.which("chromium") and shutil.which("chromedriver")),
+        (pages.Firefox, pages.firefox.find()),
+    ):
         if not is_here:
             print(f"skipped: {begin.name}")
             continue

@@ -1,11 +1,14 @@
 #!/usr/bin/env python3
-"""Tests the questions `list`, `check`, `header`, `macroblocks` and `origins` over random edits of real streams: test_questions.py [LISTS [SEED]]
+"""Tests the questions `list`, `check`, `header`, `macroblocks` and `origins` over random edits of real streams:
+test_questions.py [LISTS [SEED]]
 
-`list` in ranges, put together, is what vp8list --json prints of the file that --save writes at that place; so is `check` what it prints with --check --json
-of packets, and the last line of each reply counts its findings. `header` and `macroblocks` of some packets are what it prints of that file with these options. `origins` is what a model says here:
-the script's nodes frame by frame, and the packets that `list` reports as shown. A session without the questions has the same other replies and
-the same frames. Questions in any order, with edits between them, have the replies that each has in a session in which nothing was asked before: what a session
-keeps from one question to the next is that of its packets. It prints what differs and ends with 1, or prints nothing and ends with 0.
+`list` in ranges, put together, is what vp8list --json prints of the file that --save writes at that place; so is
+`check` what it prints with --check --json of packets, and the last line of each reply counts its findings. `header` and
+`macroblocks` of some packets are what it prints of that file with these options. `origins` is what a model says here:
+the script's nodes frame by frame, and the packets that `list` reports as shown. A session without the questions has the
+same other replies and the same frames. Questions in any order, with edits between them, have the replies that each has
+in a session in which nothing was asked before: what a session keeps from one question to the next is that of its
+packets. It prints what differs and ends with 1, or prints nothing and ends with 0.
 """
 
 import json
@@ -76,10 +79,24 @@ def random_script(dice):
                     f"source {dice.randrange(2)}",
                     f"trim {clip} {dice.randint(0, 9)} {dice.randint(0, 40)}",
                     f"splice {clip} {dice.randrange(number)}",
-                    f"parts {' '.join(f'{dice.randrange(number)} {dice.randint(0, 9)} {dice.randint(0, 12)}' for _ in range(dice.randint(1, 4)))}",
-                    f"crop {clip} {2 * dice.randint(0, 3)} 0 {dice.choice([16, 176, 320])} {dice.choice([16, 144, 180])}",
+                    " ".join(
+                        [
+                            "parts",
+                            *(
+                                f"{dice.randrange(number)} {dice.randint(0, 9)} {dice.randint(0, 12)}"
+                                for _ in range(dice.randint(1, 4))
+                            ),
+                        ]
+                    ),
+                    (
+                        f"crop {clip} {2 * dice.randint(0, 3)} 0"
+                        f" {dice.choice([16, 176, 320])} {dice.choice([16, 144, 180])}"
+                    ),
                     f"crop {clip} 0 0 {dice.choice([32, 176, 320])} {dice.choice([16, 144, 180])}",
-                    f"fade {clip} {dice.randint(0, 20)} {dice.randint(1, 9)} {dice.choice([0, 255, 256])} {dice.choice([0, 256])}",
+                    (
+                        f"fade {clip} {dice.randint(0, 20)} {dice.randint(1, 9)}"
+                        f" {dice.choice([0, 255, 256])} {dice.choice([0, 256])}"
+                    ),
                 ]
             )
         )
@@ -87,7 +104,9 @@ def random_script(dice):
 
 
 class Script:
-    """The frames of a script: for each its source, the frame of that, and the steps of its nodes as (node, kind, numbers)."""
+    """The frames of a script: for each its source, the frame of that, and the steps of its nodes as (node, kind,
+    numbers).
+    """
 
     def __init__(self, text, counts):
         self.nodes = [[(0, frame, ()) for frame in range(counts[0])]]
@@ -104,9 +123,15 @@ class Script:
                 parts = zip(*[iter(numbers)] * 3)
                 made = [frame for clip, first, count in parts for frame in self.nodes[clip][first : first + count]]
             elif word == "crop":
-                made = [(source, frame, (*steps, (number, "crop", numbers[1:]))) for source, frame, steps in self.nodes[numbers[0]]]
+                made = [
+                    (source, frame, (*steps, (number, "crop", numbers[1:])))
+                    for source, frame, steps in self.nodes[numbers[0]]
+                ]
             else:
-                made = [(source, frame, (*steps, (number, "fade", weight(i, *numbers[1:])))) for i, (source, frame, steps) in enumerate(self.nodes[numbers[0]])]
+                made = [
+                    (source, frame, (*steps, (number, "fade", weight(i, *numbers[1:]))))
+                    for i, (source, frame, steps) in enumerate(self.nodes[numbers[0]])
+                ]
             self.nodes.append(made)
 
     def origins(self, lists):
@@ -114,12 +139,24 @@ class Script:
         shown = [[facts["packet"] for facts in source if facts["show"] == "shown"] for source in lists]
         for number, (source, frame, steps) in enumerate(self.nodes[-1]):
             packet = shown[source][frame]
-            yield {"frame": number, "source": source, "source_frame": frame, "packet": packet, "changed": list(changes(steps, size_at(lists[source], packet)))}
+            yield {
+                "frame": number,
+                "source": source,
+                "source_frame": frame,
+                "packet": packet,
+                "changed": list(changes(steps, size_at(lists[source], packet))),
+            }
 
 
 def weight(i, first, count, start, end):
     """The weight of frame i of a fade."""
-    return start if i < first else end if i >= first + count else (start * (count - (i - first)) + end * (i - first)) // count
+    return (
+        start
+        if i < first
+        else end
+        if i >= first + count
+        else (start * (count - (i - first)) + end * (i - first)) // count
+    )
 
 
 def size_at(source, packet):
@@ -173,7 +210,12 @@ def found_at(replies, asked):
         first, count = map(int, line.split()[1:])
         *some, tally = [next(replies) for _ in range(int(next(replies).removeprefix("lines ")))]
         objects = [json.loads(finding) for finding in some]
-        counted = {f"{severity}s" if severity == "note" else severity: sum(finding["severity"] == severity for finding in objects) for severity in ("damage", "note")}
+        counted = {
+            f"{severity}s"
+            if severity == "note"
+            else severity: sum(finding["severity"] == severity for finding in objects)
+            for severity in ("damage", "note")
+        }
         assert json.loads(tally) == counted, (line, tally)
         assert all(first <= finding["packet"] < first + count for finding in objects), line
         found += some
@@ -190,7 +232,15 @@ def expect(got, wanted, what):
 
 def counts_after(paths, lines):
     """How many packets the two sources have, and frames the script, after these lines."""
-    words = ran(SERVE, paths[0], "-", "-", "--sources", paths[1], lines="".join(f"{line}\n" for line in [*lines, "use 1", "count", "use 0", "count"])).split("\n")
+    words = ran(
+        SERVE,
+        paths[0],
+        "-",
+        "-",
+        "--sources",
+        paths[1],
+        lines="".join(f"{line}\n" for line in [*lines, "use 1", "count", "use 0", "count"]),
+    ).split("\n")
     second, first = words[-4].split(), words[-2].split()
     return [int(first[1]), int(second[1])], int(first[3])
 
@@ -216,17 +266,51 @@ def one_list(dice, folder, streams):
     text = random_script(dice)
     edits.append(f"script {text}")
     counts, frames = counts_after(paths, edits)
-    second, first, origins = ranges(dice, "list", counts[1]), ranges(dice, "list", counts[0]), ranges(dice, "origins", frames)
+    second, first, origins = (
+        ranges(dice, "list", counts[1]),
+        ranges(dice, "list", counts[0]),
+        ranges(dice, "origins", frames),
+    )
     looks = [f"frame {dice.randint(0, frames)}" for _ in range(3)]
     plain = ["use 1", "use 0", *looks, "stats", "count", "script"]
     checks = ranges(dice, "check", counts[0])
-    details = [f"{dice.choice(['header', 'macroblocks'])} {dice.randrange(counts[0])}" for _ in range(4 * (counts[0] > 0))]
-    asked = ["use 1", *second, "use 0", *first, *checks, *origins, *details, looks[0], first[0], *looks[1:], origins[0], "stats", "count", "script"]
+    details = [
+        f"{dice.choice(['header', 'macroblocks'])} {dice.randrange(counts[0])}" for _ in range(4 * (counts[0] > 0))
+    ]
+    asked = [
+        "use 1",
+        *second,
+        "use 0",
+        *first,
+        *checks,
+        *origins,
+        *details,
+        looks[0],
+        first[0],
+        *looks[1:],
+        origins[0],
+        "stats",
+        "count",
+        "script",
+    ]
     saved, out = folder / "saved.ivf", folder / "out.y4m"
     lines = "".join(f"{line}\n" for line in [*edits, *asked])
-    replies = ran(SERVE, paths[0], "-", out, "--sources", paths[1], "--save", saved, *(["--live"] if dice.random() < 0.5 else []), lines=lines).split("\n")
+    replies = ran(
+        SERVE,
+        paths[0],
+        "-",
+        out,
+        "--sources",
+        paths[1],
+        "--save",
+        saved,
+        *(["--live"] if dice.random() < 0.5 else []),
+        lines=lines,
+    ).split("\n")
     shown = out.read_bytes()
-    without = ran(SERVE, paths[0], "-", out, "--sources", paths[1], lines="".join(f"{line}\n" for line in [*edits, *plain])).split("\n")
+    without = ran(
+        SERVE, paths[0], "-", out, "--sources", paths[1], lines="".join(f"{line}\n" for line in [*edits, *plain])
+    ).split("\n")
     assert out.read_bytes() == shown, "the frames are others without the questions"
     left = iter(replies)
     others = [next(left) for _ in range(len(edits) + 1)]
@@ -243,9 +327,21 @@ def one_list(dice, folder, streams):
     wanted = [line for line in without[len(others) :] if not line.startswith("refused NoSuchFrame")]
     expect(others + rest, without[: len(others)] + wanted, "another reply")
     expect(lists[0], ran(LIST, saved, "--json").splitlines(), "list")
-    expect(findings, [line for line in ran(LIST, saved, "--check", "--json", most=1).splitlines() if json.loads(line)["packet"] is not None], "check")
+    expect(
+        findings,
+        [
+            line
+            for line in ran(LIST, saved, "--check", "--json", most=1).splitlines()
+            if json.loads(line)["packet"] is not None
+        ],
+        "check",
+    )
     objects = [list(map(json.loads, source)) for source in lists]
-    expect(list(map(json.loads, found)), list(Script(text, [sum(facts["show"] == "shown" for facts in source) for source in objects]).origins(objects)), "origins")
+    expect(
+        list(map(json.loads, found)),
+        list(Script(text, [sum(facts["show"] == "shown" for facts in source) for source in objects]).origins(objects)),
+        "origins",
+    )
 
 
 def random_question(dice, count):
@@ -283,10 +379,14 @@ def in_any_order(dice, folder, streams):
         else:
             questions.append(len(lines))
             lines.append(random_question(dice, counts[current]))
-    session = lambda some: replies_of(ran(SERVE, paths[0], "-", "-", "--sources", paths[1], lines="".join(f"{line}\n" for line in some)))  # noqa: E731
+    session = lambda some: replies_of(
+        ran(SERVE, paths[0], "-", "-", "--sources", paths[1], lines="".join(f"{line}\n" for line in some))
+    )  # noqa: E731
     together = session(lines)
     for at in questions:
-        alone = session([line for number, line in enumerate(lines[: at + 1]) if number == at or number not in questions])
+        alone = session(
+            [line for number, line in enumerate(lines[: at + 1]) if number == at or number not in questions]
+        )
         expect(together[at], alone[-1], (lines[: at + 1], "after other questions"))
 
 

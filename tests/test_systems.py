@@ -1,9 +1,11 @@
 #!/usr/bin/env python3
-"""Tests the Python package as Python of Windows and of macOS would run it (tests/as_system.py): each command but `mount` writes the bytes that it writes here, the page and
-the server too; two runs at a time leave each other's folders; and a file that is read in part is an error, and replaces nothing.
+"""Tests the Python package as Python of Windows and of macOS would run it (tests/as_system.py): each command but
+`mount` writes the bytes that it writes here, the page and the server too; two runs at a time leave each other's
+folders; and a file that is read in part is an error, and replaces nothing.
 
-On Windows the library answers sessions; macOS is tested with the programs. The library is that of the variable LIBWOKURETI, or bin/libwokureti.so.0. It prints what differs
-and ends with 1, or prints nothing and ends with 0; a line `skipped: ..` names what could not be run.
+On Windows the library answers sessions; macOS is tested with the programs. The library is that of the variable
+LIBWOKURETI, or bin/libwokureti.so.0. It prints what differs and ends with 1, or prints nothing and ends with 0; a line
+`skipped: ..` names what could not be run.
 """
 
 import http.client
@@ -21,7 +23,9 @@ TOP = pathlib.Path(__file__).resolve().parent.parent
 DATA, AS = TOP / "crates/gate_clips/data", TOP / "tests/as_system.py"
 # Seconds for a command, and for a server to do what it is asked.
 LIMIT = 120
-PROGRAMS = {name: os.path.abspath(os.environ.get(name.upper()) or TOP / "bin" / name) for name in ("vp8serve", "vp8list")}
+PROGRAMS = {
+    name: os.path.abspath(os.environ.get(name.upper()) or TOP / "bin" / name) for name in ("vp8serve", "vp8list")
+}
 LIBRARY = pathlib.Path(os.environ.get("LIBWOKURETI") or TOP / "bin/libwokureti.so.0").absolute()
 SYSTEMS = ("windows", "macos")
 # A program of Windows has a list of paths with `;`.
@@ -37,7 +41,8 @@ exec {} "$@"
 DECODER = """#!/bin/sh
 seq -f 'frame %.0f' 0 11 | {} "$1" - "$2" > /dev/null
 """
-# Each command, and what it gets on standard input. They run in a folder in this order, and what one writes another reads.
+# Each command, and what it gets on standard input. They run in a folder in this order, and what one writes another
+# reads.
 COMMANDS = {
     "version": ("--version",),
     "cut": ("cut", "clip.ivf", "cut.ivf", "--from", "f3", "--to", "f9"),
@@ -47,20 +52,51 @@ COMMANDS = {
     "join": ("join", "clip.ivf", "cut.ivf", "clip.ivf", "joined.ivf"),
     "a file that is there": ("join", "clip.ivf", "cut.ivf", "joined.ivf"),
     "a file that is replaced": ("join", "cut.ivf", "clip.ivf", "joined.ivf", "-y"),
-    "export": ("export", "clip.ivf", "export.ivf", "--sources", "cut.ivf;joined.ivf", "--script", "source 1; source 2; splice 1 2", "--edits", "list"),
-    "export of a name with `;`": ("export", "clip.ivf", "export-2.ivf", "--sources", "cut.ivf", "--script", "source 1; splice 0 1"),
+    "export": (
+        "export",
+        "clip.ivf",
+        "export.ivf",
+        "--sources",
+        "cut.ivf;joined.ivf",
+        "--script",
+        "source 1; source 2; splice 1 2",
+        "--edits",
+        "list",
+    ),
+    "export of a name with `;`": (
+        "export",
+        "clip.ivf",
+        "export-2.ivf",
+        "--sources",
+        "cut.ivf",
+        "--script",
+        "source 1; splice 0 1",
+    ),
     "repair": ("repair", "broken.ivf", "repaired.ivf", "--edits", "repairs"),
     "compare": ("compare", "clip.ivf", "repaired.ivf", "--png", "pictures"),
     "compare of a decoder": ("compare", "clip.ivf", "--decoder", "./decoder {in} {out}", "--junit", "junit.xml"),
     "cat": ("cat", "clip.ivf", "frames.y4m", "--jobs", "2"),
-    "cat of a script": ("cat", "clip.ivf", "faded.y4m", "--source", "cut.ivf", "--script", "source 1; splice 0 1; fade 2 0 6 0 256", "--edits", "list"),
+    "cat of a script": (
+        "cat",
+        "clip.ivf",
+        "faded.y4m",
+        "--source",
+        "cut.ivf",
+        "--script",
+        "source 1; splice 0 1; fade 2 0 6 0 256",
+        "--edits",
+        "list",
+    ),
     "cat of standard input": ("cat", "-"),
     "cat of nothing": ("cat", "/dev/null"),
     "png": ("png", "clip.ivf", "5", "frame.png", "--edits", "list"),
     "a file that is not there": ("png", "missing.ivf", "5", "frame-2.png"),
     "a text": ("cut", "list", "cut-3.ivf", "--from", "f3"),
 }
-READ_WEBM = {"cut of WebM": ("cut", "cut.webm", "cut-2.webm", "--from", "f3"), "cat of WebM": ("cat", "cut.webm", "webm.y4m")}
+READ_WEBM = {
+    "cut of WebM": ("cut", "cut.webm", "cut-2.webm", "--from", "f3"),
+    "cat of WebM": ("cat", "cut.webm", "webm.y4m"),
+}
 # Code that gives the client a positional read that moves the place where a file is read, as `seek` and `read` do.
 MOVING = """
 import os, sys
@@ -83,20 +119,37 @@ class Place:
     """A folder of streams, and how wokureti is run in it as a system does, or as it is (None)."""
 
     def __init__(self, room, system):
-        self.system, self.folder, self.temporary = system, room / f"{system}" / "clips", room / f"{system}" / "temporary"
+        self.system, self.folder, self.temporary = (
+            system,
+            room / f"{system}" / "clips",
+            room / f"{system}" / "temporary",
+        )
         for folder in (self.folder, self.temporary):
             folder.mkdir(parents=True)
         shutil.copyfile(DATA / "small.ivf", self.folder / "clip.ivf")
         (self.folder / "list").write_bytes(b"hold 3\ndelete 5\n")
-        for path, text, program in ((self.folder / "decoder", DECODER, "vp8serve"), (room / f"{system}" / "vp8serve", WRAPPER, "vp8serve")):
+        for path, text, program in (
+            (self.folder / "decoder", DECODER, "vp8serve"),
+            (room / f"{system}" / "vp8serve", WRAPPER, "vp8serve"),
+        ):
             path.write_text(text.format(PROGRAMS[program]))
             path.chmod(0o755)
         given = b"replace 4 1100\n"
-        subprocess.run([PROGRAMS["vp8serve"], "clip.ivf", "-", "-", "--save", "broken.ivf"], cwd=self.folder, input=given, stdout=subprocess.DEVNULL, check=True, timeout=LIMIT)
+        subprocess.run(
+            [PROGRAMS["vp8serve"], "clip.ivf", "-", "-", "--save", "broken.ivf"],
+            cwd=self.folder,
+            input=given,
+            stdout=subprocess.DEVNULL,
+            check=True,
+            timeout=LIMIT,
+        )
         serve = PROGRAMS["vp8serve"] if system != "windows" else str(room / system / "vp8serve")
         self.environment = {
-            **os.environ, "VP8SERVE": serve, "VP8LIST": PROGRAMS["vp8list"], "LIBWOKURETI": str(LIBRARY), "WOKURETI_ENGINE": "program" if system == "macos" else "library",
-            "PYTHONPATH": str(TOP / "clients/python"), "PYTHONDONTWRITEBYTECODE": "1", "TMPDIR": str(self.temporary), "XDG_STATE_HOME": str(room / f"{system}" / "state"),
+            **os.environ, "VP8SERVE": serve, "VP8LIST": PROGRAMS["vp8list"],
+            "LIBWOKURETI": str(LIBRARY),
+            "WOKURETI_ENGINE": "program" if system == "macos" else "library",
+            "PYTHONPATH": str(TOP / "clients/python"), "PYTHONDONTWRITEBYTECODE": "1",
+            "TMPDIR": str(self.temporary), "XDG_STATE_HOME": str(room / f"{system}" / "state"),
         }  # fmt: skip
         if system is not None:
             self.environment["WOKURETI_AS"] = system
@@ -116,17 +169,32 @@ class Place:
                 return "late", b"", ""
         # The second line of `--version` is of the programs.
         out = out.split(b"\n")[0] if "--version" in words else out
-        return process.returncode, out if "cat" in words else out.replace(b"\r\n", b"\n").rstrip(b"\r"), self.plain(errors)
+        return (
+            process.returncode,
+            out if "cat" in words else out.replace(b"\r\n", b"\n").rstrip(b"\r"),
+            self.plain(errors),
+        )
 
     def plain(self, errors):
         """What was said, without what differs: folders, addresses, and who answers the session."""
-        text = errors.decode(errors="replace").replace("\r\n", "\n").replace(str(self.folder), "FOLDER").replace("libwokureti: ", "vp8serve: ")
+        text = (
+            errors.decode(errors="replace")
+            .replace("\r\n", "\n")
+            .replace(str(self.folder), "FOLDER")
+            .replace("libwokureti: ", "vp8serve: ")
+        )
         return re.sub(r"http://127\.0\.0\.1:\d+/[\w-]+/", "ADDRESS/", text)
 
     def files(self):
         """The bytes of each file, with the time that a program took left out."""
-        found = {str(path.relative_to(self.folder)): path.read_bytes() for path in sorted(self.folder.rglob("*")) if path.is_file()}
-        return {name: re.sub(rb'time="[0-9.]+"', b"", data) if name == "junit.xml" else data for name, data in found.items()}
+        found = {
+            str(path.relative_to(self.folder)): path.read_bytes()
+            for path in sorted(self.folder.rglob("*"))
+            if path.is_file()
+        }
+        return {
+            name: re.sub(rb'time="[0-9.]+"', b"", data) if name == "junit.xml" else data for name, data in found.items()
+        }
 
     def left(self):
         """What is left in the folder for temporary files."""
@@ -147,7 +215,9 @@ class Page:
     """A server that wokureti starts in a folder."""
 
     def __init__(self, place, *words):
-        self.process = place.start("-m", "wokureti", *words, stdin=subprocess.DEVNULL, stdout=subprocess.PIPE, stderr=subprocess.PIPE)
+        self.process = place.start(
+            "-m", "wokureti", *words, stdin=subprocess.DEVNULL, stdout=subprocess.PIPE, stderr=subprocess.PIPE
+        )
         self.place, self.address = place, self.process.stdout.readline().decode().strip()
         self.host, self.token = re.fullmatch(r"http://([\d.:]+)/([\w-]+)/.*", self.address).groups()
 
@@ -155,7 +225,9 @@ class Page:
         """The status and the body of an answer."""
         one = http.client.HTTPConnection(self.host, timeout=LIMIT)
         headers = {"Origin": f"http://{self.host}", "Content-Type": "application/json"} if members else {}
-        one.request("POST" if members else "GET", f"/{self.token}/{path}", json.dumps(members) if members else None, headers)
+        one.request(
+            "POST" if members else "GET", f"/{self.token}/{path}", json.dumps(members) if members else None, headers
+        )
         response = one.getresponse()
         found = response.status, response.read()
         one.close()
@@ -176,17 +248,22 @@ def page_of(place):
     """What the page of a stream answers while it is looked at, edited and saved; and what it says at its end."""
     page = Page(place, "open", "clip.ivf", "--no-browser", "--source", "cut.ivf", "--cache", "8")
     try:
-        found = [page.ask(path) for path in ("page/", "page/main.js", "frames/0-3.y4m", "stream.ivf", "files")]
+        found = [page.ask(path) for path in ("page/", "page/main.js", "frames/0.y4m", "file/packets", "streams")]
         status, body = page.ask("session")
         found.append((status, json.loads(body)["packets"], json.loads(body)["names"]))
         found.append(page.ask("edits", line="delete 3")[0])
         status, body = page.ask("edits", line="save")
-        found += [(status, json.loads(body).get("reply")), page.ask("frames/2-4.y4m"), page.ask("exported"), page.ask("download")]
+        found += [
+            (status, json.loads(body).get("reply")),
+            page.ask("frames", frames=[2, 3, 4]),
+            page.ask("file/export"),
+            page.ask("file/packets"),
+        ]
         # Another page is a command of its own, which ends with this one.
-        status, body = page.ask("pages", file="joined.ivf")
+        status, body = page.ask("streams", file="joined.ivf", **{"as": "page"})
         other = re.fullmatch(r"http://([\d.:]+)/([\w-]+)/page/", json.loads(body)["address"])
         one = http.client.HTTPConnection(other.group(1), timeout=LIMIT)
-        one.request("GET", f"/{other.group(2)}/frames/0-1.y4m")
+        one.request("GET", f"/{other.group(2)}/frames/1.y4m")
         answer = one.getresponse()
         found.append((status, answer.status, answer.read()))
         one.close()
@@ -217,7 +294,9 @@ def normal(answer):
     """An answer without what is new in each run."""
     if isinstance(answer, tuple) and isinstance(answer[-1], bytes) and answer[-1].startswith(b"{"):
         members = json.loads(answer[-1])
-        return *answer[:-1], {name: value for name, value in members.items() if name not in ("instance", "revision", "changes")}
+        return *answer[:-1], {
+            name: value for name, value in members.items() if name not in ("instance", "revision", "changes")
+        }
     return answer
 
 
@@ -247,39 +326,89 @@ def same_bytes(places):
 def taken_away(place):
     """What a system does not have is really taken away here; and commands name what they miss."""
     lines = {
-        "windows": ("import fcntl", "import os; os.pread", "import os; os.O_CLOEXEC", "import select; select.poll", "import signal; signal.SIGHUP", "open('/proc/self/status')", "open('/dev/stdin')", "import os; os.getuid()", "import os; os.register_at_fork"),
+        "windows": (
+            "import fcntl",
+            "import os; os.pread",
+            "import os; os.O_CLOEXEC",
+            "import select; select.poll",
+            "import signal; signal.SIGHUP",
+            "open('/proc/self/status')",
+            "open('/dev/stdin')",
+            "import os; os.getuid()",
+            "import os; os.register_at_fork",
+        ),
         "macos": ("import os; os.sched_getaffinity", "open('/proc/self/status')", "import select; select.epoll"),
     }[place.system]
     for line in lines:
         status, _, errors = place.run("-c", line, "")
-        expect(f"{place.system}: {line}", (status, errors.strip().rpartition("\n")[2].split(":")[0] in ("ModuleNotFoundError", "AttributeError", "FileNotFoundError")), (1, True))
+        expect(
+            f"{place.system}: {line}",
+            (
+                status,
+                errors.strip().rpartition("\n")[2].split(":")[0]
+                in ("ModuleNotFoundError", "AttributeError", "FileNotFoundError"),
+            ),
+            (1, True),
+        )
     if place.system == "windows":
-        text = "wokureti: mount needs FUSE, which Windows does not have: `wokureti serve` has the same frames for programs that open an address\n"
+        text = (
+            "wokureti: mount needs FUSE, which Windows does not have: `wokureti serve` has the same frames for programs"
+            " that open an address\n"
+        )
         expect("windows: mount", place.run("-m", "wokureti", "mount", "clip.ivf", "folder"), (2, b"", text))
         status, _, errors = place.run("-c", "from wokureti import Session; Session('clip.ivf', engine='program')", "")
-        expect("windows: a program over pipes", (status, "Windows has no pipes on which a program can answer" in errors), (1, True))
+        expect(
+            "windows: a program over pipes",
+            (status, "Windows has no pipes on which a program can answer" in errors),
+            (1, True),
+        )
 
 
 def read_in_part(place):
-    """A positional read that moves the place of a file: commands that copy a file find that they did not read it whole, write nothing, and replace nothing."""
+    """A positional read that moves the place of a file: commands that copy a file find that they did not read it whole,
+    write nothing, and replace nothing.
+    """
     before = (place.folder / "joined.ivf").read_bytes()
-    for words in (("cut", "clip.ivf", "new.ivf", "--from", "f3"), ("join", "cut.ivf", "clip.ivf", "joined.ivf", "-y"), ("export", "clip.ivf", "new.ivf", "--edits", "list")):
+    for words in (
+        ("cut", "clip.ivf", "new.ivf", "--from", "f3"),
+        ("join", "cut.ivf", "clip.ivf", "joined.ivf", "-y"),
+        ("export", "clip.ivf", "new.ivf", "--edits", "list"),
+    ):
         status, out, errors = place.run("-c", MOVING, *words)
-        size = re.fullmatch(rf"wokureti: {re.escape(words[-2] if words[-1] == '-y' else words[2])}: 0 bytes of [\d,]+ were read of what is to be written, so it was not written\n", errors)
-        expect(f"{place.system}: {words[0]} that reads in part", (status, out, size is not None or errors), (2, b"", True))
-    expect(f"{place.system}: a file after that", ((place.folder / "new.ivf").exists(), (place.folder / "joined.ivf").read_bytes() == before), (False, True))
+        size = re.fullmatch(
+            (
+                rf"wokureti: {re.escape(words[-2] if words[-1] == '-y' else words[2])}: 0 bytes of [\d,]+ were read of"
+                r" what is to be written, so it was not written\n"
+            ),
+            errors,
+        )
+        expect(
+            f"{place.system}: {words[0]} that reads in part", (status, out, size is not None or errors), (2, b"", True)
+        )
+    expect(
+        f"{place.system}: a file after that",
+        ((place.folder / "new.ivf").exists(), (place.folder / "joined.ivf").read_bytes() == before),
+        (False, True),
+    )
     expect(f"{place.system}: temporary files after that", place.left(), [])
 
 
 # A program that has a temporary folder until it is ended; and one that cannot lock it.
-HOLDING = "from wokureti.tools import rooms\nroom = rooms.Room()\nprint(room.name, flush=True)\nimport sys\nsys.stdin.read()"
-UNLOCKED = f"from wokureti import system\ndef lock(descriptor):\n    raise OSError(38, 'Function not implemented')\nsystem.lock = lock\n{HOLDING}"
-SWEEPING = "from wokureti.tools import rooms\nrooms.sweep()"
+HOLDING = (
+    "from wokureti.base import rooms\nroom = rooms.Room()\nprint(room.name, flush=True)\nimport sys\nsys.stdin.read()"
+)
+UNLOCKED = (
+    "from wokureti import system\ndef lock(descriptor):\n    raise OSError(38, 'Function not"
+    f" implemented')\nsystem.lock = lock\n{HOLDING}"
+)
+SWEEPING = "from wokureti.base import rooms\nrooms.sweep()"
 SWEEPING_UNLOCKED = UNLOCKED.replace(HOLDING, SWEEPING)
 
 
 def at_a_time(place):
-    """Two runs at a time: the folder of the one is removed by the other only if the one was killed, and locks say so."""
+    """Two runs at a time: the folder of the one is removed by the other only if the one was killed, and locks say
+    so.
+    """
     for name, holding, is_removed in (("locked", HOLDING, True), ("where nothing can be locked", UNLOCKED, False)):
         process = place.start("-c", holding, stdin=subprocess.PIPE, stdout=subprocess.PIPE)
         folder = pathlib.Path(process.stdout.readline().decode().strip())
@@ -300,7 +429,11 @@ def locked_list(place):
     page = Page(place, "open", "cut.ivf", "--no-browser")
     try:
         status, out, errors = place.run("-m", "wokureti", "open", "cut.ivf", "--no-browser")
-        expect(f"{place.system}: a second session", (status, out, "is the list of another session that is open" in errors), (2, b"", True))
+        expect(
+            f"{place.system}: a second session",
+            (status, out, "is the list of another session that is open" in errors),
+            (2, b"", True),
+        )
     finally:
         expect(f"{place.system}: the end of a session without edits", page.end()[0], 0)
     expect(f"{place.system}: a list without edits", (place.folder / "cut.edits").exists(), False)

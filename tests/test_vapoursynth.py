@@ -1,9 +1,10 @@
 #!/usr/bin/env python3
-"""Tests the VapourSynth plugin over the library: its frames, asked for from several threads in any order, are those that vp8serve serves, and its
-errors have the refusals of vp8serve.
+"""Tests the VapourSynth plugin over the library: its frames, asked for from several threads in any order, are those
+that vp8serve serves, and its errors have the refusals of vp8serve.
 
-VapourSynth is not there: the plugin is loaded by a host of its own, tests/vapoursynth_host.c. The library is that of the variable LIBWOKURETI, or
-bin/libwokureti.so.0. It prints what differs and ends with 1, or prints nothing and ends with 0; a line `skipped: ..` names what could not be run.
+VapourSynth is not there: the plugin is loaded by a host of its own, tests/vapoursynth_host.c. The library is that of
+the variable LIBWOKURETI, or bin/libwokureti.so.0. It prints what differs and ends with 1, or prints nothing and ends
+with 0; a line `skipped: ..` names what could not be run.
 """
 
 import copy
@@ -26,7 +27,7 @@ sys.dont_write_bytecode = True
 sys.path[1:1] = [str(TOP / "clients/python"), str(TOP / "compare")]
 import guides  # noqa: E402
 from library.webm import webm  # noqa: E402
-from wokureti.tools import ivf  # noqa: E402
+from wokureti.media import ivf  # noqa: E402
 
 DATA = TOP / "crates/gate_clips/data"
 LIBRARY = pathlib.Path(os.environ.get("LIBWOKURETI") or TOP / "bin/libwokureti.so.0")
@@ -58,12 +59,40 @@ class Host:
         self.plugin, self.host = folder / "libwokureti-vapoursynth.so", folder / "host"
         own = ran("pkg-config", "--cflags", "vapoursynth", text=True) if shutil.which("pkg-config") else None
         self.has_header = own is not None and own.returncode == 0
-        flags = ["-std=gnu11", "-O1", "-g", "-Wall", "-Wextra", "-Werror", "-fvisibility=hidden", "-I", TOP / "clients/c/include", "-I", TOP / "clients/vapoursynth"]
+        flags = [
+            "-std=gnu11",
+            "-O1",
+            "-g",
+            "-Wall",
+            "-Wextra",
+            "-Werror",
+            "-fvisibility=hidden",
+            "-I",
+            TOP / "clients/c/include",
+            "-I",
+            TOP / "clients/vapoursynth",
+        ]
         flags += own.stdout.split() if self.has_header else []
         for checks in CHECKS:
             self.is_checked = bool(checks)
-            made = ran("gcc", *flags, *checks, "-fPIC", "-shared", "-o", self.plugin, TOP / "clients/vapoursynth/wokureti.c", *more, LIBRARY, f"-Wl,-rpath,{LIBRARY.parent}", "-pthread", text=True)
-            host = ran("gcc", *flags, *checks, "-o", self.host, TOP / "tests/vapoursynth_host.c", "-ldl", "-pthread", text=True)
+            made = ran(
+                "gcc",
+                *flags,
+                *checks,
+                "-fPIC",
+                "-shared",
+                "-o",
+                self.plugin,
+                TOP / "clients/vapoursynth/wokureti.c",
+                *more,
+                LIBRARY,
+                f"-Wl,-rpath,{LIBRARY.parent}",
+                "-pthread",
+                text=True,
+            )
+            host = ran(
+                "gcc", *flags, *checks, "-o", self.host, TOP / "tests/vapoursynth_host.c", "-ldl", "-pthread", text=True
+            )
             if made.returncode == host.returncode == 0:
                 return
         raise SystemExit(f"the plugin or its host does not compile: {made.stderr}{host.stderr}")
@@ -78,18 +107,29 @@ class Host:
 
 
 def served(paths, numbers, script=None):
-    """vp8serve's replies to requests for these frames, with the reasons of --explain, and the samples of those that are served."""
+    """vp8serve's replies to requests for these frames, with the reasons of --explain, and the samples of those that are
+    served.
+    """
     with tempfile.TemporaryDirectory() as folder:
         out = pathlib.Path(folder, "out.y4m")
         requests = ([f"script {script}"] if script else []) + [f"frame {number}" for number in numbers]
         more = ["--sources", ":".join(map(str, paths[1:]))] if paths[1:] else []
-        done = ran(SERVE, paths[0], "-", out, "--explain", *more, input="".join(line + "\n" for line in requests).encode())
+        done = ran(
+            SERVE, paths[0], "-", out, "--explain", *more, input="".join(line + "\n" for line in requests).encode()
+        )
         line, rest = out.read_bytes().split(b"\n", 1)
     width, height = (int(word[1:]) for word in line.split()[1:3])
     size = width * height * 3 // 2
     frames = [rest[at + 6 : at + 6 + size] for at in range(0, len(rest), 6 + size)]
-    reasons = {int(line.split()[1][:-1]): line.split(": ", 2)[2] for line in done.stderr.decode().splitlines() if line.startswith("line ")}
-    replies = [reply + (f": {reasons[number]}" if number in reasons else "") for number, reply in enumerate(done.stdout.decode().splitlines(), 1)]
+    reasons = {
+        int(line.split()[1][:-1]): line.split(": ", 2)[2]
+        for line in done.stderr.decode().splitlines()
+        if line.startswith("line ")
+    }
+    replies = [
+        reply + (f": {reasons[number]}" if number in reasons else "")
+        for number, reply in enumerate(done.stdout.decode().splitlines(), 1)
+    ]
     return replies[1 if script else 0 :], b"".join(frames), (width, height)
 
 
@@ -102,12 +142,18 @@ def rate(path):
     """The frames a second of a file, in lowest terms."""
     head, packets = ivf.read_packets(path)
     stamps = [stamp for stamp, data in packets if ivf.is_shown(data)]
-    found = Fraction(head.rate, head.scale * statistics.median_high([after - before for before, after in zip(stamps, stamps[1:]) if after > before]))
+    found = Fraction(
+        head.rate,
+        head.scale
+        * statistics.median_high([after - before for before, after in zip(stamps, stamps[1:]) if after > before]),
+    )
     return found.numerator, found.denominator
 
 
 def times(path, shown, many, one):
-    """When each of these frames of a file begins, and how long it lasts, in seconds: by its packets' time stamps, or by the rate if that is never a frame away."""
+    """When each of these frames of a file begins, and how long it lasts, in seconds: by its packets' time stamps, or by
+    the rate if that is never a frame away.
+    """
     head, packets = ivf.read_packets(path)
     stamps = [stamp for stamp, data in packets if ivf.is_shown(data)]
     steps = [after - before for before, after in zip(stamps, stamps[1:])]
@@ -122,7 +168,9 @@ def times(path, shown, many, one):
 
 
 def frames(host, path, chance, script=None, sources=(), cache=(), shown=None):
-    """What is wrong with the frames of a clip, which are asked for three times each. They are these of the file, in order, or all."""
+    """What is wrong with the frames of a clip, which are asked for three times each. They are these of the file, in
+    order, or all.
+    """
     given = [f"path={path}", *(f"sources={one}" for one in sources), *([f"script={script}"] if script else []), *cache]
     status, lines, _ = host.run([], *given)
     if status or not lines or not lines[0].startswith("clip "):
@@ -134,17 +182,31 @@ def frames(host, path, chance, script=None, sources=(), cache=(), shown=None):
     kind, (many, one) = kinds(path), rate(path)
     wanted = [f"clip {size[0]}x{size[1]} frames {count} rate {many}/{one}"]
     is_whole = all(reply.startswith("served ") for reply in replies)
-    timed = times(path, shown or range(count), many, one) if is_whole else [(Fraction(number * one, many), Fraction(one, many)) for number in range(count)]
+    timed = (
+        times(path, shown or range(count), many, one)
+        if is_whole
+        else [(Fraction(number * one, many), Fraction(one, many)) for number in range(count)]
+    )
     for number, reply in zip(numbers, replies):
         picture, (begin, lasts) = "" if script else f" _PictType={kind[number]}", timed[number]
-        properties = f"{PROPERTIES} _DurationNum={lasts.numerator} _DurationDen={lasts.denominator} _AbsoluteTime={float(begin):.17g}{picture}"
+        properties = (
+            f"{PROPERTIES} _DurationNum={lasts.numerator} _DurationDen={lasts.denominator}"
+            f" _AbsoluteTime={float(begin):.17g}{picture}"
+        )
         source = int(reply.split()[2]) if reply.startswith("refused source ") else 0
-        wanted.append(f"{number} {properties}" if reply == f"served {number}" else f"{number} error wokureti: {[path, *sources][source]}: frame {number}: {reply}")
+        wanted.append(
+            f"{number} {properties}"
+            if reply == f"served {number}"
+            else f"{number} error wokureti: {[path, *sources][source]}: frame {number}: {reply}"
+        )
     wrong = []
     for threads in (1, 4):
         status, lines, got = host.run(numbers, *given, threads=threads)
         if status or lines != wanted:
-            wrong.append(f"{path.name} on {threads} threads: status {status}, {[pair for pair in zip(lines, wanted) if pair[0] != pair[1]][:2]} {lines[-1:]}")
+            wrong.append(
+                f"{path.name} on {threads} threads: status {status},"
+                f" {[pair for pair in zip(lines, wanted) if pair[0] != pair[1]][:2]} {lines[-1:]}"
+            )
         elif got != samples:
             wrong.append(f"{path.name} on {threads} threads: other samples")
     return wrong
@@ -168,19 +230,31 @@ def refusals(host, folder):
         ([f"path={folder / 'none.ivf'}"], f"cannot read {folder / 'none.ivf'}: No such file or directory"),
         ([f"path={folder}"], f"cannot read {folder}: Is a directory"),
         ([f"path={TOP / 'README.md'}"], f"{TOP / 'README.md'} is not an IVF, WebM or Matroska file of VP8: Magic"),
-        ([f"path={clip}", f"sources={TOP / 'README.md'}"], f"{TOP / 'README.md'} is not an IVF, WebM or Matroska file of VP8: Magic"),
+        (
+            [f"path={clip}", f"sources={TOP / 'README.md'}"],
+            f"{TOP / 'README.md'} is not an IVF, WebM or Matroska file of VP8: Magic",
+        ),
         ([f"path={clip}", *[f"sources={clip}"] * 8], "there are more than seven sources"),
         ([f"path={clip}", "cache=0"], "cache is 0, but must be 1 to 4096"),
         ([f"path={clip}", "cache=4097"], "cache is 4097, but must be 1 to 4096"),
         ([f"path={clip}", "cache_bytes=0"], "cache_bytes is 0, but must be 1 or more"),
         ([f"path={clip}", "cache_bytes=-1"], "cache_bytes is -1, but must be 1 or more"),
         ([f"path={clip}", "cache=32", "cache_bytes=1048576"], "either cache or cache_bytes is given, not both"),
-        ([f"path={clip}", "script=trim 0"], f"{clip}: script: refused Syntax: node 1: a word is missing: trim A FIRST COUNT"),
-        ([f"path={clip}", "script=source 1"], f"{clip}: script: refused Reference: a node names a source or node that is not before it"),
+        (
+            [f"path={clip}", "script=trim 0"],
+            f"{clip}: script: refused Syntax: node 1: a word is missing: trim A FIRST COUNT",
+        ),
+        (
+            [f"path={clip}", "script=source 1"],
+            f"{clip}: script: refused Reference: a node names a source or node that is not before it",
+        ),
         ([f"path={clip}", "script=trim 0 0 9\nuse 0"], "script: refused Syntax"),
         ([f"path={empty}"], f"{empty}: there are no frames"),
         ([f"path={DATA / 'odd-size.ivf'}"], "VapourSynth's YUV420P8 needs even sides"),
-        ([f"path={written(folder, 'all.ivf', dict.fromkeys(range(10), bytes(2)))}"], "no frame is served; frame 0: refused packet 0 ShortPacket: packet 0 has 2 bytes, a tag needs 3"),
+        (
+            [f"path={written(folder, 'all.ivf', dict.fromkeys(range(10), bytes(2)))}"],
+            "no frame is served; frame 0: refused packet 0 ShortPacket: packet 0 has 2 bytes, a tag needs 3",
+        ),
     ]
     for words, text in wanted:
         status, lines, _ = host.run([], *words)
@@ -193,7 +267,12 @@ def limits(folder):
     folder.mkdir()
     host, clip, opened = Host(folder, NOTES), DATA / "scene-cuts.ivf", folder / "opened"
     most = 2**63 - 1
-    for words, wanted in (([], "bytes 536870912"), (["cache=7"], "states 7"), (["cache_bytes=1"], "bytes 1"), ([f"cache_bytes={most}"], f"bytes {most}")):
+    for words, wanted in (
+        ([], "bytes 536870912"),
+        (["cache=7"], "states 7"),
+        (["cache_bytes=1"], "bytes 1"),
+        ([f"cache_bytes={most}"], f"bytes {most}"),
+    ):
         opened.unlink(missing_ok=True)
         status, lines, _ = host.run([3, 0], f"path={clip}", *words)
         if status or len(lines) != 3 or opened.read_text() != wanted + "\n":
@@ -201,19 +280,30 @@ def limits(folder):
 
 
 # The functions of VSAPI up to the last one that the plugin calls, in the order of VapourSynth's API 4.
-ORDER = """createVideoFilter createVideoFilter2 createAudioFilter createAudioFilter2 setLinearFilter setCacheMode setCacheOptions freeNode addNodeRef getNodeType getVideoInfo getAudioInfo
-newVideoFrame newVideoFrame2 newAudioFrame newAudioFrame2 freeFrame addFrameRef copyFrame getFramePropertiesRO getFramePropertiesRW getStride getReadPtr getWritePtr getVideoFrameFormat
-getAudioFrameFormat getFrameType getFrameWidth getFrameHeight getFrameLength getVideoFormatName getAudioFormatName queryVideoFormat queryAudioFormat queryVideoFormatID getVideoFormatByID getFrame
-getFrameAsync getFrameFilter requestFrameFilter releaseFrameEarly cacheFrame setFilterError createFunction freeFunction addFunctionRef callFunction createMap freeMap clearMap copyMap mapSetError
-mapGetError mapNumKeys mapGetKey mapDeleteKey mapNumElements mapGetType mapSetEmpty mapGetInt mapGetIntSaturated mapGetIntArray mapSetInt mapSetIntArray mapGetFloat mapGetFloatSaturated
-mapGetFloatArray mapSetFloat mapSetFloatArray mapGetData mapGetDataSize mapGetDataTypeHint mapSetData""".split()
+ORDER = """createVideoFilter createVideoFilter2 createAudioFilter createAudioFilter2 setLinearFilter setCacheMode
+setCacheOptions freeNode addNodeRef getNodeType getVideoInfo getAudioInfo newVideoFrame newVideoFrame2 newAudioFrame
+newAudioFrame2 freeFrame addFrameRef copyFrame getFramePropertiesRO getFramePropertiesRW getStride getReadPtr
+getWritePtr getVideoFrameFormat getAudioFrameFormat getFrameType getFrameWidth getFrameHeight getFrameLength
+getVideoFormatName getAudioFormatName queryVideoFormat queryAudioFormat queryVideoFormatID getVideoFormatByID getFrame
+getFrameAsync getFrameFilter requestFrameFilter releaseFrameEarly cacheFrame setFilterError createFunction freeFunction
+addFunctionRef callFunction createMap freeMap clearMap copyMap mapSetError mapGetError mapNumKeys mapGetKey mapDeleteKey
+mapNumElements mapGetType mapSetEmpty mapGetInt mapGetIntSaturated mapGetIntArray mapSetInt mapSetIntArray mapGetFloat
+mapGetFloatSaturated mapGetFloatArray mapSetFloat mapSetFloatArray mapGetData mapGetDataSize mapGetDataTypeHint
+mapSetData""".split()
 
 
 def order():
-    """Each function that the plugin calls has its number in that order, which the compiler compares with its place in the struct."""
+    """Each function that the plugin calls has its number in that order, which the compiler compares with its place in
+    the struct.
+    """
     header = (TOP / "clients/vapoursynth/vapoursynth4.h").read_text()
-    numbers = {name: int(number) for name, number in re.findall(r"^WOKURETI_IS_AT\((\w+), (\d+)\);", header, re.MULTILINE)}
-    called = set(re.findall(r"\bapi->(\w+)\(", (TOP / "clients/vapoursynth/wokureti.c").read_text())) - {"configPlugin", "registerFunction"}
+    numbers = {
+        name: int(number) for name, number in re.findall(r"^WOKURETI_IS_AT\((\w+), (\d+)\);", header, re.MULTILINE)
+    }
+    called = set(re.findall(r"\bapi->(\w+)\(", (TOP / "clients/vapoursynth/wokureti.c").read_text())) - {
+        "configPlugin",
+        "registerFunction",
+    }
     for name in sorted(called | set(numbers)):
         if name not in ORDER or numbers.get(name) != ORDER.index(name):
             yield f"{name} has the number {numbers.get(name)} in vapoursynth4.h"
@@ -231,9 +321,20 @@ def sizes(host, folder):
     script = "source 1; splice 0 1"
     count = len(kinds(clip))
     replies, samples, (width, height) = served([clip, other], [0, count, 1, count + 1], script)
-    status, lines, got = host.run([0, count, 1, count + 1], f"path={clip}", f"sources={other}", f"script={script}", threads=1)
-    wanted = f"{count} error wokureti: {clip}: frame {count}: refused SizeDiffers: 32x16 is not {width}x{height}, the size of the first frame served"
-    if status or got != samples or lines[2] != wanted or replies[1] not in wanted or not lines[4].startswith(f"{count + 1} error "):
+    status, lines, got = host.run(
+        [0, count, 1, count + 1], f"path={clip}", f"sources={other}", f"script={script}", threads=1
+    )
+    wanted = (
+        f"{count} error wokureti: {clip}: frame {count}: refused SizeDiffers: 32x16 is not {width}x{height}, the size"
+        " of the first frame served"
+    )
+    if (
+        status
+        or got != samples
+        or lines[2] != wanted
+        or replies[1] not in wanted
+        or not lines[4].startswith(f"{count + 1} error ")
+    ):
         yield f"frames of two sizes: status {status}, {lines}"
 
 
@@ -244,7 +345,9 @@ def rates(host, folder):
     shown = kinds(DATA / "scene-cuts.ivf")
     for step, rate in ((Fraction(100, 3), "30/1"), (40, "25/1"), (Fraction(125, 3), "24/1")):
         stamps = [round(place * step) for place in range(len(data))]
-        texts = {"ivf": b"".join(ivf.pieces(ivf.Head(head.width, head.height, 1000, 1), len(data), list(zip(stamps, data))))}
+        texts = {
+            "ivf": b"".join(ivf.pieces(ivf.Head(head.width, head.height, 1000, 1), len(data), list(zip(stamps, data))))
+        }
         if reads_webm():
             texts["webm"] = webm(data, stamps)
         else:
@@ -258,7 +361,9 @@ def rates(host, folder):
 
 
 def guide(host, folder):
-    """The lines of clients/README.md: the plugin that they build makes the clip, and the source in Python makes its own, over a stub."""
+    """The lines of docs/guide/c.md: the plugin that they build makes the clip, and the source in Python makes its own,
+    over a stub.
+    """
     guides.checkout(folder, LIBRARY)
     build, use, python = guides.blocks("VapourSynth")
     status, said = guides.run(build, folder, dict(os.environ))
@@ -272,9 +377,19 @@ def guide(host, folder):
     def source(path, sources, script, cache):
         built = copy.copy(host)
         built.plugin = folder / loaded[0]
-        return built.run([0], f"path={folder / path}", *(f"sources={folder / one}" for one in sources), f"script={script}", f"cache={cache}")[1][0]
+        return built.run(
+            [0],
+            f"path={folder / path}",
+            *(f"sources={folder / one}" for one in sources),
+            f"script={script}",
+            f"cache={cache}",
+        )[1][0]
 
-    names = {"core": types.SimpleNamespace(std=types.SimpleNamespace(LoadPlugin=loaded.append), wokureti=types.SimpleNamespace(Source=source))}
+    names = {
+        "core": types.SimpleNamespace(
+            std=types.SimpleNamespace(LoadPlugin=loaded.append), wokureti=types.SimpleNamespace(Source=source)
+        )
+    }
     exec(use, names)
     if f"frames {2 * len(kinds(clip))} " not in names["clip"]:
         yield f"the guide's clip: {names['clip']}"
@@ -291,9 +406,6 @@ def main():
     if not LIBRARY.is_file():
         print("skipped: the library is not built: ./build.py --library makes it")
         return 0
-    if not hasattr(ctypes.CDLL(str(LIBRARY)), "wk_open_bytes"):
-        print("skipped: the library is an earlier one, without wk_open_bytes")
-        return 0
     chance = random.Random(75)
     with tempfile.TemporaryDirectory() as name:
         folder = pathlib.Path(name)
@@ -301,12 +413,32 @@ def main():
         if not host.is_checked:
             print("skipped: the compiler has no -fsanitize=address")
         if not host.has_header:
-            print("skipped: VapourSynth is not there: the plugin is compiled with the declarations of clients/vapoursynth/vapoursynth4.h, and loaded by tests/vapoursynth_host.c")
-        clip, other, key = DATA / "hidden-altref.ivf", DATA / "scene-cuts.ivf", ivf.read_packets(DATA / "scene-cuts.ivf")[1][0][1]
-        wrong = [*order(), *frames(host, clip, chance), *frames(host, other, chance, cache=["cache=2"]), *refusals(host, folder), *limits(folder / "limits")]
+            print(
+                "skipped: VapourSynth is not there: the plugin is compiled with the declarations of"
+                " clients/vapoursynth/vapoursynth4.h, and loaded by tests/vapoursynth_host.c"
+            )
+        clip, other, key = (
+            DATA / "hidden-altref.ivf",
+            DATA / "scene-cuts.ivf",
+            ivf.read_packets(DATA / "scene-cuts.ivf")[1][0][1],
+        )
+        wrong = [
+            *order(),
+            *frames(host, clip, chance),
+            *frames(host, other, chance, cache=["cache=2"]),
+            *refusals(host, folder),
+            *limits(folder / "limits"),
+        ]
         wrong += frames(host, other, chance, cache=["cache_bytes=1"])
         wrong += frames(host, clip, chance, script="crop 0 2 2 16 8; trim 1 3 4", shown=range(3, 7))
-        wrong += frames(host, clip, chance, script="source 1; trim 1 0 4; splice 2 1; fade 3 0 4 256 0", sources=[clip], shown=[*range(4), *range(len(kinds(clip)))])
+        wrong += frames(
+            host,
+            clip,
+            chance,
+            script="source 1; trim 1 0 4; splice 2 1; fade 3 0 4 256 0",
+            sources=[clip],
+            shown=[*range(4), *range(len(kinds(clip)))],
+        )
         wrong += frames(host, written(folder, "middle.ivf", {4: bytes(2), 7: key}), chance)
         wrong += [*sizes(host, folder), *rates(host, folder), *guide(host, folder / "guide")]
         wrong += frames(host, written(folder, "first.ivf", {0: b"\x10\x00", 2: key}, step=5), chance)

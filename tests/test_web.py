@@ -1,9 +1,10 @@
 #!/usr/bin/env python3
-"""Tests the engine of the page in one file in Node: its frames of all stored clips and conformance streams, its replies to random requests, and the files
-that its edits save are those of vp8serve; files, lists and requests that it refuses. tests/test_one_file.py opens the page in browsers.
+"""Tests the engine of the page in one file in Node: its frames of all stored clips and conformance streams, its replies
+to random requests, and the files that its edits save are those of vp8serve; files, lists and requests that it refuses.
+tests/test_one_file.py opens the page in browsers.
 
-The page is that of the variable WOKURETI_PAGE, or bin/wokureti.html: ./build.py --web makes it. It prints what differs and ends with 1, or prints nothing and ends
-with 0; a line `skipped: ..` names what could not be run.
+The page is that of the variable WOKURETI_PAGE, or bin/wokureti.html: ./build.py --web makes it. It prints what differs
+and ends with 1, or prints nothing and ends with 0; a line `skipped: ..` names what could not be run.
 """
 
 import base64
@@ -23,8 +24,8 @@ TOP = pathlib.Path(__file__).resolve().parent.parent
 sys.path[1:1] = [str(TOP), str(TOP / "clients/python"), str(TOP / "compare")]
 import test_library  # noqa: E402
 from wokureti import Session  # noqa: E402
-from wokureti.session.lines import is_edit  # noqa: E402
-from wokureti.tools import ivf  # noqa: E402
+from wokureti.base.lines import is_edit  # noqa: E402
+from wokureti.media import ivf  # noqa: E402
 from release import page  # noqa: E402
 from release.sources import Failed, version  # noqa: E402
 from library.webm import webm  # noqa: E402
@@ -47,15 +48,25 @@ class Node:
 
     def tasks(self, tasks):
         """The result of each task."""
-        done = ran("node", TOP / "tests/web_session.js", PAGE, input="".join(json.dumps(task, default=str) + "\n" for task in tasks), text=True)
+        done = ran(
+            "node",
+            TOP / "tests/web_session.js",
+            PAGE,
+            input="".join(json.dumps(task, default=str) + "\n" for task in tasks),
+            text=True,
+        )
         lines = done.stdout.splitlines()
         if done.returncode or len(lines) != len(tasks):
-            raise SystemExit(f"Node: status {done.returncode}, {len(lines)} of {len(tasks)} results: {done.stderr[-1000:]}")
+            raise SystemExit(
+                f"Node: status {done.returncode}, {len(lines)} of {len(tasks)} results: {done.stderr[-1000:]}"
+            )
         return [json.loads(line) for line in lines]
 
 
 def served(path):
-    """For each frame of a stream the MD5 of its samples, or why vp8serve refuses it. A run of vp8serve serves frames of one size."""
+    """For each frame of a stream the MD5 of its samples, or why vp8serve refuses it. A run of vp8serve serves frames of
+    one size.
+    """
     count = int(ran(SERVE, path, input=b"count\n").stdout.split()[3])
     found, left = [None] * count, list(range(count))
     while left:
@@ -66,7 +77,9 @@ def served(path):
         reasons = dict(line.split(": frame: ", 1) for line in done.stderr.decode().splitlines() if ": frame: " in line)
         replies = dict(zip(left, done.stdout.decode().splitlines()))
         for line, n in enumerate(left):
-            found[n] = hashlib.md5(next(samples)).hexdigest() if replies[n] == f"served {n}" else reasons[f"line {line + 1}"]
+            found[n] = (
+                hashlib.md5(next(samples)).hexdigest() if replies[n] == f"served {n}" else reasons[f"line {line + 1}"]
+            )
         left = [n for n, reply in replies.items() if reply == "refused SizeDiffers"]
     return found
 
@@ -89,7 +102,10 @@ def frames(node):
         for name in ("found", "again"):
             if result.get(name) != wanted:
                 differ = [n for n, (mine, other) in enumerate(zip(result.get(name, []), wanted)) if mine != other]
-                yield f"{path.name}, {name}: {result.get('error') or [(n, result[name][n], wanted[n]) for n in differ[:2]]}"
+                yield (
+                    f"{path.name}, {name}:"
+                    f" {result.get('error') or [(n, result[name][n], wanted[n]) for n in differ[:2]]}"
+                )
 
 
 def lists(node, chance, folder):
@@ -117,8 +133,21 @@ def lists(node, chance, folder):
 
 def questions(node, folder):
     """Questions whose replies have several lines: packets, a header, macroblocks, also after an edit."""
-    lines = ["list 0 4", "header 0", "macroblocks 0", "delete 1", "macroblocks 1", "header 2", "list 0 3", "origins 0 5"]
-    tasks = [{"file": path, "states": 4, "lines": lines, "out": None, "save": folder / "questions.ivf"} for path in CLIPS if path.stem in EDITED]
+    lines = [
+        "list 0 4",
+        "header 0",
+        "macroblocks 0",
+        "delete 1",
+        "macroblocks 1",
+        "header 2",
+        "list 0 3",
+        "origins 0 5",
+    ]
+    tasks = [
+        {"file": path, "states": 4, "lines": lines, "out": None, "save": folder / "questions.ivf"}
+        for path in CLIPS
+        if path.stem in EDITED
+    ]
     for task, result in zip(tasks, node.tasks(tasks)):
         wanted = ran(SERVE, task["file"], input="".join(f"{line}\n" for line in lines).encode()).stdout.decode()
         if "".join(f"{reply}\n" for reply in result.get("replies", [])) != wanted:
@@ -126,7 +155,9 @@ def questions(node, folder):
 
 
 def bounded(node, folder):
-    """The pictures of a hundred packets of 2048x2048 take more than the editor's limit. The file's header has no size to reckon with."""
+    """The pictures of a hundred packets of 2048x2048 take more than the editor's limit. The file's header has no size
+    to reckon with.
+    """
     path, count = folder / "large.ivf", 100
     ran(SERVE, "-", "-", "--save", path, input=b"count\n")
     lines = ["blank 0 2048 2048"] * count + [f"frame {n}" for n in range(count)]
@@ -138,13 +169,17 @@ def bounded(node, folder):
 
 
 def saved(node, chance, folder):
-    """Random lists of edits as steps, of which some are undone and made again: files that are saved and exported are those that vp8serve writes with the same lines."""
+    """Random lists of edits as steps, of which some are undone and made again: files that are saved and exported are
+    those that vp8serve writes with the same lines.
+    """
     tasks, wanted = [], []
     for number in range(SAVES):
         clip = chance.choice([EXAMPLE, *(path for path in CLIPS if path.stem in EDITED)])
         lines = [line for line in test_library.requests(chance, 1, 20, False).splitlines() if is_edit(line.strip())]
         accepted = made(clip, lines)
-        mine, other, exported, export = (folder / f"{number}-{name}.ivf" for name in ("mine", "other", "exported", "export"))
+        mine, other, exported, export = (
+            folder / f"{number}-{name}.ivf" for name in ("mine", "other", "exported", "export")
+        )
         asks = [["ask", [[line], {}]] for line in accepted]
         if accepted:
             asks += [["ask", ["undo", {}]], ["ask", ["redo", {}]]]
@@ -153,7 +188,9 @@ def saved(node, chance, folder):
         text = "".join(f"{line}\n" for line in accepted).encode()
         restamps = ["--restamp"] if is_changed(clip, text) else []
         ran(SERVE, clip, "-", "--save", other, "--pad", *restamps, input=text)
-        wanted.append((accepted, other, exported, ran(SERVE, clip, "-", "--export", exported, "--pad", input=text).returncode))
+        wanted.append(
+            (accepted, other, exported, ran(SERVE, clip, "-", "--export", exported, "--pad", input=text).returncode)
+        )
     for task, result, (accepted, other, exported, status) in zip(tasks, node.tasks(tasks), wanted):
         mine, export = task["saves"]
         where = f"{task['files'][0].name}, {'; '.join(accepted)[:300]}"
@@ -181,8 +218,15 @@ def is_changed(clip, text):
 
 
 def refused(node, folder):
-    """Files that are refused, lists that are not this stream's, and requests of another revision: each is a sentence, and nothing is lost."""
-    files = {"empty.ivf": b"", "text.ivf": b"a text and no stream " * 9, "other.webm": webm([b"\0" * 40], [0], codec=b"V_VP9"), "short.ivf": EXAMPLE.read_bytes()[:20]}
+    """Files that are refused, lists that are not this stream's, and requests of another revision: each is a sentence,
+    and nothing is lost.
+    """
+    files = {
+        "empty.ivf": b"",
+        "text.ivf": b"a text and no stream " * 9,
+        "other.webm": webm([b"\0" * 40], [0], codec=b"V_VP9"),
+        "short.ivf": EXAMPLE.read_bytes()[:20],
+    }
     says = {"empty.ivf": "Header", "text.ivf": "Magic", "other.webm": "NoVideo", "short.ivf": "Header"}
     tasks = []
     for name, data in files.items():
@@ -190,12 +234,34 @@ def refused(node, folder):
         tasks.append({"files": [EXAMPLE], "asks": [["add", [{"file": folder / name}]], ["state", []]]})
     for (name, word), result in zip(says.items(), node.tasks(tasks)):
         said, state = result.get("results", [None] * 4)[2:4]
-        if not said or word not in said.get("refused", {}).get("error", "") or state["packets"] != 48 or len(state["sources"]) != 1:
+        if (
+            not said
+            or word not in said.get("refused", {}).get("error", "")
+            or state["packets"] != 48
+            or len(state["sources"]) != 1
+        ):
             yield f"{name}: {result.get('error') or said} {state and state['sources']}"
     yield from lists_of_others(node)
-    (result,) = node.tasks([{"files": [EXAMPLE], "asks": [["ask", [["delete 3"], {"revision": 9}]], ["ask", [["delete 3", "delete 99"], {}]], ["ask", [["delete 3"], {}]], ["state", []]]}])
+    (result,) = node.tasks(
+        [
+            {
+                "files": [EXAMPLE],
+                "asks": [
+                    ["ask", [["delete 3"], {"revision": 9}]],
+                    ["ask", [["delete 3", "delete 99"], {}]],
+                    ["ask", [["delete 3"], {}]],
+                    ["state", []],
+                ],
+            }
+        ]
+    )
     stale, second, fine, state = result["results"][2:]
-    if "changed" not in stale["refused"]["error"] or second["refused"]["reply"] != "refused Place" or fine["reply"] != "ok 47" or state["edits"] != ["delete 3"]:
+    if (
+        "changed" not in stale["refused"]["error"]
+        or second["refused"]["reply"] != "refused Place"
+        or fine["reply"] != "ok 47"
+        or state["edits"] != ["delete 3"]
+    ):
         yield f"refused edits: {stale}, {second}, {fine['reply']}, {state['edits']}"
 
 
@@ -216,7 +282,10 @@ def lists_of_others(node):
         "a carriage return": f"{first}delete 3\rdelete 4\n",
     }
     texts = [good, *bad.values()]
-    for name, result in zip(["good", *bad], node.tasks([{"files": [EXAMPLE], "asks": [["take", [text]], ["state", []], ["text", []]]} for text in texts])):
+    for name, result in zip(
+        ["good", *bad],
+        node.tasks([{"files": [EXAMPLE], "asks": [["take", [text]], ["state", []], ["text", []]]} for text in texts]),
+    ):
         if result.get("error"):
             yield f"a list, {name}: {result['error']}"
             continue
@@ -230,17 +299,33 @@ def previews(node):
     """Frames and findings after edits that are not made change nothing: no edit, no redo, no file."""
     given = [["ask", [["delete 5"], {}]], ["ask", [["hold 3"], {}]], ["ask", ["undo", {}]]]
     after = [["state", []], ["text", []]]
-    looks = [["beside.frames", [["delete 5", "delete 7"], [0, 7]]], ["beside.findings", [["delete 5", "replace 9 1000"], 9]], ["beside.before", [0, [5]]], ["beside.packet", [["delete 5"], 0, 9]]]
-    plain, looked = node.tasks([{"files": [EXAMPLE], "asks": [*given, *asks, *after, ["ask", ["redo", {}]]]} for asks in ([], looks)])
+    looks = [
+        ["beside.frames", [["delete 5", "delete 7"], [0, 7]]],
+        ["beside.findings", [["delete 5", "replace 9 1000"], 9]],
+        ["beside.before", [0, [5]]],
+        ["beside.packet", [["delete 5"], 0, 9]],
+    ]
+    plain, looked = node.tasks(
+        [{"files": [EXAMPLE], "asks": [*given, *asks, *after, ["ask", ["redo", {}]]]} for asks in ([], looks)]
+    )
     if plain.get("error") or looked.get("error"):
         yield f"previews: {plain.get('error') or looked.get('error')}"
         return
-    without = lambda found: [{**one, "instance": 0} if isinstance(one, dict) and "instance" in one else one for one in found]  # noqa: E731
-    if without(plain["results"][-3:-1]) != without(looked["results"][-3:-1]) or looked["results"][-1]["reply"] != ["hold 3"]:
+    without = lambda found: [
+        {**one, "instance": 0} if isinstance(one, dict) and "instance" in one else one for one in found
+    ]  # noqa: E731
+    if without(plain["results"][-3:-1]) != without(looked["results"][-3:-1]) or looked["results"][-1]["reply"] != [
+        "hold 3"
+    ]:
         yield f"previews: the state is another one: {looked['results'][-3:]}"
     frames, findings, before, packet = looked["results"][5:9]
     wanted = served(EXAMPLE)
-    if before != [wanted[5]] or frames[0] != wanted[0] or not any(one["kind"] == "refused" for one in findings) or len(packet) != 1:
+    if (
+        before != [wanted[5]]
+        or frames[0] != wanted[0]
+        or not any(one["kind"] == "refused" for one in findings)
+        or len(packet) != 1
+    ):
         yield f"previews: {before}, {findings}"
 
 
@@ -258,26 +343,60 @@ def wide(folder):
 
 def planted(node):
     """A fault of the module, and a memory that is full: a sentence each, and no edit is lost."""
-    asks = [["ask", [["delete 3"], {}]], ["fault", []], ["frames", [[2]]], ["state", []], ["frames", [[2]]], ["full", [1]], ["ask", [["delete 5"], {}]], ["state", []], ["ask", [["delete 5"], {}]], ["full", [2]], ["save", [0]], ["frames", [[2]]]]
+    asks = [
+        ["ask", [["delete 3"], {}]],
+        ["fault", []],
+        ["frames", [[2]]],
+        ["state", []],
+        ["frames", [[2]]],
+        ["full", [1]],
+        ["ask", [["delete 5"], {}]],
+        ["state", []],
+        ["ask", [["delete 5"], {}]],
+        ["full", [2]],
+        ["save", [0]],
+        ["frames", [[2]]],
+    ]
     (result,) = node.tasks([{"files": [EXAMPLE], "asks": asks, "saves": []}])
     if result.get("error"):
         yield f"planted faults: {result['error']}"
         return
     _, _, first, _, fault, after, frame, _, full, state, again, _, save, last = result["results"]
     wanted = served(EXAMPLE)[2]
-    if "started again" not in fault["refused"]["error"] or after["restarts"] != 1 or after["edits"] != ["delete 3"] or frame != [wanted]:
+    if (
+        "started again" not in fault["refused"]["error"]
+        or after["restarts"] != 1
+        or after["edits"] != ["delete 3"]
+        or frame != [wanted]
+    ):
         yield f"a fault of the module: {fault}, {after['edits']}, {after['restarts']}"
-    if "memory" not in full["refused"]["error"] or state["edits"] != ["delete 3"] or again["reply"] != "ok 46" or "memory" not in save["refused"]["error"] or last != [wanted]:
+    if (
+        "memory" not in full["refused"]["error"]
+        or state["edits"] != ["delete 3"]
+        or again["reply"] != "ok 46"
+        or "memory" not in save["refused"]["error"]
+        or last != [wanted]
+    ):
         yield f"a memory that is full: {full}, {state['edits']}, {again['reply']}, {save}"
 
 
 # What may be refused for memory, after edits of which one was undone.
-BEGUN = [["ask", [["delete 7"], {}]], ["ask", [["hold 1", "hold 2"], {"title": "two"}]], ["ask", [["use 1"], {}]], ["ask", [["use 0"], {}]], ["ask", [["copy 1 0 4"], {}]], ["ask", ["undo", {}]]]
+BEGUN = [
+    ["ask", [["delete 7"], {}]],
+    ["ask", [["hold 1", "hold 2"], {"title": "two"}]],
+    ["ask", [["use 1"], {}]],
+    ["ask", [["use 0"], {}]],
+    ["ask", [["copy 1 0 4"], {}]],
+    ["ask", ["undo", {}]],
+]
 ACTS = {
     "delete": ["ask", [["delete 3"], {}]],
     "several": ["ask", [["delete 9", "hold 2", "copy 0 3 9", "use 1", "delete 1"], {"title": "several"}]],
     "a script": ["ask", [["script trim 0 0 9"], {}]],
-    "an edit and what is shown of it": ["ask", [["insert 5 7 110011"], {"page": {"source": 0, "packet": 3, "tiles": [[1, 0]]}}]],
+    "an edit and what is shown of it": [
+        "ask",
+        [["insert 5 7 110011"], {"page": {"source": 0, "packet": 3, "tiles": [[1, 0]]}}],
+    ],
     "undo": ["ask", ["undo", {}]],
     "redo": ["ask", ["redo", {}]],
     "save": ["save", [0]],
@@ -288,18 +407,27 @@ ACTS = {
 
 
 def without_memory(node):
-    """Each request for memory that an act makes is refused in turn, and each answer is lost: a sentence, and edits, redo, packets and frames are as before."""
+    """Each request for memory that an act makes is refused in turn, and each answer is lost: a sentence, and edits,
+    redo, packets and frames are as before.
+    """
     files = [EXAMPLE, TOP / "crates/gate_clips/data/scene-cuts.ivf"]
     for what, act in ACTS.items():
         # A frame has its room from before.
         kinds = ("checked",) if what == "a frame" else ("room", "checked")
-        for kind, result in zip(kinds, node.tasks([{"files": files, "asks": BEGUN, "act": act, "refused": kind} for kind in kinds])):
+        for kind, result in zip(
+            kinds, node.tasks([{"files": files, "asks": BEGUN, "act": act, "refused": kind} for kind in kinds])
+        ):
             if result.get("error") or result["wrong"] or not result["turns"]:
-                yield f"{what} without memory ({kind}): {str(result.get('error') or result['wrong'] or 'nothing is refused')[:900]}"
+                yield (
+                    f"{what} without memory ({kind}):"
+                    f" {str(result.get('error') or result['wrong'] or 'nothing is refused')[:900]}"
+                )
 
 
 def few_pages(node, folder):
-    """A module whose memory may have few pages: each act is made, or is a sentence about memory, and the list has the edits that were made."""
+    """A module whose memory may have few pages: each act is made, or is a sentence about memory, and the list has the
+    edits that were made.
+    """
     edits = [["ask", [[f"insert 40 7 {'11' * size}"], {}]] for size in (400000,) * 4 + (9000,) * 6 + (60,) * 6]
     asks = [*edits, ["lines", []], ["save", [0]], ["frames", [[20]]], ["ask", ["undo", {}]], ["lines", []]]
     opened, refusals, turns = 0, 0, (17, 150, 200, 240, 280, 400)
@@ -327,7 +455,9 @@ def progress(node, folder):
     """While a file is opened the worker says how much of it is read."""
     head, packets = ivf.read_packets(EXAMPLE)
     path = folder / "padded.ivf"
-    path.write_bytes(b"".join(ivf.pieces(head, len(packets), [(stamp, data + bytes(400000)) for stamp, data in packets])))
+    path.write_bytes(
+        b"".join(ivf.pieces(head, len(packets), [(stamp, data + bytes(400000)) for stamp, data in packets]))
+    )
     (result,) = node.tasks([{"files": [path], "asks": [["events", []]]}])
     parts = [one["part"] for one in result.get("results", [None, None, []])[2]]
     if len(parts) < 3 or parts != sorted(parts) or not 0 < parts[0] < parts[-1] <= 1:
@@ -336,7 +466,12 @@ def progress(node, folder):
 
 def joined_wrongly(folder):
     """Modules that cannot be joined, and what a page must have."""
-    for name, text in {"an import that is not known": 'import x from "./b.js";\n', "one at a time": 'const y = import("./b.js");\n', "an export that is not known": "export default 3;\n", "a circle": 'import "./a.js";\n'}.items():
+    for name, text in {
+        "an import that is not known": 'import x from "./b.js";\n',
+        "one at a time": 'const y = import("./b.js");\n',
+        "an export that is not known": "export default 3;\n",
+        "a circle": 'import "./a.js";\n',
+    }.items():
         (folder / "a.js").write_text(text)
         (folder / "b.js").write_text("export const x = 3;\n")
         kept, page.FOLDER = page.FOLDER, folder
@@ -357,9 +492,19 @@ def joined_wrongly(folder):
         pass
     script = re.search(r"<script>(.*)</script>", one.decode(), re.S).group(1)
     policy = re.search(r'Content-Security-Policy" content="([^"]*)"', one.decode()).group(1)
-    if f"'sha256-{base64.b64encode(hashlib.sha256(script.encode()).digest()).decode()}'" not in policy or "connect-src" in policy or "default-src 'none'" not in policy:
+    if (
+        f"'sha256-{base64.b64encode(hashlib.sha256(script.encode()).digest()).decode()}'" not in policy
+        or "connect-src" in policy
+        or "default-src 'none'" not in policy
+    ):
         yield f"the policy is {policy}"
-    if re.search(r"https?://(?!www\.w3\.org/2000/svg)|(?:await|return|=) fetch\(|XMLHttpRequest|WebSocket|sendBeacon|<link (?![^>]*data:)|<img [^>]*src=\"(?!data:)", one.decode()):
+    if re.search(
+        (
+            r"https?://(?!www\.w3\.org/2000/svg)|(?:await|return|=) fetch\(|XMLHttpRequest|WebSocket|sendBeacon|<link"
+            r" (?![^>]*data:)|<img [^>]*src=\"(?!data:)"
+        ),
+        one.decode(),
+    ):
         yield "the page asks for something from elsewhere"
 
 
@@ -382,7 +527,19 @@ def main():
         else:
             wrong += stale()
             node = Node()
-            wrong += [*frames(node), *lists(node, chance, folder), *questions(node, folder), *bounded(node, folder), *saved(node, chance, folder), *refused(node, folder), *previews(node), *planted(node), *without_memory(node), *few_pages(node, folder), *progress(node, folder)]
+            wrong += [
+                *frames(node),
+                *lists(node, chance, folder),
+                *questions(node, folder),
+                *bounded(node, folder),
+                *saved(node, chance, folder),
+                *refused(node, folder),
+                *previews(node),
+                *planted(node),
+                *without_memory(node),
+                *few_pages(node, folder),
+                *progress(node, folder),
+            ]
     print("".join(line + "\n" for line in wrong), end="")
     return 1 if wrong else 0
 

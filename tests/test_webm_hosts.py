@@ -1,10 +1,11 @@
 #!/usr/bin/env python3
-"""Tests that every host of the engine opens the same WebM file and serves its frame 12: vp8serve, a program in C, Python without a process, a program in Rust, GStreamer,
-the VapourSynth plugin and the module of the page in Node give the samples that ffmpeg and vpxdec decode.
+"""Tests that every host of the engine opens the same WebM file and serves its frame 12: vp8serve, a program in C,
+Python without a process, a program in Rust, GStreamer, the VapourSynth plugin and the module of the page in Node give
+the samples that ffmpeg and vpxdec decode.
 
-The file has the packets of examples/mandelbrot.ivf, written here. The programs are those of VP8SERVE and VP8LIST, the library that of LIBWOKURETI or bin/libwokureti.so.0, the
-page that of WOKURETI_PAGE or bin/wokureti.html. It prints what differs and ends with 1, or prints nothing and ends with 0; a line `skipped: ..` names a host
-that is not there.
+The file has the packets of examples/mandelbrot.ivf, written here. The programs are those of VP8SERVE and VP8LIST, the
+library that of LIBWOKURETI or bin/libwokureti.so.0, the page that of WOKURETI_PAGE or bin/wokureti.html. It prints what
+differs and ends with 1, or prints nothing and ends with 0; a line `skipped: ..` names a host that is not there.
 """
 
 import json
@@ -24,8 +25,8 @@ import test_vapoursynth  # noqa: E402
 from library.ivf import records  # noqa: E402
 from library.webm import webm  # noqa: E402
 from wokureti import Session  # noqa: E402
+from wokureti.base import programs  # noqa: E402
 from wokureti.session import library  # noqa: E402
-from wokureti.tools import programs  # noqa: E402
 
 SERVE = os.environ.get("VP8SERVE") or str(TOP / "bin/vp8serve")
 LIBRARY = pathlib.Path(os.environ.get("LIBWOKURETI") or TOP / "bin/libwokureti.so.0")
@@ -65,7 +66,21 @@ def need(*names):
 
 def by_ffmpeg(clip, folder):
     need("ffmpeg")
-    pixels = ran("ffmpeg", "-nostdin", "-v", "error", "-i", clip, "-fps_mode", "passthrough", "-f", "rawvideo", "-pix_fmt", "yuv420p", "-")
+    pixels = ran(
+        "ffmpeg",
+        "-nostdin",
+        "-v",
+        "error",
+        "-i",
+        clip,
+        "-fps_mode",
+        "passthrough",
+        "-f",
+        "rawvideo",
+        "-pix_fmt",
+        "yuv420p",
+        "-",
+    )
     return pixels[NUMBER * SIZE : (NUMBER + 1) * SIZE]
 
 
@@ -86,7 +101,19 @@ def by_program(clip, folder):
 def by_c(clip, folder):
     need("gcc")
     program, out = folder / "session", folder / "c"
-    ran("gcc", "-std=c11", "-D_GNU_SOURCE", "-O1", "-I", TOP / "clients/c/include", "-o", program, TOP / "clients/c/session.c", LIBRARY, f"-Wl,-rpath,{LIBRARY.parent}")
+    ran(
+        "gcc",
+        "-std=c11",
+        "-D_GNU_SOURCE",
+        "-O1",
+        "-I",
+        TOP / "clients/c/include",
+        "-o",
+        program,
+        TOP / "clients/c/session.c",
+        LIBRARY,
+        f"-Wl,-rpath,{LIBRARY.parent}",
+    )
     ran(program, out, 4, "-", "-", "-", clip, input=f"frame {NUMBER}\n".encode())
     return out.read_bytes()
 
@@ -104,8 +131,25 @@ def by_rust(clip, folder):
     (crates / "wokureti/examples/frame.rs").write_text(RUST)
     for name in ("libwokureti.so", "libwokureti.so.0"):
         shutil.copyfile(LIBRARY, folder / name)
-    room = {**os.environ, "WOKURETI_LIB": str(folder), "CARGO_TARGET_DIR": str(folder / "target"), "LD_LIBRARY_PATH": str(folder)}
-    words = ["cargo", "run", "--offline", "--locked", "--quiet", "--manifest-path", crates / "wokureti/Cargo.toml", "--example", "frame", "--", clip]
+    room = {
+        **os.environ,
+        "WOKURETI_LIB": str(folder),
+        "CARGO_TARGET_DIR": str(folder / "target"),
+        "LD_LIBRARY_PATH": str(folder),
+    }
+    words = [
+        "cargo",
+        "run",
+        "--offline",
+        "--locked",
+        "--quiet",
+        "--manifest-path",
+        crates / "wokureti/Cargo.toml",
+        "--example",
+        "frame",
+        "--",
+        clip,
+    ]
     return ran(*words, env=room, cwd=folder)
 
 
@@ -113,7 +157,11 @@ def by_gstreamer(clip, folder):
     need("gcc", "pkg-config", "gst-launch-1.0")
     if subprocess.run(["pkg-config", "--exists", *test_gstreamer.NEEDED], timeout=LIMIT, check=False).returncode:
         raise Skipped("GStreamer's headers are not there")
-    out, room = folder / "gstreamer", {**os.environ, "GST_PLUGIN_PATH": str(test_gstreamer.compiled(folder / "plugin")), "GST_REGISTRY": str(folder / "registry")}
+    out, room = folder / "gstreamer", {
+        **os.environ,
+        "GST_PLUGIN_PATH": str(test_gstreamer.compiled(folder / "plugin")),
+        "GST_REGISTRY": str(folder / "registry"),
+    }
     ran("gst-launch-1.0", "-q", "wokuretisrc", f"location={clip}", "!", "filesink", f"location={out}", env=room)
     return out.read_bytes()[NUMBER * SIZE : (NUMBER + 1) * SIZE]
 
@@ -133,7 +181,10 @@ def by_page(clip, folder):
         raise Skipped("the page is not built: ./build.py --web makes it")
     out = folder / "page"
     task = {"file": str(clip), "lines": [f"frame {NUMBER}"], "out": str(out), "save": str(folder / "page.ivf")}
-    [result] = map(json.loads, ran("node", TOP / "tests/web_session.js", PAGE, input=(json.dumps(task) + "\n").encode()).splitlines())
+    [result] = map(
+        json.loads,
+        ran("node", TOP / "tests/web_session.js", PAGE, input=(json.dumps(task) + "\n").encode()).splitlines(),
+    )
     if "error" in result:
         raise OSError(result["error"])
     return out.read_bytes()
@@ -141,7 +192,13 @@ def by_page(clip, folder):
 
 DECODERS = {"ffmpeg": by_ffmpeg, "vpxdec": by_vpxdec}
 # Those that need the library.
-LOADING = {"C": by_c, "Python without a process": by_python, "Rust": by_rust, "GStreamer": by_gstreamer, "VapourSynth's host": by_vapoursynth}
+LOADING = {
+    "C": by_c,
+    "Python without a process": by_python,
+    "Rust": by_rust,
+    "GStreamer": by_gstreamer,
+    "VapourSynth's host": by_vapoursynth,
+}
 HOSTS = {"vp8serve": by_program, **LOADING, "the page in Node": by_page}
 
 
@@ -159,7 +216,9 @@ def main():
     with tempfile.TemporaryDirectory() as room:
         folder = pathlib.Path(room)
         clip = folder / "clip.webm"
-        clip.write_bytes(webm([data for _, data in packets], [40 * place for place in range(len(packets))], duration=40_000_000))
+        clip.write_bytes(
+            webm([data for _, data in packets], [40 * place for place in range(len(packets))], duration=40_000_000)
+        )
         for name, by in {**DECODERS, **HOSTS}.items():
             try:
                 if why is not None and name in LOADING:
@@ -172,7 +231,9 @@ def main():
     wanted = next((found[name] for name in DECODERS if name in found), None)
     if wanted is None or len(wanted) != SIZE:
         wrong.append("no decoder shows the frame")
-    wrong += [f"{name}: {len(samples)} bytes that are other samples" for name, samples in found.items() if samples != wanted]
+    wrong += [
+        f"{name}: {len(samples)} bytes that are other samples" for name, samples in found.items() if samples != wanted
+    ]
     print("".join(line + "\n" for line in wrong), end="")
     return 1 if wrong else 0
 

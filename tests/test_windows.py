@@ -1,9 +1,11 @@
 #!/usr/bin/env python3
-"""Tests the programs and the library for Windows under wine: the rows, clips, findings and stored runs of tests/run.py; saves over files that are open elsewhere; long
-names, names that are not ASCII, drives; a full disk, Ctrl-C, a kill, a closed pipe; random request lists answered by a C program over the library.
+"""Tests the programs and the library for Windows under wine: the rows, clips, findings and stored runs of tests/run.py;
+saves over files that are open elsewhere; long names, names that are not ASCII, drives; a full disk, Ctrl-C, a kill, a
+closed pipe; random request lists answered by a C program over the library.
 
-What they must print, write and return is what the native programs do. The files are those of the variable WOKURETI_WINDOWS, or bin/windows: ./build.py --windows makes
-them. It prints what differs and ends with 1, or prints nothing and ends with 0; a line `skipped: ..` names what could not be run.
+What they must print, write and return is what the native programs do. The files are those of the variable
+WOKURETI_WINDOWS, or bin/windows: ./build.py --windows makes them. It prints what differs and ends with 1, or prints
+nothing and ends with 0; a line `skipped: ..` names what could not be run.
 """
 
 import contextlib
@@ -47,15 +49,31 @@ class Wine:
     def __init__(self, folder):
         self.folder = folder
         given = {name: value for name, value in os.environ.items() if name not in ("DISPLAY", "WAYLAND_DISPLAY")}
-        self.environment = {**given, "WINEPREFIX": str(folder / "settings"), "WINEDEBUG": "-all", "LC_ALL": "C.UTF-8", "WINEDLLOVERRIDES": "mscoree,mshtml="}
+        self.environment = {
+            **given,
+            "WINEPREFIX": str(folder / "settings"),
+            "WINEDEBUG": "-all",
+            "LC_ALL": "C.UTF-8",
+            "WINEDLLOVERRIDES": "mscoree,mshtml=",
+        }
         self.program = wine_program("wine64")
 
     def __enter__(self):
-        subprocess.run([self.program, "wineboot", "-i"], env=self.environment, capture_output=True, timeout=SUITE_LIMIT, check=True)
+        # wineserver asks for a folder that is there
+        pathlib.Path(self.environment["WINEPREFIX"]).mkdir()
+        # without -p the server ends three seconds after the last program, and a program that starts meanwhile can fail
+        # the server goes on with what it was given as its output, so that is no pipe
+        null = {"stdout": subprocess.DEVNULL, "stderr": subprocess.DEVNULL}
+        subprocess.run([wine_program("wineserver"), "-p"], env=self.environment, timeout=LIMIT, check=True, **null)
+        subprocess.run(
+            [self.program, "wineboot", "-i"], env=self.environment, capture_output=True, timeout=SUITE_LIMIT, check=True
+        )
         return self
 
     def __exit__(self, *_):
-        subprocess.run([wine_program("wineserver"), "-k"], env=self.environment, capture_output=True, timeout=LIMIT, check=False)
+        subprocess.run(
+            [wine_program("wineserver"), "-k"], env=self.environment, capture_output=True, timeout=LIMIT, check=False
+        )
 
     def drive(self, letter, folder):
         (self.folder / f"settings/dosdevices/{letter}:").symlink_to(folder)
@@ -68,26 +86,47 @@ class Wine:
         return subprocess.Popen([*self.words(program), *map(str, words)], env=self.environment, **{**streams, **more})
 
     def run(self, program, *words, data=b"", **more):
-        return subprocess.run([*self.words(program), *map(str, words)], env=self.environment, input=data, capture_output=True, timeout=LIMIT, check=False, **more)
+        return subprocess.run(
+            [*self.words(program), *map(str, words)],
+            env=self.environment,
+            input=data,
+            capture_output=True,
+            timeout=LIMIT,
+            check=False,
+            **more,
+        )
 
     def script(self, program, name):
         """A script that runs a program, for what starts a native one."""
-        path, variables = self.folder / name, [f"{key}={shlex.quote(self.environment[key])}" for key in ("WINEPREFIX", "WINEDEBUG", "LC_ALL")]
-        path.write_text(f'#!/bin/sh\nunset DISPLAY WAYLAND_DISPLAY\nexport {" ".join(variables)}\nexec {shlex.join(self.words(program))} "$@"\n')
+        path, variables = self.folder / name, [
+            f"{key}={shlex.quote(self.environment[key])}" for key in ("WINEPREFIX", "WINEDEBUG", "LC_ALL")
+        ]
+        path.write_text(
+            f'#!/bin/sh\nunset DISPLAY WAYLAND_DISPLAY\nexport {" ".join(variables)}\nexec'
+            f' {shlex.join(self.words(program))} "$@"\n'
+        )
         path.chmod(0o755)
         return path
 
 
 def native(*words, data=b"", program=SERVE, **more):
-    return subprocess.run([program, *map(str, words)], input=data, capture_output=True, timeout=LIMIT, check=False, **more)
+    return subprocess.run(
+        [program, *map(str, words)], input=data, capture_output=True, timeout=LIMIT, check=False, **more
+    )
 
 
 def unlike(where, mine, wanted, names=()):
-    """What a run differs in from the native one. `names` has pairs: a name that the one prints, and that of the other."""
+    """What a run differs in from the native one. `names` has pairs: a name that the one prints, and that of the
+    other.
+    """
     errors = mine.stderr.decode(errors="replace")
     for own, other in names:
         errors = errors.replace(str(own), str(other))
-    found = {"status": (mine.returncode, wanted.returncode), "replies": (mine.stdout, wanted.stdout), "messages": (errors, wanted.stderr.decode(errors="replace"))}
+    found = {
+        "status": (mine.returncode, wanted.returncode),
+        "replies": (mine.stdout, wanted.stdout),
+        "messages": (errors, wanted.stderr.decode(errors="replace")),
+    }
     return [f"{where}: {what} {got!r:.300}, not {need!r:.300}" for what, (got, need) in found.items() if got != need]
 
 
@@ -97,11 +136,23 @@ def unfinished(folder):
 
 def suites(wine):
     """Tests of tests/run.py, over these programs."""
-    variables = {"VP8SERVE": str(wine.script("vp8serve.exe", "serve")), "VP8LIST": str(wine.script("vp8list.exe", "list"))}
+    variables = {
+        "VP8SERVE": str(wine.script("vp8serve.exe", "serve")),
+        "VP8LIST": str(wine.script("vp8list.exe", "list")),
+    }
     words = [sys.executable, TOP / "tests/run.py", *SUITES]
-    done = subprocess.run(list(map(str, words)), env={**os.environ, **variables}, capture_output=True, text=True, timeout=SUITE_LIMIT, check=False)
+    done = subprocess.run(
+        list(map(str, words)),
+        env={**os.environ, **variables},
+        capture_output=True,
+        text=True,
+        timeout=SUITE_LIMIT,
+        check=False,
+    )
     if done.returncode:
-        yield from (line for line in done.stdout.splitlines() if not line.startswith("ok ") and not line.startswith("skipped"))
+        yield from (
+            line for line in done.stdout.splitlines() if not line.startswith("ok ") and not line.startswith("skipped")
+        )
         yield f"tests/run.py {' '.join(SUITES)}: status {done.returncode} {done.stderr[-500:]}"
 
 
@@ -111,18 +162,44 @@ def named(wine, folder):
     odd = folder / "größe 日本 – Ω"
     for place in (deep, odd):
         place.mkdir(parents=True)
-    kinds = {"a drive": (folder, "W:\\"), "slashes": (folder, "W:/"), "a long name": (deep, f"Z:{str(deep)}/".replace("/", "\\")), "not ASCII": (odd, f"W:\\{odd.name}\\"), "Unix": (odd, f"{odd}/")}
+    kinds = {
+        "a drive": (folder, "W:\\"),
+        "slashes": (folder, "W:/"),
+        "a long name": (deep, f"Z:{str(deep)}/".replace("/", "\\")),
+        "not ASCII": (odd, f"W:\\{odd.name}\\"),
+        "Unix": (odd, f"{odd}/"),
+    }
     for what, (place, prefix) in kinds.items():
         shutil.copyfile(SMALL, place / "in.ivf")
-        wanted = native(place / "in.ivf", "-", place / "native.y4m", "--save", place / "native.ivf", data=b"delete 1\nframe 0\nframe 2\n")
+        wanted = native(
+            place / "in.ivf",
+            "-",
+            place / "native.y4m",
+            "--save",
+            place / "native.ivf",
+            data=b"delete 1\nframe 0\nframe 2\n",
+        )
         (place / "mine.ivf").write_bytes(OLD)
-        mine = wine.run("vp8serve.exe", f"{prefix}in.ivf", "-", f"{prefix}mine.y4m", "--save", f"{prefix}mine.ivf", data=b"delete 1\nframe 0\nframe 2\n")
+        mine = wine.run(
+            "vp8serve.exe",
+            f"{prefix}in.ivf",
+            "-",
+            f"{prefix}mine.y4m",
+            "--save",
+            f"{prefix}mine.ivf",
+            data=b"delete 1\nframe 0\nframe 2\n",
+        )
         yield from unlike(what, mine, wanted)
         for end in ("y4m", "ivf"):
             if (place / f"mine.{end}").read_bytes() != (place / f"native.{end}").read_bytes():
                 yield f"{what}: another .{end}"
         shown = prefix.replace("\\", "/")
-        yield from unlike(f"{what}, missing", wine.run("vp8list.exe", f"{prefix}no.ivf"), native(place / "no.ivf", program=LIST), [(f"{shown}no.ivf", place / "no.ivf")])
+        yield from unlike(
+            f"{what}, missing",
+            wine.run("vp8list.exe", f"{prefix}no.ivf"),
+            native(place / "no.ivf", program=LIST),
+            [(f"{shown}no.ivf", place / "no.ivf")],
+        )
         yield from (f"{what}: {name} is left" for name in unfinished(place))
 
 
@@ -131,7 +208,11 @@ def relative(wine, folder):
     (folder / "inner").mkdir()
     shutil.copyfile(SMALL, folder / "inner/in.ivf")
     wanted = native("inner/in.ivf", "-", "native.y4m", data=b"frame 3\n", cwd=folder)
-    yield from unlike("a relative name", wine.run("vp8serve.exe", "inner\\in.ivf", "-", ".\\inner\\..\\mine.y4m", data=b"frame 3\n", cwd=folder), wanted)
+    yield from unlike(
+        "a relative name",
+        wine.run("vp8serve.exe", "inner\\in.ivf", "-", ".\\inner\\..\\mine.y4m", data=b"frame 3\n", cwd=folder),
+        wanted,
+    )
     if (folder / "mine.y4m").read_bytes() != (folder / "native.y4m").read_bytes():
         yield "a relative name: another .y4m"
 
@@ -141,14 +222,30 @@ def sources(wine, folder):
     for name, clip in (("a", SMALL), ("b", OTHER)):
         shutil.copyfile(clip, folder / f"{name}.ivf")
     data = b"script source 1; source 2; splice 0 1\ncount\nframe 0\nuse 2\ncount\n"
-    for number, (given, wanted) in enumerate((("W:\\a.ivf;W:\\b.ivf", "{0}/a.ivf:{0}/b.ivf"), ("W:/b.ivf;w:\\a.ivf", "{0}/b.ivf:{0}/a.ivf"), ("a.ivf;b.ivf", "a.ivf:b.ivf"), ("\\b.ivf:a.ivf", "b.ivf:a.ivf"))):
+    for number, (given, wanted) in enumerate(
+        (
+            ("W:\\a.ivf;W:\\b.ivf", "{0}/a.ivf:{0}/b.ivf"),
+            ("W:/b.ivf;w:\\a.ivf", "{0}/b.ivf:{0}/a.ivf"),
+            ("a.ivf;b.ivf", "a.ivf:b.ivf"),
+            ("\\b.ivf:a.ivf", "b.ivf:a.ivf"),
+        )
+    ):
         mine, other = folder / f"mine{number}.y4m", folder / f"native{number}.y4m"
         done = wine.run("vp8serve.exe", f"Z:{SMALL}", "-", mine.name, "--sources", given, data=data, cwd=folder)
-        yield from unlike(f"--sources {given}", done, native(SMALL, "-", other, "--sources", wanted.format(folder), data=data, cwd=folder))
+        yield from unlike(
+            f"--sources {given}",
+            done,
+            native(SMALL, "-", other, "--sources", wanted.format(folder), data=data, cwd=folder),
+        )
         if mine.read_bytes() != other.read_bytes():
             yield f"--sources {given}: another .y4m"
     done = wine.run("vp8serve.exe", f"Z:{SMALL}", "-", "-", "--sources", "W:\\a.ivf;W:\\no.ivf")
-    yield from unlike("a missing source", done, native(SMALL, "-", "-", "--sources", f"{folder}/a.ivf:{folder}/no.ivf"), [("W|/no.ivf", folder / "no.ivf")])
+    yield from unlike(
+        "a missing source",
+        done,
+        native(SMALL, "-", "-", "--sources", f"{folder}/a.ivf:{folder}/no.ivf"),
+        [("W|/no.ivf", folder / "no.ivf")],
+    )
 
 
 @contextlib.contextmanager
@@ -180,8 +277,14 @@ def over_open_files(wine, folder):
         is_refused = found == OLD and str(path).encode() in done.stderr and b"Permission denied" in done.stderr
         is_right = found == wanted if done.returncode == 0 else is_refused
         if not is_right or unfinished(place):
-            yield f"a save over an open file, {words}: status {done.returncode}, {done.stderr!r}, {len(found)} bytes, {unfinished(place)}"
-        if wine.run("vp8serve.exe", SMALL, "-", "-", "--save", path, data=b"delete 1\n").returncode or path.read_bytes() != wanted:
+            yield (
+                f"a save over an open file, {words}: status {done.returncode}, {done.stderr!r}, {len(found)} bytes,"
+                f" {unfinished(place)}"
+            )
+        if (
+            wine.run("vp8serve.exe", SMALL, "-", "-", "--save", path, data=b"delete 1\n").returncode
+            or path.read_bytes() != wanted
+        ):
             yield f"a save over a file that was open, {words}: it is not replaced"
 
 
@@ -189,7 +292,12 @@ def over_open_files(wine, folder):
 def volume(folder):
     """A volume of 32 KB, less than the largest clip has, or None."""
     folder.mkdir()
-    is_there = subprocess.run(["mount", "-t", "tmpfs", "-o", "size=32k", "tmpfs", folder], capture_output=True, check=False).returncode == 0
+    is_there = (
+        subprocess.run(
+            ["mount", "-t", "tmpfs", "-o", "size=32k", "tmpfs", folder], capture_output=True, check=False
+        ).returncode
+        == 0
+    )
     try:
         yield folder if is_there else None
     finally:
@@ -206,7 +314,10 @@ def full_disk(wine, folder):
         wine.drive("v", disk)
         saved, names = disk / "saved.ivf", [("V:/", f"{disk}/")]
         saved.write_bytes(OLD)
-        for what, given, own in (("a save", ["-", "-", "--save", "V:\\saved.ivf"], ["-", "-", "--save", saved]), ("an output", ["-", "V:\\out.y4m"], ["-", disk / "out.y4m"])):
+        for what, given, own in (
+            ("a save", ["-", "-", "--save", "V:\\saved.ivf"], ["-", "-", "--save", saved]),
+            ("an output", ["-", "V:\\out.y4m"], ["-", disk / "out.y4m"]),
+        ):
             data = b"frame 0\nframe 1\nframe 2\n"
             wanted, after = native(LARGE, *own, "--explain", data=data), sorted(path.name for path in disk.iterdir())
             (disk / "out.y4m").unlink(missing_ok=True)
@@ -260,7 +371,12 @@ def killed_saves(wine, folder):
 def closed_pipe(wine, _):
     """Nobody reads the replies."""
     ended = []
-    for start in (wine.start, lambda _, *words: subprocess.Popen([SERVE, *map(str, words)], stdin=subprocess.PIPE, stdout=subprocess.PIPE, stderr=subprocess.PIPE)):
+    for start in (
+        wine.start,
+        lambda _, *words: subprocess.Popen(
+            [SERVE, *map(str, words)], stdin=subprocess.PIPE, stdout=subprocess.PIPE, stderr=subprocess.PIPE
+        ),
+    ):
         with start("vp8serve.exe", SMALL, "-", "-") as process:
             process.stdout.close()
             with contextlib.suppress(BrokenPipeError):
@@ -274,7 +390,13 @@ def closed_pipe(wine, _):
 
 
 def compiled(out, words):
-    done = subprocess.run([COMPILER, *C_OPTIONS, *map(str, words), "-o", str(out)], capture_output=True, text=True, timeout=LIMIT, check=False)
+    done = subprocess.run(
+        [COMPILER, *C_OPTIONS, *map(str, words), "-o", str(out)],
+        capture_output=True,
+        text=True,
+        timeout=LIMIT,
+        check=False,
+    )
     if done.returncode:
         raise SystemExit(f"{out.name} does not compile: {done.stderr[-1000:]}")
 
@@ -283,7 +405,17 @@ def by_the_library(wine, folder):
     """Request lists of tests/test_library.py, answered by a C program over the library."""
     shutil.copyfile(FOLDER / "wokureti.dll", folder / "wokureti.dll")
     include = TOP / "clients/c/include"
-    compiled(folder / "session.exe", ["-include", TOP / "tests/windows_lines.h", "-I", include, TOP / "clients/c/session.c", folder / "wokureti.dll"])
+    compiled(
+        folder / "session.exe",
+        [
+            "-include",
+            TOP / "tests/windows_lines.h",
+            "-I",
+            include,
+            TOP / "clients/c/session.c",
+            folder / "wokureti.dll",
+        ],
+    )
     session, chance, room = [wine.script(folder / "session.exe", "session")], random.Random(94), folder / "lists"
     room.mkdir()
     yield from test_library.refusals(session, room)
@@ -301,7 +433,17 @@ def main():
     wrong = []
     with tempfile.TemporaryDirectory() as name, Wine(pathlib.Path(name)) as wine:
         wine.drive("w", pathlib.Path(name))
-        for test in (named, relative, sources, over_open_files, full_disk, interrupted, killed_saves, closed_pipe, by_the_library):
+        for test in (
+            named,
+            relative,
+            sources,
+            over_open_files,
+            full_disk,
+            interrupted,
+            killed_saves,
+            closed_pipe,
+            by_the_library,
+        ):
             wrong += test(wine, pathlib.Path(name))
         wrong += suites(wine)
     print("".join(line + "\n" for line in wrong), end="")

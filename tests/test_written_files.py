@@ -1,9 +1,9 @@
 #!/usr/bin/env python3
 """Tests the files that vp8serve writes: OUT and the files of --save and --export.
 
-Neither is standard output's file or standard error's; a link is followed from its own folder; a saved file keeps its mode and its owner, is
-brought to the disk before it replaces the old one, and a file that may not be written is refused.
-It prints what differs and ends with 1, or prints nothing but what it skipped, and ends with 0.
+Neither is standard output's file or standard error's; a link is followed from its own folder; a saved file keeps its
+mode and its owner, is brought to the disk before it replaces the old one, and a file that may not be written is
+refused. It prints what differs and ends with 1, or prints nothing but what it skipped, and ends with 0.
 """
 
 import contextlib
@@ -28,8 +28,12 @@ STREAM, SHORTER = ivf(16, 16, [KEY, KEY]), ivf(16, 16, [KEY])
 # The packet ends empty, so an export has a byte 00 after it.
 EXPORTED = ivf(16, 16, [KEY + bytes(1)])
 FRESH = "vp8serve-unfinished-save-1"
-REPLIES = "vp8serve: command line: {} {} is standard output, so replies would be among the {}: name /dev/fd/3 3>&1 >replies\n"
-ERRORS = "vp8serve: command line: {} {} is standard error, so messages would be among the {}: name another file for {}\n"
+REPLIES = (
+    "vp8serve: command line: {} {} is standard output, so replies would be among the {}: name /dev/fd/3 3>&1 >replies\n"
+)
+ERRORS = (
+    "vp8serve: command line: {} {} is standard error, so messages would be among the {}: name another file for {}\n"
+)
 NOBODY = 65534
 LIMIT = 60
 
@@ -45,7 +49,9 @@ def ran(*words, lines="", program=SERVE, **options):
     """The status and the texts of a run; a text that goes to a file is None."""
     options = {"stdout": subprocess.PIPE, "stderr": subprocess.PIPE, **options}
     done = subprocess.run([str(program), *map(str, words)], input=lines.encode(), timeout=LIMIT, check=False, **options)
-    return done.returncode, *(None if text is None else text.decode(errors="replace") for text in (done.stdout, done.stderr))
+    return done.returncode, *(
+        None if text is None else text.decode(errors="replace") for text in (done.stdout, done.stderr)
+    )
 
 
 def put(name="a.ivf", data=STREAM):
@@ -53,32 +59,58 @@ def put(name="a.ivf", data=STREAM):
 
 
 def to_standard_output():
-    """OUT, --save or --export is standard output's file, by its name, by a link, by its descriptor; nothing is written then."""
+    """OUT, --save or --export is standard output's file, by its name, by a link, by its descriptor; nothing is written
+    then.
+    """
     os.symlink("both", "link")
     for more in ([], ["--live"]):
         for path in ("both", "./both", "link", "/dev/stdout", "/dev/fd/1", "/proc/self/fd/1"):
-            for argument, content, words in (("OUT", "frames", ["-", path]), ("--save", "packets", ["-", "-", "--save", path]), ("--export", "packets", ["-", "-", "--export", path])):
+            for argument, content, words in (
+                ("OUT", "frames", ["-", path]),
+                ("--save", "packets", ["-", "-", "--save", path]),
+                ("--export", "packets", ["-", "-", "--export", path]),
+            ):
                 put("both", b"")
                 with open("both", "r+b") as both:
                     told = ran("a.ivf", *words, *more, lines="frame 0\n", stdout=both)
                 expect(f"{argument} {path} {more}", told, (2, None, REPLIES.format(argument, path, content)))
                 expect(f"{argument} {path} {more} is empty", pathlib.Path("both").read_bytes(), b"")
-        expect(f"a pipe {more}", ran("a.ivf", "-", "-", "--save", "/dev/stdout", *more, lines="count\n"), (2, "", REPLIES.format("--save", "/dev/stdout", "packets")))
+        expect(
+            f"a pipe {more}",
+            ran("a.ivf", "-", "-", "--save", "/dev/stdout", *more, lines="count\n"),
+            (2, "", REPLIES.format("--save", "/dev/stdout", "packets")),
+        )
     with open("/dev/null", "wb") as nothing:
-        expect("/dev/null", ran("a.ivf", "-", "/dev/stdout", "--save", "/dev/stdout", lines="frame 0\n", stdout=nothing), (0, None, ""))
+        expect(
+            "/dev/null",
+            ran("a.ivf", "-", "/dev/stdout", "--save", "/dev/stdout", lines="frame 0\n", stdout=nothing),
+            (0, None, ""),
+        )
     os.unlink("link")
 
 
 def to_standard_error():
     """OUT, --save or --export is standard error's file."""
     for path in ("told", "/dev/stderr", "/dev/fd/2"):
-        for argument, content, words in (("OUT", "frames", ["-", path]), ("--save", "packets", ["-", "-", "--save", path]), ("--export", "packets", ["-", "-", "--export", path])):
+        for argument, content, words in (
+            ("OUT", "frames", ["-", path]),
+            ("--save", "packets", ["-", "-", "--save", path]),
+            ("--export", "packets", ["-", "-", "--export", path]),
+        ):
             with open("told", "w+b") as told:
                 status = ran("a.ivf", *words, lines="frame 0\n", stderr=told)
                 told.seek(0)
-                expect(f"{argument} {path}", (*status, told.read().decode(errors="replace")), (2, "", None, ERRORS.format(argument, path, content, argument)))
+                expect(
+                    f"{argument} {path}",
+                    (*status, told.read().decode(errors="replace")),
+                    (2, "", None, ERRORS.format(argument, path, content, argument)),
+                )
     with open("/dev/null", "wb") as nothing:
-        expect("no messages", ran("a.ivf", "-", "/dev/stderr", "--save", "/dev/null", lines="frame 0\n", stderr=nothing), (0, "served 0\n", None))
+        expect(
+            "no messages",
+            ran("a.ivf", "-", "/dev/stderr", "--save", "/dev/null", lines="frame 0\n", stderr=nothing),
+            (0, "served 0\n", None),
+        )
 
 
 def beside_a_descriptor():
@@ -101,7 +133,11 @@ def by_links():
             expect(path, ran("a.ivf", *words, lines="delete 1\n"), (0, "ok 1\n", ""))
             made = pathlib.Path("sub/target")
             expect(f"{path}: what it leads to", made.read_bytes() if made.exists() else None, b"" if out else SHORTER)
-            expect(f"{path}: other files", [name for name in ("target", "sub/deep/target", "link") if os.path.lexists(name)], [])
+            expect(
+                f"{path}: other files",
+                [name for name in ("target", "sub/deep/target", "link") if os.path.lexists(name)],
+                [],
+            )
         expect(f"{path} is a link", os.path.islink(path), True)
 
 
@@ -118,7 +154,11 @@ def kept_attributes():
         expect(f"mode {mode:o}", ran("a.ivf", "-", "-", "--save", "old.ivf", lines="delete 1\n"), (0, "ok 1\n", ""))
         after = os.stat("old.ivf")
         expect(f"mode {mode:o}: the file", pathlib.Path("old.ivf").read_bytes(), SHORTER)
-        expect(f"mode {mode:o}: mode and owner", (after.st_mode, after.st_uid, after.st_gid), (before.st_mode, before.st_uid, before.st_gid))
+        expect(
+            f"mode {mode:o}: mode and owner",
+            (after.st_mode, after.st_uid, after.st_gid),
+            (before.st_mode, before.st_uid, before.st_gid),
+        )
         expect(f"mode {mode:o}: a new file", after.st_ino != before.st_ino, True)
         os.unlink("old.ivf")
     old = os.umask(0o027)
@@ -143,14 +183,22 @@ def refused_read_only(room):
     os.chmod("kept.ivf", 0o444)
     if user:
         os.chown("kept.ivf", NOBODY, NOBODY)
-    status, replies, told = ran("a.ivf", "-", "-", "--save", "kept.ivf", "--explain", lines="delete 1\n", program=program, **user)
-    expect("a read-only file", (status, replies, told), (1, "ok 1\n", "vp8serve: cannot write\n--save kept.ivf cannot be created: Permission denied (os error 13)\n"))
+    status, replies, told = ran(
+        "a.ivf", "-", "-", "--save", "kept.ivf", "--explain", lines="delete 1\n", program=program, **user
+    )
+    expect(
+        "a read-only file",
+        (status, replies, told),
+        (1, "ok 1\n", "vp8serve: cannot write\n--save kept.ivf cannot be created: Permission denied (os error 13)\n"),
+    )
     expect("a read-only file: its bytes", pathlib.Path("kept.ivf").read_bytes(), STREAM)
     expect("a read-only file: other files", list(pathlib.Path().glob("vp8serve-unfinished-*")), [])
 
 
 def in_order():
-    """The calls of a save: the new file is written whole, brought to the disk, and only then renamed; both are asked of the system."""
+    """The calls of a save: the new file is written whole, brought to the disk, and only then renamed; both are asked of
+    the system.
+    """
     put("old.ivf")
     calls = []
 
@@ -164,12 +212,18 @@ def in_order():
         files = {0: nothing.fileno(), 1: sinks[0].fileno(), 2: sinks[1].fileno()}
         ended = traced(Program(str(SERVE)), ["a.ivf", "-", "-", "--save", "old.ivf"], files, None, note)
     expect("calls of a save: status", ended.status, 0)
-    expect("calls of a save", [kind for at, kind in enumerate(calls) if calls[at - 1 : at] != [kind]], ["write", "fsync", "rename"])
+    expect(
+        "calls of a save",
+        [kind for at, kind in enumerate(calls) if calls[at - 1 : at] != [kind]],
+        ["write", "fsync", "rename"],
+    )
 
 
 def both_or_neither():
-    """`--save` and `--export` of one run: both new files are written whole and brought to the disk before either is renamed. Each of these calls is
-    refused in turn: neither file is replaced then, unless only the second one could not be renamed, and no new file is left."""
+    """`--save` and `--export` of one run: both new files are written whole and brought to the disk before either is
+    renamed. Each of these calls is refused in turn: neither file is replaced then, unless only the second one could not
+    be renamed, and no new file is left.
+    """
     old = {"saved.ivf": b"an old file", "exported.ivf": b"another one"}
     kinds, at = [], 0
     while True:
@@ -190,7 +244,13 @@ def both_or_neither():
             requests.seek(0)
             sinks = [opened.enter_context(tempfile.TemporaryFile()) for _ in range(2)]
             files = {0: requests.fileno(), 1: sinks[0].fileno(), 2: sinks[1].fileno()}
-            ended = traced(Program(str(SERVE)), ["a.ivf", "-", "-", "--save", "saved.ivf", "--export", "exported.ivf"], files, None, change)
+            ended = traced(
+                Program(str(SERVE)),
+                ["a.ivf", "-", "-", "--save", "saved.ivf", "--export", "exported.ivf"],
+                files,
+                None,
+                change,
+            )
         now = {name: pathlib.Path(name).read_bytes() for name in old}
         left = [path.name for path in pathlib.Path().glob("vp8serve-unfinished-save-*")]
         if at > len(calls):
@@ -209,17 +269,35 @@ def both_or_neither():
 def kinds_of_both(calls):
     """The calls without repeated writes, and the number of the second rename, or 0."""
     renames = [number for number, kind in enumerate(calls, 1) if kind == "rename"]
-    return [kind for at, kind in enumerate(calls) if kind != "write" or calls[at - 1 : at] != ["write"]], renames[1] if len(renames) > 1 else 0
+    return [kind for at, kind in enumerate(calls) if kind != "write" or calls[at - 1 : at] != ["write"]], (
+        renames[1] if len(renames) > 1 else 0
+    )
 
 
 def unexported_is_unsaved():
-    """A refused export: the file of `--save` is as it was, and no new file is left, also with `--live`, whose new files are made before the first line."""
+    """A refused export: the file of `--save` is as it was, and no new file is left, also with `--live`, whose new files
+    are made before the first line.
+    """
     for more in ([], ["--live"]):
         put("saved.ivf", b"an old file")
-        told = ran("a.ivf", "-", "-", "--save", "saved.ivf", "--export", "exported.ivf", *more, lines="delete 1\nscript fade 0 0 1 0 0\n")
+        told = ran(
+            "a.ivf",
+            "-",
+            "-",
+            "--save",
+            "saved.ivf",
+            "--export",
+            "exported.ivf",
+            *more,
+            lines="delete 1\nscript fade 0 0 1 0 0\n",
+        )
         expect(f"refused export {more}: status and replies", told[:2], (1, "ok 1\nok 1\n"))
         left = sorted(path.name for path in pathlib.Path().glob("*.ivf") if path.name != "a.ivf")
-        expect(f"refused export {more}: files", (left, pathlib.Path("saved.ivf").read_bytes()), (["saved.ivf"], b"an old file"))
+        expect(
+            f"refused export {more}: files",
+            (left, pathlib.Path("saved.ivf").read_bytes()),
+            (["saved.ivf"], b"an old file"),
+        )
         expect(f"refused export {more}: new files", list(pathlib.Path().glob("vp8serve-unfinished-save-*")), [])
 
 

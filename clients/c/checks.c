@@ -1,16 +1,20 @@
-/* Checks of the library that need C: checks growths|rooms|fuzz|threads FILE.
+/* Checks of the library that need C: checks growths|rooms|fuzz|threads|stacks|nulls|numbers FILE.
  *
  * growths  each request for memory of a fixed list of calls is refused in turn; the call says so, can be made again, and everything after it is
  *          as without the refusal. It is linked with the archive and --wrap=malloc,--wrap=realloc
  * rooms    frames in rooms of every size around the one that is needed, with strides around the width: each ends at a page that may not be touched
  * fuzz     a million lines of random words and bytes are answered
  * threads  two sessions in two threads serve the frames that one serves alone
+ * numbers  each call has the numbers that the header names, and leaves what it says
+ * nulls    a handle or a result that is NULL is a number, and nothing is done
+ * stacks   each call has enough with WK_STACK bytes of stack, below which is a page that may not be touched
  * It prints what is wrong and ends with 1, or prints nothing and ends with 0. */
 #include <pthread.h>
 #include <stdio.h>
 #include <stdlib.h>
 #include <string.h>
 #include <sys/mman.h>
+#include <ucontext.h>
 #include <unistd.h>
 
 #include "wokureti.h"
@@ -308,8 +312,158 @@ static void threads(void) {
         if (sums[k] != sums[4]) fail("another result in a thread", k);
 }
 
+/* Frames in order and from the last one back, every kind of request, and files. Little of the stack is its own. */
+static run small;
+
+static void calls_of_all_kinds(void) {
+    static const char *lines[] = {"check 0 1000", "check 0 1000", "macroblocks 0", "macroblocks 1", "header 0", "header 1", "list 0 1000", "origins 0 1000", "packet 0", "script", "stats", "hide 1", "show 1", "use 0", "frame 0", "frame 2"};
+    run *r = &small;
+    open_run(r);
+    for (uint64_t n = 0; n < 30; n++) frame(r, n);
+    for (uint64_t n = 30; n-- > 0;) frame(r, n);
+    for (size_t k = 0; k < sizeof lines / sizeof *lines; k++) ask(r, lines[k]);
+    wk_close(&r->handle);
+    calls(r);
+}
+
+static void stacks(void) {
+    size_t page = (size_t)sysconf(_SC_PAGESIZE);
+    uint8_t *whole = mmap(NULL, page + WK_STACK, PROT_READ | PROT_WRITE, MAP_PRIVATE | MAP_ANONYMOUS, -1, 0);
+    if (whole == MAP_FAILED || mprotect(whole, page, PROT_NONE)) fail("no guarded stack", 0);
+    small = (run){.room = __real_malloc(ROOM), .room_size = ROOM};
+    static ucontext_t here, there;
+    if (getcontext(&there)) fail("no context", 0);
+    there.uc_stack.ss_sp = whole + page;
+    there.uc_stack.ss_size = WK_STACK;
+    there.uc_link = &here;
+    makecontext(&there, calls_of_all_kinds, 0);
+    if (swapcontext(&here, &there)) fail("the calls were not made", 0);
+    if (!small.sum || small.handle.at) fail("the calls did not end", 0);
+    free(small.room);
+    munmap(whole, page + WK_STACK);
+}
+
+/* Each call with each pointer that may not be NULL as NULL. The session, its text and the results are as before. */
+static void nulls(void) {
+    run r = {.room = __real_malloc(ROOM), .room_size = ROOM};
+    size_t length = 0, kept = 0;
+    wk_shown shown = {0};
+    wk_fault fault = {7, 7};
+    wk_unexported why = {7, 7, 7, 7};
+    wk_handle *at = &r.handle, *none = NULL;
+    const uint8_t *line = (const uint8_t *)"delete 1";
+    open_run(&r);
+    if (wk_request(at, (const uint8_t *)"count", 5, &length) != WK_OK || !length) fail("no count", 0);
+    uint32_t found[] = {
+        wk_open(none, file, file_size, &file_size, 1, 4, NULL, 0, &fault), wk_open(at, file, file_size, &file_size, 1, 4, NULL, 0, NULL),
+        wk_open_bytes(none, file, file_size, &file_size, 1, 4, NULL, 0, &fault), wk_open_bytes(at, file, file_size, &file_size, 1, 4, NULL, 0, NULL),
+        wk_frame(none, 0, NULL, 0, NULL, 0, NULL, 0, &shown), wk_frame(at, 0, NULL, 0, NULL, 0, NULL, 0, NULL),
+        wk_request(none, line, 8, &kept), wk_request(at, line, 8, NULL), wk_why(none, &kept), wk_why(at, NULL),
+        wk_save(none, true, &kept), wk_save(at, true, NULL), wk_save_source(none, 0, true, true, &kept), wk_save_source(at, 0, true, true, NULL),
+        wk_export(none, true, &kept, &why), wk_export(at, true, NULL, &why), wk_export(at, true, &kept, NULL),
+        wk_text(none, r.room, r.room_size, &kept), wk_text(at, r.room, r.room_size, NULL),
+    };
+    for (size_t k = 0; k < sizeof found / sizeof *found; k++)
+        if (found[k] != WK_ARGUMENT) fail("NULL has another number", (long)k);
+    wk_close(none);
+    if (kept || fault.source != 7 || why.frame != 7 || shown.width) fail("a result was written", (long)kept);
+    if (wk_text(at, r.room, r.room_size, &kept) || kept != length || memcmp(r.room, "packets ", 8)) fail("another text", (long)kept);
+    size_t again = 0;
+    if (wk_request(at, (const uint8_t *)"count", 5, &again) || again != length) fail("another count", (long)again);
+    wk_close(at);
+    free(r.room);
+}
+
+static void expect(const char *what, uint32_t found, uint32_t wanted) {
+    if (found != wanted) fail(what, (long)found);
+}
+
+/* The numbers of opening: the handle holds nothing afterwards. */
+static void opening(run *r) {
+    static const uint8_t none[40] = "not a file of packets, but long enough";
+    size_t nine[9] = {0}, back[2] = {file_size, 10}, far = file_size + 1, whole = sizeof none;
+    wk_fault fault = {7, 7};
+    wk_handle *at = &r->handle;
+    for (int k = 0; k < 9; k++) nine[k] = file_size;
+    open_run(r);
+    expect("no file", wk_open(at, file, file_size, nine, 0, 4, NULL, 0, &fault), WK_ARGUMENT);
+    if (at->at) fail("a session is left", 0);
+    expect("nine files", wk_open(at, file, file_size, nine, 9, 4, NULL, 0, &fault), WK_ARGUMENT);
+    expect("no state", wk_open(at, file, file_size, nine, 1, 0, NULL, 0, &fault), WK_ARGUMENT);
+    expect("too many states", wk_open(at, file, file_size, nine, 1, 4097, NULL, 0, &fault), WK_ARGUMENT);
+    expect("an end before the one before it", wk_open(at, file, file_size, back, 2, 4, NULL, 0, &fault), WK_ARGUMENT);
+    expect("an end past the end", wk_open_bytes(at, file, file_size, &far, 1, 1 << 20, NULL, 0, &fault), WK_ARGUMENT);
+    expect("short tables", wk_open(at, file, file_size, nine, 1, 4, none, 1, &fault), WK_TABLES);
+    if (at->at || fault.source != 7 || fault.cause != 7) fail("a fault without a file", (long)fault.cause);
+    expect("no file of packets", wk_open_bytes(at, none, sizeof none, &whole, 1, 1 << 20, NULL, 0, &fault), WK_FILE);
+    if (at->at || fault.source != 0 || fault.cause != WK_FILE_MAGIC) fail("another fault", (long)fault.cause);
+}
+
+/* The numbers of a handle that holds nothing: no result is written. */
+static void closed(run *r) {
+    size_t length = 7;
+    wk_shown shown = {.luma_stride = 7};
+    wk_unexported why = {7, 7, 7, 7};
+    wk_handle *at = &r->handle;
+    wk_close(at);
+    uint32_t found[] = {wk_frame(at, 0, NULL, 0, NULL, 0, NULL, 0, &shown), wk_request(at, NULL, 0, &length), wk_why(at, &length), wk_save(at, false, &length),
+                        wk_save_source(at, 0, false, false, &length), wk_export(at, false, &length, &why), wk_text(at, r->room, r->room_size, &length)};
+    for (size_t k = 0; k < sizeof found / sizeof *found; k++) expect("a closed handle", found[k], WK_CLOSED);
+    if (length != 7 || shown.width || why.frame != 7) fail("a result of a closed handle", (long)length);
+}
+
+/* A frame that is refused with this number: its strides stay, and only a packet that decoding refuses is reported. */
+static void refused(run *r, uint64_t n, uint32_t number, uint64_t packet) {
+    wk_shown shown = {.luma_stride = 1024, .chroma_stride = 512, .width = 3, .height = 5, .source = 8, .packet = 9};
+    expect("a frame", wk_frame(&r->handle, n, r->room, r->room_size / 2, r->room, r->room_size / 4, r->room, r->room_size / 4, &shown), number);
+    if (shown.luma_stride != 1024 || shown.chroma_stride != 512 || shown.width != 3 || shown.height != 5) fail("a refused frame has a size", (long)n);
+    if (shown.source != (number == WK_PACKET ? 0 : 8) || shown.packet != (number == WK_PACKET ? packet : 9)) fail("another packet", (long)shown.packet);
+}
+
+/* An export that fails with this number, frame, node and packet: the text stays. */
+static void unexported(run *r, uint32_t number, uint64_t frame, uint64_t node, uint64_t packet) {
+    wk_unexported why = {7, 7, 7, 7};
+    size_t before = 0, length = 0, copied = 0;
+    wk_request(&r->handle, (const uint8_t *)"count", 5, &before);
+    expect("an export", wk_export(&r->handle, false, &length, &why), number);
+    if (why.frame != frame || why.node != node || why.packet != packet) fail("another reason", (long)why.frame);
+    if (length != before || wk_text(&r->handle, r->room, r->room_size, &copied) || copied != before || memcmp(r->room, "packets", 7)) fail("the text changed", (long)length);
+}
+
+static void numbers(void) {
+    run r = {.room = __real_malloc(ROOM), .room_size = ROOM};
+    size_t length = 0;
+    opening(&r);
+    closed(&r);
+    open_run(&r);
+    refused(&r, 1 << 20, WK_NO_SUCH_FRAME, 0);
+    refused(&r, UINT64_MAX, WK_NO_SUCH_FRAME, 0);
+    ask(&r, "script crop 0 0 0 16383 16383");
+    refused(&r, 0, WK_CROP_OUTSIDE, 0);
+    unexported(&r, WK_CROP_OUTSIDE, 0, 7, 7);
+    ask(&r, "script fade 0 2 3 256 0");
+    unexported(&r, WK_CHANGED, 3, 1, 7);
+    ask(&r, "script -");
+    frame(&r, 0);
+    ask(&r, "script crop 0 0 0 2 2");
+    refused(&r, 0, WK_SIZE_DIFFERS, 0);
+    ask(&r, "script -");
+    ask(&r, "replace 3 1100");
+    refused(&r, 3, WK_PACKET, 3);
+    refused(&r, 5, WK_PACKET, 3);
+    unexported(&r, WK_PACKET, 3, 7, 3);
+    expect("no source", wk_save_source(&r.handle, 1, false, false, &length), WK_SOURCE);
+    expect("a refused line", wk_request(&r.handle, (const uint8_t *)"delete 99999", 12, &length), WK_OK);
+    size_t told = 0;
+    memset(r.room, 0xA5, 64);
+    expect("a text without room", wk_text(&r.handle, r.room, length - 1, &told), WK_ROOM);
+    if (told != length || r.room[0] != 0xA5) fail("a text without room was written", (long)told);
+    wk_close(&r.handle);
+    free(r.room);
+}
+
 int main(int argc, char **argv) {
-    if (argc != 3) fail("usage: checks growths|rooms|fuzz|threads FILE", argc);
+    if (argc != 3) fail("usage: checks growths|rooms|fuzz|threads|stacks|nulls|numbers FILE", argc);
     FILE *opened = fopen(argv[2], "rb");
     if (!opened) fail("cannot open the file", 0);
     fseek(opened, 0, SEEK_END);
@@ -321,6 +475,9 @@ int main(int argc, char **argv) {
     if (!strcmp(argv[1], "growths")) growths();
     else if (!strcmp(argv[1], "rooms")) rooms();
     else if (!strcmp(argv[1], "fuzz")) fuzz();
+    else if (!strcmp(argv[1], "stacks")) stacks();
+    else if (!strcmp(argv[1], "nulls")) nulls();
+    else if (!strcmp(argv[1], "numbers")) numbers();
     else threads();
     free(file);
     return 0;

@@ -728,4 +728,4 @@ static gboolean plugin_init(GstPlugin *plugin) {
 }
 
 /* No licence has been chosen, which GStreamer's word for is "unknown". */
-GST_PLUGIN_DEFINE(GST_VERSION_MAJOR, GST_VERSION_MINOR, wokureti, "Frames of edited VP8 streams", plugin_init, "0.15.0", GST_LICENSE_UNKNOWN, PACKAGE, "README.md of the repository")
+GST_PLUGIN_DEFINE(GST_VERSION_MAJOR, GST_VERSION_MINOR, wokureti, "Frames of edited VP8 streams", plugin_init, "0.16.0", GST_LICENSE_UNKNOWN, PACKAGE, "README.md of the repository")

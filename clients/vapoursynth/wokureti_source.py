@@ -51,13 +51,13 @@ def _first_size(session, count):
 def source(stream, script=None, **options):
     """A clip of the frames that vp8serve serves, and the session, for edits.
 
-    `stream` is the path of an IVF file, and the options are those of `wokureti.Session`; or it is a session. `script` is set before the
-    first frame is served, which fixes the size: a text, or a `wokureti.Script`. The clip has the frames that the stream has now, and
-    VapourSynth caches frames: make a new clip after an edit.
+    `stream` is the path of an IVF file, and the options are those of `wokureti.Session`; or it is a session. `script`
+    is set before the first frame is served, which fixes the size: a text, or a `wokureti.Script`. The clip has the
+    frames that the stream has now, and VapourSynth caches frames: make a new clip after an edit.
 
-    The sides of the frames must be even. A frame that is refused raises an error with the reply when it is asked for. Each frame has the
-    properties `_Matrix`, `_ColorRange`, `_ChromaLocation`, `_FieldBased`, `_DurationNum`, `_DurationDen` and `_AbsoluteTime`, and `_PictType` if there
-    is no script.
+    The sides of the frames must be even. A frame that is refused raises an error with the reply when it is asked for.
+    Each frame has the properties `_Matrix`, `_ColorRange`, `_ChromaLocation`, `_FieldBased`, `_DurationNum`,
+    `_DurationDen` and `_AbsoluteTime`, and `_PictType` if there is no script.
     """
     session = stream if isinstance(stream, Session) else Session(stream, **options)
     try:

@@ -8,8 +8,8 @@ Run manually: filters.py
 COLUMNS, ROWS = 3, 2
 WITH_TOKENS = [True, False, True, False, False, True]
 
-# whether the frame is a key frame, whether its filter is the simple one, level, sharpness, the least sample, and how many values the
-# samples have
+# whether the frame is a key frame, whether its filter is the simple one, level, sharpness, the least sample, and how
+# many values the samples have
 FRAMES = [
     (False, False, 0, 0, 100, 32),
     (False, False, 44, 3, 100, 12),
@@ -165,7 +165,15 @@ def main():
         count = COLUMNS * ROWS * 64
         planes = [filled(4 * count, 1, least, values), filled(count, 2, least, values), filled(count, 3, least, values)]
         filter_frame(planes, is_key, is_simple, level, sharpness, [True] * 6 if is_key else WITH_TOKENS)
-        print("key" if is_key else "inter", "simple" if is_simple else "normal", level, sharpness, least, values, *map(total, planes))
+        print(
+            "key" if is_key else "inter",
+            "simple" if is_simple else "normal",
+            level,
+            sharpness,
+            least,
+            values,
+            *map(total, planes),
+        )
 
 
 if __name__ == "__main__":

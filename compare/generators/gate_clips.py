@@ -2,8 +2,8 @@
 """Makes the clips of the crate gate_clips, and what its program must print of them.
 
 Run manually, not in the gate: gate_clips.py. It needs vpxenc and vpxdec (Debian's vpx-tools) and ffmpeg. Each line that
-the program must print is a clip's name, how many frames vpxdec shows of it, and the MD5 that vpxdec gives of their samples; the
-last line is the same of three clips, one after another.
+the program must print is a clip's name, how many frames vpxdec shows of it, and the MD5 that vpxdec gives of their
+samples; the last line is the same of three clips, one after another.
 """
 
 import hashlib
@@ -35,8 +35,22 @@ CLIPS = [
     ("eight-partitions", TEST, 64, 176, 12, "--token-parts=3 --min-q=20 --max-q=40"),
     ("error-resilient", TURNED, 128, 96, 16, "--error-resilient=1 --min-q=20 --max-q=50"),
     ("independent-partitions", TEST, 128, 96, 16, "--error-resilient=3 --token-parts=2 --min-q=20 --max-q=50"),
-    ("hidden-altref", TURNED, 144, 96, 24, "--passes=2 --auto-alt-ref=1 --lag-in-frames=16 --arnr-maxframes=7 --arnr-strength=5 --min-q=10 --max-q=50"),
-    ("segments", NOISE, 96, 96, 12, "--rt --cpu-used=-6 --error-resilient=1 --end-usage=cbr --target-bitrate=60 --min-q=30 --max-q=63"),
+    (
+        "hidden-altref",
+        TURNED,
+        144,
+        96,
+        24,
+        "--passes=2 --auto-alt-ref=1 --lag-in-frames=16 --arnr-maxframes=7 --arnr-strength=5 --min-q=10 --max-q=50",
+    ),
+    (
+        "segments",
+        NOISE,
+        96,
+        96,
+        12,
+        "--rt --cpu-used=-6 --error-resilient=1 --end-usage=cbr --target-bitrate=60 --min-q=30 --max-q=63",
+    ),
     ("odd-size", TEST, 175, 143, 12, "--min-q=30 --max-q=50"),
     ("narrow", FRACTAL, 17, 144, 12, "--min-q=10 --max-q=40"),
     ("small", TEST, 7, 5, 12, "--min-q=0 --max-q=30"),
@@ -49,7 +63,10 @@ CLIPS = [
     ("far-vectors", PAN, 64, 64, 16, "--min-q=20 --max-q=40 --cpu-used=0"),
     ("still", "smptebars", 176, 144, 20, "--min-q=30 --max-q=50"),
     ("golden-references", TURNED, 96, 96, 24, "--rt --cpu-used=-3 --min-q=20 --max-q=50 --kf-max-dist=999"),
-] + [(f"sharpness-{n}", FRACTAL if n % 2 else TURNED, 80, 64, 8, f"--sharpness={n} --min-q=40 --max-q=60") for n in range(8)]
+] + [
+    (f"sharpness-{n}", FRACTAL if n % 2 else TURNED, 80, 64, 8, f"--sharpness={n} --min-q=40 --max-q=60")
+    for n in range(8)
+]
 
 
 # Three clips of one size, which are the sources of one session.
@@ -81,7 +98,10 @@ def main():
         names.append(f"{name}.ivf\n")
         lines.append(f"{name}.ivf {count} {md5}\n")
         kinds = sorted({kind for packet in packets for kind in kinds_of(packet)})
-        print(f"{name}: {size} bytes, {count} frames of {len(packets)} packets, {', '.join(kinds)}" + (", TOO LONG" if size > LIMIT else ""))
+        print(
+            f"{name}: {size} bytes, {count} frames of {len(packets)} packets, {', '.join(kinds)}"
+            + (", TOO LONG" if size > LIMIT else "")
+        )
     samples = [run(["vpxdec", "--codec=vp8", "--i420", "-o", "-", data / name]) for name in SPLICED]
     together = sum(int(line.split()[1]) for line in lines if line.split()[0] in SPLICED)
     names.append(" ".join(SPLICED) + "\n")

@@ -1,5 +1,6 @@
 #!/usr/bin/env python3
-"""Makes the files of crates/gate_webm/data with ffmpeg and mkvmerge, its `stdin`, and its `stdout` by the plain model of library/matroska.py.
+"""Makes the files of crates/gate_webm/data with ffmpeg and mkvmerge, its `stdin`, and its `stdout` by the plain model
+of library/matroska.py.
 
     compare/generators/gate_webm.py
 
@@ -28,17 +29,32 @@ def element(name, content):
     return bytes.fromhex(name) + (2**56 + len(content)).to_bytes(8, "big") + content
 
 
-def by_hand(is_late=False):
-    """A file of which each part is seldom written: times before 0, a group, two clusters, lacing of the video, a track that is not listed, and a length that is wrong. The
-    time of the second cluster may come after its block."""
-    entry = element("D7", b"\x01") + element("83", b"\x01") + element("86", b"V_VP8") + element("E0", element("B0", b"\x10") + element("BA", b"\x00\x20"))
+def by_hand(is_late=False, end=b""):
+    """A file of which each part is seldom written: times before 0, a group, two clusters, lacing of the video, a track
+    that is not listed, and a length that is wrong. The time of the second cluster may come after its block. Strings may
+    have a 0 at their end, as those of GStreamer have.
+    """
+    entry = (
+        element("D7", b"\x01")
+        + element("83", b"\x01")
+        + element("86", b"V_VP8" + end)
+        + element("E0", element("B0", b"\x10") + element("BA", b"\x00\x20"))
+    )
     sound = element("D7", b"\x00\x02") + element("83", b"\x02") + element("86", b"A_OPUS")
-    blocks = [b"\x81\xff\xfe\x80\x10", b"\x82\x00\x00\x00ss", b"\x81\x00\x05\x02\x01\x01ab", b"\x83\x00\x06\x00x", b"\x40\x01\x00\x07\x00\x11"]
+    blocks = [
+        b"\x81\xff\xfe\x80\x10",
+        b"\x82\x00\x00\x00ss",
+        b"\x81\x00\x05\x02\x01\x01ab",
+        b"\x83\x00\x06\x00x",
+        b"\x40\x01\x00\x07\x00\x11",
+    ]
     first = element("E7", b"\x01") + b"".join(element("A3", block) for block in blocks)
-    time, group = element("E7", (2**64 - 3).to_bytes(8, "big")), element("A0", element("A1", b"\x81\x00\x64\x00\x11") + element("9B", b"\x28"))
+    time, group = element("E7", (2**64 - 3).to_bytes(8, "big")), element(
+        "A0", element("A1", b"\x81\x00\x64\x00\x11") + element("9B", b"\x28")
+    )
     second = group + time if is_late else time + group
     return (
-        element("1A45DFA3", element("4282", b"matroska"))
+        element("1A45DFA3", element("4282", b"matroska" + end))
         + b"\x18\x53\x80\x67\xff"
         + element("1549A966", element("2AD7B1", (41667).to_bytes(3, "big")))
         + element("1654AE6B", element("AE", sound) + element("EC", b"") + element("AE", entry))
@@ -75,8 +91,13 @@ def main():
     (data / "tracks.webm").write_bytes(whole.replace(b"\x16\x54\xae\x6b", b"\x16\x54\xae\x6c"))
     (data / "hand.mkv").write_bytes(by_hand())
     (data / "late.mkv").write_bytes(by_hand(is_late=True))
-    (data / "early.webm").write_bytes(whole[: next(found[1] for found in reversed(matroska.walk(whole)[0]) if found[0] == matroska.SIMPLE_BLOCK)])
-    (data / "scale.mkv").write_bytes(by_hand().replace(element("2AD7B1", (41667).to_bytes(3, "big")), element("2AD7B1", b"\x00\x00\x00")))
+    (data / "strings.mkv").write_bytes(by_hand(end=b"\0"))
+    (data / "early.webm").write_bytes(
+        whole[: next(found[1] for found in reversed(matroska.walk(whole)[0]) if found[0] == matroska.SIMPLE_BLOCK)]
+    )
+    (data / "scale.mkv").write_bytes(
+        by_hand().replace(element("2AD7B1", (41667).to_bytes(3, "big")), element("2AD7B1", b"\x00\x00\x00"))
+    )
     names = sorted(path.name for path in data.iterdir())
     (CRATE / "stdin").write_text("".join(f"{name}\n" for name in names))
     lines = [line for name in names for line in [name, *matroska.lines_of((data / name).read_bytes())]]

@@ -1,4 +1,5 @@
-"""For Blender's own Python: renders the frames of a movie, or of a folder of pictures, as PNG without a conversion of colours.
+"""For Blender's own Python: renders the frames of a movie, or of a folder of pictures, as PNG without a conversion of
+colours.
 
     blender --background --factory-startup --python blend.py -- FILE_OR_FOLDER FIRST OUT
 """
@@ -22,7 +23,11 @@ else:
     strip = strips.new_movie("clip", path, 1, 1)
     count = strip.frame_duration
 render = scene.render
-render.resolution_x, render.resolution_y, render.resolution_percentage = strip.elements[0].orig_width or 320, strip.elements[0].orig_height or 180, 100
+render.resolution_x, render.resolution_y, render.resolution_percentage = (
+    strip.elements[0].orig_width or 320,
+    strip.elements[0].orig_height or 180,
+    100,
+)
 scene.view_settings.view_transform = "Standard"
 render.dither_intensity = 0
 render.image_settings.file_format, render.image_settings.color_mode, render.image_settings.compression = "PNG", "RGB", 0

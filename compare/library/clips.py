@@ -52,12 +52,23 @@ def drawn(source, width, height):
 
 def settings(choose):
     low = choose.choice([0, 0, 4, 20, 40, 63])
-    words = ["--codec=vp8", "--ivf", f"--min-q={low}", f"--max-q={choose.choice([low, 63])}", "--disable-warning-prompt"]
+    words = [
+        "--codec=vp8",
+        "--ivf",
+        f"--min-q={low}",
+        f"--max-q={choose.choice([low, 63])}",
+        "--disable-warning-prompt",
+    ]
     words += [f"--profile={choose.randrange(4)}", f"--token-parts={choose.randrange(4)}"]
     words += [f"--auto-alt-ref={choose.randrange(2)}", f"--lag-in-frames={choose.choice([0, 5, 12])}"]
     words += [f"--error-resilient={choose.choice([0, 0, 1, 2, 3])}", f"--kf-max-dist={choose.choice([0, 9, 30, 999])}"]
     words += [f"--arnr-maxframes={choose.choice([0, 5])}", f"--sharpness={choose.randrange(8)}"]
     words += [f"--target-bitrate={choose.choice([20, 100, 1000])}", f"--static-thresh={choose.choice([0, 0, 1000])}"]
     if choose.randrange(3) == 0:
-        return words + ["--rt", "--end-usage=cbr", f"--cpu-used={choose.choice([-4, -8, -16])}", f"--screen-content-mode={choose.randrange(3)}"]
+        return words + [
+            "--rt",
+            "--end-usage=cbr",
+            f"--cpu-used={choose.choice([-4, -8, -16])}",
+            f"--screen-content-mode={choose.randrange(3)}",
+        ]
     return words + [f"--cpu-used={choose.choice([0, 0, 1, 4])}"]

@@ -11,7 +11,13 @@ FRAME_CORRUPTED = 257
 def library():
     vpx = ctypes.CDLL("libvpx.so.7")
     vpx.vpx_codec_vp8_dx.restype = ctypes.c_void_p
-    vpx.vpx_codec_dec_init_ver.argtypes = [ctypes.c_void_p, ctypes.c_void_p, ctypes.c_void_p, ctypes.c_long, ctypes.c_int]
+    vpx.vpx_codec_dec_init_ver.argtypes = [
+        ctypes.c_void_p,
+        ctypes.c_void_p,
+        ctypes.c_void_p,
+        ctypes.c_long,
+        ctypes.c_int,
+    ]
     vpx.vpx_codec_decode.argtypes = [ctypes.c_void_p, ctypes.c_char_p, ctypes.c_uint, ctypes.c_void_p, ctypes.c_long]
     vpx.vpx_codec_get_frame.argtypes = [ctypes.c_void_p, ctypes.c_void_p]
     vpx.vpx_codec_get_frame.restype = ctypes.c_void_p
@@ -55,6 +61,11 @@ def padded(packet, zeros):
         rest = rest[size:]
     tokens.append(rest)
     first += zeros.get(0, 0)
-    head = (tag & 31 | first << 5).to_bytes(3, "little") + packet[3:start] + packet[start : start + (tag >> 5)] + bytes(zeros.get(0, 0))
+    head = (
+        (tag & 31 | first << 5).to_bytes(3, "little")
+        + packet[3:start]
+        + packet[start : start + (tag >> 5)]
+        + bytes(zeros.get(0, 0))
+    )
     tokens = [text + bytes(zeros.get(k + 1, 0)) for k, text in enumerate(tokens)]
     return head + b"".join(len(text).to_bytes(3, "little") for text in tokens[:-1]) + b"".join(tokens)

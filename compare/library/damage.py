@@ -41,8 +41,8 @@ def partition_count(first, is_key):
 def partitions_of(packet):
     """A sound packet's parts: what stands before its first partition, the first partition and the token partitions.
 
-    None for a dropped frame, and for a broken packet that no reply names: one that is not shown, with no frame after it up to
-    the next key packet.
+    None for a dropped frame, and for a broken packet that no reply names: one that is not shown, with no frame after it
+    up to the next key packet.
     """
     if len(packet) < 3:
         return None

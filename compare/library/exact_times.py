@@ -1,4 +1,6 @@
-"""The times of frames by exact fractions: the definition of packet_times, written again without rounding but where the definition rounds."""
+"""The times of frames by exact fractions: the definition of packet_times, written again without rounding but where the
+definition rounds.
+"""
 
 import statistics
 from fractions import Fraction
@@ -19,13 +21,17 @@ def unit_of(base):
 
 
 def median_step(stamps, shown):
-    """The median of the steps between the time stamps of shown packets that go forward, the lower one of two; 1 if there is none."""
+    """The median of the steps between the time stamps of shown packets that go forward, the lower one of two; 1 if
+    there is none.
+    """
     kept = [stamp for stamp, is_shown in zip(stamps, shown) if is_shown]
     return statistics.median_low([after - before for before, after in zip(kept, kept[1:]) if before < after] or [1])
 
 
 def durations_of(stamps, shown):
-    """The duration of each packet of a file in its own units: from its time stamp to that of the next shown packet, or else the median step."""
+    """The duration of each packet of a file in its own units: from its time stamp to that of the next shown packet, or
+    else the median step.
+    """
     found, after, step = [], None, median_step(stamps, shown)
     for stamp, is_shown in reversed(list(zip(stamps, shown))):
         found.append(after - stamp if after is not None and stamp < after else step)
@@ -42,8 +48,8 @@ def exact_times(durations):
 
 
 def stamps_of(durations, head):
-    """The time stamps of frames in units of a head's time base, and that of a frame after them: the units are summed for each time base, each sum
-    is rounded half up, and a time stamp is at least one more than the one before it."""
+    """The time stamps of frames in units of a head's time base, and that of a frame after them: the units are summed
+    for each time base, each sum is rounded half up, and a time stamp is at least one more than the one before it."""
     sums, stamps = {}, [0]
     for units, base in durations:
         sums[base] = sums.get(base, 0) + units
@@ -68,8 +74,8 @@ def greatest_unit(bases):
 
 
 def head_for(durations, head):
-    """The rate and scale of the head of an export: those of this head if all units that are used are whole numbers of its unit, or else those of the
-    greatest unit of which they are, if both are numbers of 32 bits."""
+    """The rate and scale of the head of an export: those of this head if all units that are used are whole numbers of
+    its unit, or else those of the greatest unit of which they are, if both are numbers of 32 bits."""
     bases = {base for _, base in durations}
     if all((unit_of(base) / unit_of(base_of(*head))).denominator == 1 for base in bases):
         return head
@@ -78,7 +84,9 @@ def head_for(durations, head):
 
 
 def is_near(durations, head, stamps):
-    """Whether each time stamp is within half a unit for each time base that is used so far, if every frame lasts at least one unit of the head."""
+    """Whether each time stamp is within half a unit for each time base that is used so far, if every frame lasts at
+    least one unit of the head.
+    """
     if any(units * unit_of(base) < unit_of(head) for units, base in durations):
         return True
     used, times = set(), exact_times(durations)

@@ -11,7 +11,14 @@ import time
 
 # Seconds that a script or an answer may take.
 MOST_TIME = 120
-PREFERENCES = {"marionette.port": 0, "media.autoplay.default": 0, "media.autoplay.blocking_policy": 0, "browser.shell.checkDefaultBrowser": False, "app.update.enabled": False, "datareporting.policy.dataSubmissionEnabled": False}
+PREFERENCES = {
+    "marionette.port": 0,
+    "media.autoplay.default": 0,
+    "media.autoplay.blocking_policy": 0,
+    "browser.shell.checkDefaultBrowser": False,
+    "app.update.enabled": False,
+    "datareporting.policy.dataSubmissionEnabled": False,
+}
 
 
 def find():
@@ -23,15 +30,25 @@ class Firefox:
     def __init__(self):
         self.room = tempfile.TemporaryDirectory()
         profile = pathlib.Path(self.room.name)
-        (profile / "user.js").write_text("".join(f"user_pref({json.dumps(name)}, {json.dumps(value)});\n" for name, value in PREFERENCES.items()))
+        (profile / "user.js").write_text(
+            "".join(f"user_pref({json.dumps(name)}, {json.dumps(value)});\n" for name, value in PREFERENCES.items())
+        )
         words = [find(), "--headless", "--marionette", "--profile", self.room.name, "--no-remote", "about:blank"]
-        self.process = subprocess.Popen(words, env={**os.environ, "HOME": self.room.name}, stdin=subprocess.DEVNULL, stdout=subprocess.DEVNULL, stderr=subprocess.DEVNULL)
+        self.process = subprocess.Popen(
+            words,
+            env={**os.environ, "HOME": self.room.name},
+            stdin=subprocess.DEVNULL,
+            stdout=subprocess.DEVNULL,
+            stderr=subprocess.DEVNULL,
+        )
         self.count = 0
         try:
             self.socket = socket.create_connection(("127.0.0.1", self.port()), timeout=MOST_TIME)
             self.file = self.socket.makefile("rb")
             self.read()
-            found = self.send("WebDriver:NewSession", capabilities={"alwaysMatch": {"timeouts": {"script": 1000 * MOST_TIME}}})
+            found = self.send(
+                "WebDriver:NewSession", capabilities={"alwaysMatch": {"timeouts": {"script": 1000 * MOST_TIME}}}
+            )
             self.version = found["capabilities"]["browserVersion"]
         except BaseException:
             self.process.kill()

@@ -15,7 +15,7 @@ def ivf(width, height, packets, stamps=None):
 
 def records(text):
     """The time stamp and the bytes of each whole record."""
-    place, = struct.unpack_from("<H", text, 6)
+    (place,) = struct.unpack_from("<H", text, 6)
     while place + RECORD.size <= len(text):
         size, stamp = RECORD.unpack_from(text, place)
         if place + RECORD.size + size > len(text):

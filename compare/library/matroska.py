@@ -10,7 +10,26 @@ BLOCKS = {SIMPLE_BLOCK, BLOCK}
 RESUMED = {SIMPLE_BLOCK, BLOCK_GROUP, BLOCK}
 KEPT = {INFO, TRACKS, CHAPTERS, ATTACHMENTS, TAGS}
 VOID, CRC_32 = 0xEC, 0xBF
-OTHERS = {0x114D9B74, 0x1C53BB6B, VOID, CRC_32, 0x5854, 0xA7, 0xAB, 0xAF, 0xA2, 0x75A1, 0x9B, 0xFA, 0xFB, 0xFD, 0xA4, 0x75A2, 0x8E, 0xC8}
+OTHERS = {
+    0x114D9B74,
+    0x1C53BB6B,
+    VOID,
+    CRC_32,
+    0x5854,
+    0xA7,
+    0xAB,
+    0xAF,
+    0xA2,
+    0x75A1,
+    0x9B,
+    0xFA,
+    0xFB,
+    0xFD,
+    0xA4,
+    0x75A2,
+    0x8E,
+    0xC8,
+}
 KNOWN = OPENED | BLOCKS | KEPT | OTHERS | {EBML, TIMESTAMP}
 MOST_PACKETS, MOST_ELEMENTS, MOST_TRACKS = 1_048_576, 16_777_216, 127
 
@@ -104,7 +123,9 @@ def blocks(text, elements):
         if track and end - start >= track[1] + 3:
             at = start + track[1]
             stamp = base + int.from_bytes(text[at : at + 2], "big", signed=True)
-            found.append((track[0] % 128 ** track[1], min(max(stamp, 0), 2**64 - 1), text[at + 2], place, at + 3, end))
+            found.append(
+                (track[0] % 128 ** track[1], min(max(stamp, 0), 2**64 - 1), text[at + 2], place, at + 3, end)
+            )
     return found
 
 
@@ -122,7 +143,9 @@ def closes(level, name):
 
 
 def lengths(text, elements, end):
-    """The lengths that are wrong, of Segments and then of Clusters: name, position, where it ends by its length, and by what was read."""
+    """The lengths that are wrong, of Segments and then of Clusters: name, position, where it ends by its length, and by
+    what was read.
+    """
     for level in (SEGMENT, CLUSTER):
         for at, (name, place, start, _) in enumerate(elements):
             _, length, is_sized, _ = head(text, place)
@@ -156,6 +179,11 @@ def field(text, name):
     return next((content for other, content in children(text) if other == name), b"")
 
 
+def text_field(text, name):
+    """The value of the first child of a name that is a string: what is before its first byte of 0."""
+    return field(text, name).partition(b"\0")[0]
+
+
 def number_or(text, other):
     return int.from_bytes(text[:8], "big") if text else other
 
@@ -165,14 +193,14 @@ def reading(text):
     first = element(text, 0)
     if first is None or first[0] != EBML:
         raise Refused("Header")
-    if field(text[first[2] : first[3]], 0x4282) not in (b"webm", b"matroska"):
+    if text_field(text[first[2] : first[3]], 0x4282) not in (b"webm", b"matroska"):
         raise Refused("DocType")
     elements, end = walk(text)
     tracks = next((text[found[2] : found[3]] for found in elements if found[0] == TRACKS), None)
     if tracks is None:
         raise Refused("NoTracks")
     entries = [content for name, content in children(tracks) if name == 0xAE]
-    entry = next((content for content in entries if field(content, 0x86) == b"V_VP8"), None)
+    entry = next((content for content in entries if text_field(content, 0x86) == b"V_VP8"), None)
     if entry is None:
         raise Refused("NoVideo")
     if field(entry, 0x6D80):
@@ -181,12 +209,17 @@ def reading(text):
     scale = number_or(field(info, 0x2AD7B1), 1_000_000)
     if not 0 < scale < 2**32:
         raise Refused("Scale")
-    video, numbers, found = number_or(field(entry, 0xD7), 0), [number_or(field(content, 0xD7), 0) for content in entries], blocks(text, elements)
+    video, numbers, found = (
+        number_or(field(entry, 0xD7), 0),
+        [number_or(field(content, 0xD7), 0) for content in entries],
+        blocks(text, elements),
+    )
     packets = [block for block in found if block[0] == video and not block[2] & 6]
     if len(elements) > MOST_ELEMENTS or len(entries) > MOST_TRACKS or len(packets) > MOST_PACKETS:
         raise Refused("TooMany")
     size, common = field(entry, 0xE0), math.gcd(10**9, scale)
-    yield f"head {number_or(field(size, 0xB0), 0) % 65536} {number_or(field(size, 0xBA), 0) % 65536} {10**9 // common} {scale // common}"
+    width, height = (number_or(field(size, key), 0) % 65536 for key in (0xB0, 0xBA))
+    yield f"head {width} {height} {10**9 // common} {scale // common}"
     yield f"video {video} {number_or(field(entry, 0x23E383), 0)}"
     yield from (f"track {track}" for track in numbers)
     yield from (f"packet {block[1]} {block[5] - block[4]} {hash_of(text[block[4] : block[5]])}" for block in packets)

@@ -19,4 +19,6 @@ def real_streams():
 
 def run(words, **more):
     """Runs a command that must succeed, and returns what it wrote."""
-    return subprocess.run([str(word) for word in words], check=True, stdout=subprocess.PIPE, stderr=subprocess.PIPE, **more).stdout
+    return subprocess.run(
+        [str(word) for word in words], check=True, stdout=subprocess.PIPE, stderr=subprocess.PIPE, **more
+    ).stdout

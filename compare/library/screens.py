@@ -28,27 +28,52 @@ def missing():
 
 
 class Screen:
-    """The screen, with a home folder of its own. `frames` are those of the clip as RGB, of `width` x `height` samples, drawn by ffmpeg's testsrc2."""
+    """The screen, with a home folder of its own. `frames` are those of the clip as RGB, of `width` x `height` samples,
+    drawn by ffmpeg's testsrc2.
+    """
 
     def __init__(self, room, frames, width, height):
         import numpy
 
         self.numpy, self.running = numpy, []
-        self.frames = [self.grid(numpy.frombuffer(frame, numpy.uint8).reshape(height, width, 3), 0, 0, width, height) for frame in frames]
+        self.frames = [
+            self.grid(numpy.frombuffer(frame, numpy.uint8).reshape(height, width, 3), 0, 0, width, height)
+            for frame in frames
+        ]
         self.aspect = height / width
         read, write = os.pipe()
-        self.server = subprocess.Popen(["Xvfb", "-displayfd", str(write), "-screen", "0", f"{WIDTH}x{HEIGHT}x24", "-nolisten", "tcp"], pass_fds=(write,), stdin=subprocess.DEVNULL, stdout=subprocess.DEVNULL, stderr=subprocess.DEVNULL)
+        self.server = subprocess.Popen(
+            ["Xvfb", "-displayfd", str(write), "-screen", "0", f"{WIDTH}x{HEIGHT}x24", "-nolisten", "tcp"],
+            pass_fds=(write,),
+            stdin=subprocess.DEVNULL,
+            stdout=subprocess.DEVNULL,
+            stderr=subprocess.DEVNULL,
+        )
         os.close(write)
         with open(read, encoding="ascii") as file:
             self.name = f":{file.readline().strip()}"
         home = os.path.join(room, "home")
         os.makedirs(os.path.join(home, "run"), mode=0o700)
-        self.env = {**os.environ, "DISPLAY": self.name, "HOME": home, "XDG_RUNTIME_DIR": os.path.join(home, "run"), "LIBGL_ALWAYS_SOFTWARE": "1", "SDL_AUDIODRIVER": "dummy"}
+        self.env = {
+            **os.environ,
+            "DISPLAY": self.name,
+            "HOME": home,
+            "XDG_RUNTIME_DIR": os.path.join(home, "run"),
+            "LIBGL_ALWAYS_SOFTWARE": "1",
+            "SDL_AUDIODRIVER": "dummy",
+        }
         self.start("openbox")
 
     def start(self, *words):
         """Starts a program with its children, which are ended with the screen."""
-        process = subprocess.Popen(words, env=self.env, start_new_session=True, stdin=subprocess.DEVNULL, stdout=subprocess.DEVNULL, stderr=subprocess.DEVNULL)
+        process = subprocess.Popen(
+            words,
+            env=self.env,
+            start_new_session=True,
+            stdin=subprocess.DEVNULL,
+            stdout=subprocess.DEVNULL,
+            stderr=subprocess.DEVNULL,
+        )
         self.running.append(process)
         return process
 
@@ -74,33 +99,89 @@ class Screen:
     def click(self):
         """Clicks in the middle of the picture, if there is one."""
         left, top, width, height = self.place(self.picture()) or (0, 0, WIDTH, HEIGHT)
-        subprocess.run(["xdotool", "mousemove", str(left + width // 2), str(top + height // 2), "click", "1"], env=self.env, check=True, timeout=20)
+        subprocess.run(
+            ["xdotool", "mousemove", str(left + width // 2), str(top + height // 2), "click", "1"],
+            env=self.env,
+            check=True,
+            timeout=20,
+        )
 
     def windows(self):
         """The titles of the windows."""
-        found = subprocess.run(["xdotool", "search", "--onlyvisible", "--name", "."], env=self.env, capture_output=True, text=True, timeout=20, check=False).stdout.split()
-        return [subprocess.run(["xdotool", "getwindowname", one], env=self.env, capture_output=True, text=True, timeout=20, check=False).stdout.strip() for one in found]
+        found = subprocess.run(
+            ["xdotool", "search", "--onlyvisible", "--name", "."],
+            env=self.env,
+            capture_output=True,
+            text=True,
+            timeout=20,
+            check=False,
+        ).stdout.split()
+        return [
+            subprocess.run(
+                ["xdotool", "getwindowname", one], env=self.env, capture_output=True, text=True, timeout=20, check=False
+            ).stdout.strip()
+            for one in found
+        ]
 
     def picture(self):
-        words = ["ffmpeg", "-nostdin", "-v", "error", "-f", "x11grab", "-video_size", f"{WIDTH}x{HEIGHT}", "-draw_mouse", "0", "-i", self.name, "-frames:v", "1", "-pix_fmt", "rgb24", "-f", "rawvideo", "-"]
+        words = [
+            "ffmpeg",
+            "-nostdin",
+            "-v",
+            "error",
+            "-f",
+            "x11grab",
+            "-video_size",
+            f"{WIDTH}x{HEIGHT}",
+            "-draw_mouse",
+            "0",
+            "-i",
+            self.name,
+            "-frames:v",
+            "1",
+            "-pix_fmt",
+            "rgb24",
+            "-f",
+            "rawvideo",
+            "-",
+        ]
         data = subprocess.run(words, capture_output=True, timeout=60, check=True).stdout
         return self.numpy.frombuffer(data, self.numpy.uint8).reshape(HEIGHT, WIDTH, 3)
 
     def shot(self, path):
         """Writes what is on the screen as PNG."""
-        words = ["ffmpeg", "-nostdin", "-y", "-v", "error", "-f", "x11grab", "-video_size", f"{WIDTH}x{HEIGHT}", "-draw_mouse", "0", "-i", self.name, "-frames:v", "1", path]
+        words = [
+            "ffmpeg",
+            "-nostdin",
+            "-y",
+            "-v",
+            "error",
+            "-f",
+            "x11grab",
+            "-video_size",
+            f"{WIDTH}x{HEIGHT}",
+            "-draw_mouse",
+            "0",
+            "-i",
+            self.name,
+            "-frames:v",
+            "1",
+            path,
+        ]
         subprocess.run(words, timeout=60, check=True)
 
     def place(self, picture):
-        """Where the largest picture of testsrc2 is: left, top, width, height; None if there is none. Most of its points are of full colours:
-        where two columns meet, and in what moves, some are not."""
+        """Where the largest picture of testsrc2 is: left, top, width, height; None if there is none. Most of its points
+        are of full colours: where two columns meet, and in what moves, some are not."""
         numpy, rows = self.numpy, {}
         full = (picture.max(axis=2) >= 235) & (picture.min(axis=2) <= 20)
         for row in range(HEIGHT):
             edges = numpy.flatnonzero(numpy.diff(numpy.concatenate(([0], full[row].view(numpy.int8), [0]))))
             starts, ends = edges[::2], edges[1::2]
             begins = numpy.concatenate(([True], starts[1:] - ends[:-1] > MOST_MIXED)) if len(starts) else []
-            starts, ends = starts[begins], ends[numpy.concatenate((begins[1:], [True])).astype(bool)] if len(starts) else ends
+            starts, ends = starts[begins], (
+                ends[numpy.concatenate((begins[1:], [True])).astype(bool)] if len(starts) else ends
+            )
             if len(starts):
                 longest = (ends - starts).argmax()
                 run = (int(ends[longest] - starts[longest]), int(starts[longest]))

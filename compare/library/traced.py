@@ -1,8 +1,10 @@
-"""Runs a program that stops at each of its requests for memory, or at each of its reads and writes, and lets the caller refuse them.
+"""Runs a program that stops at each of its requests for memory, or at each of its reads and writes, and lets the caller
+refuse them.
 
-It uses ptrace of Linux on x86-64 from Python's standard library. The program's own slots for `malloc` and `realloc` (its global
-offset table) are given addresses with no code, once the dynamic linker has filled them: each call then stops with SIGSEGV there. So the
-requests are those of the program's own code, all of them from `main` on; what the C library takes for itself is not counted.
+It uses ptrace of Linux on x86-64 from Python's standard library. The program's own slots for `malloc` and `realloc`
+(its global offset table) are given addresses with no code, once the dynamic linker has filled them: each call then
+stops with SIGSEGV there. So the requests are those of the program's own code, all of them from `main` on; what the C
+library takes for itself is not counted.
 """
 
 import contextlib
@@ -42,7 +44,11 @@ def is_traceable(path):
     """Whether a program is one that this can run: for Linux on x86-64, here, and not by an emulator."""
     with open(path, "rb") as file:
         head = file.read(20)
-    return (platform.system(), platform.machine()) == ("Linux", "x86_64") and head[:4] == b"\x7fELF" and head[18:] == b"\x3e\x00"
+    return (
+        (platform.system(), platform.machine()) == ("Linux", "x86_64")
+        and head[:4] == b"\x7fELF"
+        and head[18:] == b"\x3e\x00"
+    )
 
 
 @dataclass
@@ -57,7 +63,11 @@ class Program:
     def __post_init__(self):
         with open(self.path, "rb") as file:
             text = file.read()
-        kind, self.entry, start, size, count = *struct.unpack_from("<H6xQ", text, 16), *struct.unpack_from("<Q", text, 40), *struct.unpack_from("<HH", text, 58)
+        kind, self.entry, start, size, count = (
+            *struct.unpack_from("<H6xQ", text, 16),
+            *struct.unpack_from("<Q", text, 40),
+            *struct.unpack_from("<HH", text, 58),
+        )
         self.is_fixed = kind == 2
         sections = [struct.unpack_from("<IIQQQQIIQQ", text, start + size * at) for at in range(count)]
         for section in sections:
@@ -76,19 +86,24 @@ class Program:
 
 
 def program_of(name):
-    """The program of this name, whose requests for memory are seen: that of the variable VP8SERVE or VP8LIST, or the one that `rt ci` built. Those of dist/
-    are linked statically: no request of theirs would be refused."""
+    """The program of this name, whose requests for memory are seen: that of the variable VP8SERVE or VP8LIST, or the
+    one that `rt ci` built. Those of dist/ are linked statically: no request of theirs would be refused."""
     for path in (os.environ.get(name.upper()), TOP / "crates" / name / "out" / name):
         if path and os.path.isfile(path):
             program = Program(str(path))
             if program.slots:
                 return program
-    raise SystemExit(f"no {name} is here whose requests for memory are seen, as of those that are linked dynamically: rt ci builds one")
+    raise SystemExit(
+        f"no {name} is here whose requests for memory are seen, as of those that are linked dynamically: rt ci"
+        " builds one"
+    )
 
 
 @dataclass
 class Ended:
-    """A run that ended: its exit status (negative for a signal), and how many requests for memory and reads and writes it made."""
+    """A run that ended: its exit status (negative for a signal), and how many requests for memory and reads and writes
+    it made.
+    """
 
     status: int
     requests: int = 0
@@ -97,7 +112,9 @@ class Ended:
 
 @dataclass
 class Call:
-    """A read, a write or another call on a file, before it is made: its number from 1, and the file that its descriptor or path names."""
+    """A read, a write or another call on a file, before it is made: its number from 1, and the file that its descriptor
+    or path names.
+    """
 
     number: int
     kind: str
@@ -109,8 +126,10 @@ class Call:
 
 
 class Run:
-    """A run. `refuses(n)` says whether the nth request for memory is refused. `changes(call)` returns None for a call that is made as it
-    is, a negative number for one that fails with that error, and a positive number of bytes for one that is made shorter."""
+    """A run. `refuses(n)` says whether the nth request for memory is refused. `changes(call)` returns None for a call
+    that is made as it is, a negative number for one that fails with that error, and a positive number of bytes for one
+    that is made shorter.
+    """
 
     def __init__(self, program, pid, refuses, changes):
         self.program, self.pid, self.refuses, self.changes = program, pid, refuses, changes

@@ -1,5 +1,6 @@
 #!/usr/bin/env python3
-"""Plays a file by VLC's library, and prints the MD5 of each picture that it shows, as I420: vlc.py FILE SECONDS WIDTH HEIGHT
+"""Plays a file by VLC's library, and prints the MD5 of each picture that it shows, as I420: vlc.py FILE SECONDS WIDTH
+HEIGHT
 
 The program vlc refuses to run as root; its library does not.
 """
@@ -55,7 +56,11 @@ def play(path, seconds, width, height):
 
     def show(_, picture):
         data = planes.raw
-        halves = (data[start : start + (width + 1) // 2] for plane in (1, 2) for start in range(plane * size, plane * size + width * ((height + 1) // 2), width))
+        halves = (
+            data[start : start + (width + 1) // 2]
+            for plane in (1, 2)
+            for start in range(plane * size, plane * size + width * ((height + 1) // 2), width)
+        )
         found.append(hashlib.md5(data[:size] + b"".join(halves)).hexdigest())
 
     calls = LOCK(lock), UNLOCK(lambda *_: None), SHOW(show)

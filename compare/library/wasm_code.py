@@ -1,4 +1,6 @@
-"""Where the instructions of a module in WebAssembly are: for changing one of them. It knows the instructions that clang makes for the page's module."""
+"""Where the instructions of a module in WebAssembly are: for changing one of them. It knows the instructions that clang
+makes for the page's module.
+"""
 
 CODE_SECTION = 10
 VECTOR, MEMORY = 0xFD, 0xFC

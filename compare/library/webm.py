@@ -3,7 +3,15 @@
 import struct
 
 # The names of elements.
-EBML, DOC_TYPE, SEGMENT, INFO, SCALE, TRACKS, ENTRY = 0x1A45DFA3, 0x4282, 0x18538067, 0x1549A966, 0x2AD7B1, 0x1654AE6B, 0xAE
+EBML, DOC_TYPE, SEGMENT, INFO, SCALE, TRACKS, ENTRY = (
+    0x1A45DFA3,
+    0x4282,
+    0x18538067,
+    0x1549A966,
+    0x2AD7B1,
+    0x1654AE6B,
+    0xAE,
+)
 NUMBER, KIND, CODEC, DURATION, ENCODINGS, VIDEO, WIDTH, HEIGHT = 0xD7, 0x83, 0x86, 0x23E383, 0x6D80, 0xE0, 0xB0, 0xBA
 CLUSTER, TIME, BLOCK = 0x1F43B675, 0xE7, 0xA3
 
@@ -24,7 +32,9 @@ def block(track, offset, packet):
 def cluster(track, frames):
     """A cluster that begins at the time of its first frame."""
     start = frames[0][0]
-    return element(CLUSTER, element(TIME, number(start)), *[block(track, stamp - start, packet) for stamp, packet in frames])
+    return element(
+        CLUSTER, element(TIME, number(start)), *[block(track, stamp - start, packet) for stamp, packet in frames]
+    )
 
 
 def webm(packets, stamps, *, kind=b"webm", codec=b"V_VP8", duration=None, scale=1_000_000, encoded=False, tracks=True):

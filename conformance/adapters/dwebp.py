@@ -1,7 +1,9 @@
 #!/usr/bin/env python3
-"""Decodes the shown key packets of an IVF file of VP8 with dwebp (libwebp), each as a WebP file of its own: dwebp.py IN OUT
+"""Decodes the shown key packets of an IVF file of VP8 with dwebp (libwebp), each as a WebP file of its own: dwebp.py IN
+OUT
 
-OUT gets the frames as I420, without those of packets that dwebp refuses. dwebp otherwise adds noise to smooth areas: that is off.
+OUT gets the frames as I420, without those of packets that dwebp refuses. dwebp otherwise adds noise to smooth areas:
+that is off.
 """
 
 import pathlib
@@ -27,7 +29,12 @@ def main():
         for packet in ivf.read(pathlib.Path(source)):
             if len(packet) > 2 and packet[0] & 17 == 16:
                 still.write_bytes(webp_of(packet))
-                ran = subprocess.run(["dwebp", "-quiet", "-nodither", "-yuv", still, "-o", samples], capture_output=True, text=True, check=False)
+                ran = subprocess.run(
+                    ["dwebp", "-quiet", "-nodither", "-yuv", still, "-o", samples],
+                    capture_output=True,
+                    text=True,
+                    check=False,
+                )
                 if ran.returncode:
                     sys.stderr.write(ran.stderr)
                 else:

@@ -2,7 +2,8 @@
 
 
 class Reader:
-    """Reads bits from a partition. Zeros follow its last byte, without end. `saw` gets the name of each value that is read, and the value.
+    """Reads bits from a partition. Zeros follow its last byte, without end. `saw` gets the name of each value that is
+    read, and the value.
 
     `asked` has the name of each value that was read, and how many booleans it took, as long as it is a list.
     """

@@ -1,4 +1,6 @@
-"""A plain decoder of VP8 (RFC 6386): `Decoder().decode(packet)` returns a picture, sample by sample, without a thought for speed."""
+"""A plain decoder of VP8 (RFC 6386): `Decoder().decode(packet)` returns a picture, sample by sample, without a thought
+for speed.
+"""
 
 from . import tables
 from .parser import ALTREF, B, GOLDEN, H, INTRA, LAST, SPLIT, TM, V, ZERO, Refused, parse
@@ -44,7 +46,9 @@ class Picture:
     def shown(self):
         """The shown samples, plane after plane, as I420."""
         text = bytearray()
-        for plane, (width, height) in zip(self.planes, ((self.width, self.height), *[((self.width + 1) // 2, (self.height + 1) // 2)] * 2)):
+        for plane, (width, height) in zip(
+            self.planes, ((self.width, self.height), *[((self.width + 1) // 2, (self.height + 1) // 2)] * 2)
+        ):
             for row in plane.rows[:height]:
                 text += bytes(row[:width])
         return bytes(text)
@@ -185,33 +189,77 @@ def sub_block(mode, above, left, corner):
     rows = [[0] * 4 for _ in range(4)]
     if mode == 6:
         for (column, row), value in {
-            (0, 3): three(2), (0, 2): three(3), (1, 3): three(4), (0, 1): three(4), (1, 2): two(4), (0, 0): two(4),
-            (2, 3): three(5), (1, 1): three(5), (2, 2): two(5), (1, 0): two(5), (3, 3): three(6), (2, 1): three(6),
-            (3, 2): two(6), (2, 0): two(6), (3, 1): three(7), (3, 0): two(7),
+            (0, 3): three(2),
+            (0, 2): three(3),
+            (1, 3): three(4),
+            (0, 1): three(4),
+            (1, 2): two(4),
+            (0, 0): two(4),
+            (2, 3): three(5),
+            (1, 1): three(5),
+            (2, 2): two(5),
+            (1, 0): two(5),
+            (3, 3): three(6),
+            (2, 1): three(6),
+            (3, 2): two(6),
+            (2, 0): two(6),
+            (3, 1): three(7),
+            (3, 0): two(7),
         }.items():
             rows[row][column] = value
     elif mode == 7:
         for (column, row), value in {
-            (0, 0): two(5), (0, 1): three(6), (0, 2): two(6), (1, 0): two(6), (1, 1): three(7), (0, 3): three(7),
-            (1, 2): two(7), (2, 0): two(7), (1, 3): three(8), (2, 1): three(8), (2, 2): two(8), (3, 0): two(8),
-            (2, 3): three(9), (3, 1): three(9), (3, 2): three(10), (3, 3): three(11),
+            (0, 0): two(5),
+            (0, 1): three(6),
+            (0, 2): two(6),
+            (1, 0): two(6),
+            (1, 1): three(7),
+            (0, 3): three(7),
+            (1, 2): two(7),
+            (2, 0): two(7),
+            (1, 3): three(8),
+            (2, 1): three(8),
+            (2, 2): two(8),
+            (3, 0): two(8),
+            (2, 3): three(9),
+            (3, 1): three(9),
+            (3, 2): three(10),
+            (3, 3): three(11),
         }.items():
             rows[row][column] = value
     elif mode == 8:
         for (column, row), value in {
-            (0, 3): two(0), (1, 3): three(1), (0, 2): two(1), (2, 3): two(1), (1, 2): three(2), (3, 3): three(2),
-            (2, 2): two(2), (0, 1): two(2), (3, 2): three(3), (1, 1): three(3), (2, 1): two(3), (0, 0): two(3),
-            (3, 1): three(4), (1, 0): three(4), (2, 0): three(5), (3, 0): three(6),
+            (0, 3): two(0),
+            (1, 3): three(1),
+            (0, 2): two(1),
+            (2, 3): two(1),
+            (1, 2): three(2),
+            (3, 3): three(2),
+            (2, 2): two(2),
+            (0, 1): two(2),
+            (3, 2): three(3),
+            (1, 1): three(3),
+            (2, 1): two(3),
+            (0, 0): two(3),
+            (3, 1): three(4),
+            (1, 0): three(4),
+            (2, 0): three(5),
+            (3, 0): three(6),
         }.items():
             rows[row][column] = value
     else:
         down = [left[0], left[1], left[2], left[3]]
         for (column, row), value in {
-            (0, 0): (down[0] + down[1] + 1) >> 1, (1, 0): (down[0] + 2 * down[1] + down[2] + 2) >> 2,
-            (2, 0): (down[1] + down[2] + 1) >> 1, (0, 1): (down[1] + down[2] + 1) >> 1,
-            (3, 0): (down[1] + 2 * down[2] + down[3] + 2) >> 2, (1, 1): (down[1] + 2 * down[2] + down[3] + 2) >> 2,
-            (2, 1): (down[2] + down[3] + 1) >> 1, (0, 2): (down[2] + down[3] + 1) >> 1,
-            (3, 1): (down[2] + 3 * down[3] + 2) >> 2, (1, 2): (down[2] + 3 * down[3] + 2) >> 2,
+            (0, 0): (down[0] + down[1] + 1) >> 1,
+            (1, 0): (down[0] + 2 * down[1] + down[2] + 2) >> 2,
+            (2, 0): (down[1] + down[2] + 1) >> 1,
+            (0, 1): (down[1] + down[2] + 1) >> 1,
+            (3, 0): (down[1] + 2 * down[2] + down[3] + 2) >> 2,
+            (1, 1): (down[1] + 2 * down[2] + down[3] + 2) >> 2,
+            (2, 1): (down[2] + down[3] + 1) >> 1,
+            (0, 2): (down[2] + down[3] + 1) >> 1,
+            (3, 1): (down[2] + 3 * down[3] + 2) >> 2,
+            (1, 2): (down[2] + 3 * down[3] + 2) >> 2,
         }.items():
             rows[row][column] = value
         for column, row in ((2, 2), (3, 2), (0, 3), (1, 3), (2, 3), (3, 3)):
@@ -230,9 +278,18 @@ def filtered(plane, x, y, size, vector, six_taps):
         for j in range(-2, size + 3):
             samples = [plane.at(left + i, top + j) for i in range(-2, size + 3)]
             rows.append([tapped(samples[i : i + 6], tables.SIX_TAP_FILTERS[across]) for i in range(size)])
-        return [[tapped([rows[j + k][i] for k in range(6)], tables.SIX_TAP_FILTERS[down]) for i in range(size)] for j in range(size)]
+        return [
+            [tapped([rows[j + k][i] for k in range(6)], tables.SIX_TAP_FILTERS[down]) for i in range(size)]
+            for j in range(size)
+        ]
     first, second = tables.BILINEAR_FILTERS[across], tables.BILINEAR_FILTERS[down]
-    rows = [[(plane.at(left + i, top + j) * first[0] + plane.at(left + i + 1, top + j) * first[1] + 64) >> 7 for i in range(size)] for j in range(size + 1)]
+    rows = [
+        [
+            (plane.at(left + i, top + j) * first[0] + plane.at(left + i + 1, top + j) * first[1] + 64) >> 7
+            for i in range(size)
+        ]
+        for j in range(size + 1)
+    ]
     return [[(rows[j][i] * second[0] + rows[j + 1][i] * second[1] + 64) >> 7 for i in range(size)] for j in range(size)]
 
 
@@ -358,7 +415,9 @@ def level_of(macroblock, header, context):
 
 
 def limits_of(level, header):
-    """The interior limit, the threshold of high edge variance, and the limits of edges between and inside macroblocks."""
+    """The interior limit, the threshold of high edge variance, and the limits of edges between and inside
+    macroblocks.
+    """
     interior = level >> (2 if header.sharpness_level > 4 else 1 if header.sharpness_level else 0)
     if header.sharpness_level:
         interior = min(interior, 9 - header.sharpness_level)
@@ -524,7 +583,11 @@ def references_after(header, picture, before):
         after[ALTREF] = after[LAST if header.copy_to_altref == 1 else GOLDEN]
     if header.copy_to_golden in (1, 2):
         after[GOLDEN] = after[LAST if header.copy_to_golden == 1 else ALTREF]
-    for name, refreshes in ((GOLDEN, header.refresh_golden), (ALTREF, header.refresh_altref), (LAST, header.refresh_last)):
+    for name, refreshes in (
+        (GOLDEN, header.refresh_golden),
+        (ALTREF, header.refresh_altref),
+        (LAST, header.refresh_last),
+    ):
         if refreshes:
             after[name] = picture
     return after

@@ -1,7 +1,8 @@
 """Writes frames of random or directed syntax: the parser runs over sources that choose each value and write it.
 
-A `Chooser` decides. `forced` has values by name (the first word of a name, or the whole name); otherwise values that no stream has had yet
-come first, and the rest is drawn at random, with `rare` as the probability of those updates that an encoder makes seldom.
+A `Chooser` decides. `forced` has values by name (the first word of a name, or the whole name); otherwise values that no
+stream has had yet come first, and the rest is drawn at random, with `rare` as the probability of those updates that an
+encoder makes seldom.
 """
 
 import random
@@ -124,8 +125,10 @@ class Stream:
         self.packets = []
 
     def frame(self, size=None, version=0, shown=True, scales=(0, 0), tail=(), first_cut=0, also=(), **forced):
-        """Adds a frame: a key frame of this size, or an inter frame without one. `forced` has fields of the header by name, `also` values by their whole names; `tail` has
-        functions of the token partitions' bytes, to cut or change them; `first_cut` bytes are missing at the end of the first one."""
+        """Adds a frame: a key frame of this size, or an inter frame without one. `forced` has fields of the header by
+        name, `also` values by their whole names; `tail` has functions of the token partitions' bytes, to cut or change
+        them; `first_cut` bytes are missing at the end of the first one.
+        """
         chooser = self.chooser
         before, chooser.forced = chooser.forced, {**chooser.forced, **forced, **dict(also)}
         header = Header(is_key=size is not None, version=version, show_frame=int(shown))
@@ -149,7 +152,9 @@ class Stream:
         first = first[: len(first) - first_cut]
         start = b""
         if header.is_key:
-            start = b"\x9d\x01\x2a" + b"".join((side | scale << 14).to_bytes(2, "little") for side, scale in zip(self.size, scales))
+            start = b"\x9d\x01\x2a" + b"".join(
+                (side | scale << 14).to_bytes(2, "little") for side, scale in zip(self.size, scales)
+            )
         sizes = b"".join(len(text).to_bytes(3, "little") for text in texts[:-1])
         self.packets.append(tag(header, len(first)) + start + first + sizes + b"".join(texts))
         self.context, self.segment_map = after, segment_map

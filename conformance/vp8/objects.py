@@ -1,4 +1,6 @@
-"""The objects that `vp8list --header all --json` and `--macroblocks all --json` write of a stream, by the plain parser."""
+"""The objects that `vp8list --header all --json` and `--macroblocks all --json` write of a stream, by the plain
+parser.
+"""
 
 from .decoder import level_of, limits_of
 from .parser import B, INTRA, SPLIT, Parsing, Refused, context_for
@@ -10,15 +12,32 @@ SPLITS = ("mv_top_bottom", "mv_left_right", "mv_quarters", "MV_16")
 BITS = ("mode_bits", "token_bits")
 SUB_BLOCKS = [f"B_{name}_PRED" for name in ("DC", "TM", "VE", "HE", "LD", "RD", "VR", "VL", "HD", "HU")]
 # Values that the header reads, by the field that lists their bits: each by its place, or all together.
-EACH = {"quantizer_update": "quantizer_update_value", "lf_update": "lf_update_value", "segment_prob_update": "segment_prob"}
-TOGETHER = {"coeff_prob_update": "token_prob_update", "coeff_prob": "token_prob_update", "mv_prob": "mv_prob_update", "copy_buffer_to_alternate": "copy_buffer_to_arf"}
+EACH = {
+    "quantizer_update": "quantizer_update_value",
+    "lf_update": "lf_update_value",
+    "segment_prob_update": "segment_prob",
+}
+TOGETHER = {
+    "coeff_prob_update": "token_prob_update",
+    "coeff_prob": "token_prob_update",
+    "mv_prob": "mv_prob_update",
+    "copy_buffer_to_alternate": "copy_buffer_to_arf",
+}
 TOGETHER |= {f"{name}_update_flag": name for name in ("intra_16x16_prob", "intra_chroma_prob")}
-PLACES = {"quantizer_update_value": 4, "lf_update_value": 4, "segment_prob": 3, "ref_frame_delta": 4, "mb_mode_delta": 4}
+PLACES = {
+    "quantizer_update_value": 4,
+    "lf_update_value": 4,
+    "segment_prob": 3,
+    "ref_frame_delta": 4,
+    "mb_mode_delta": 4,
+}
 PROBABILITIES = (("coeff_prob", "coefficients"), ("y_mode_prob", "y"), ("uv_mode_prob", "uv"))
 
 
 def bits_of(frame):
-    """The bits of each field: those of the tag and the size by section 9.1, and of each other how many booleans it takes."""
+    """The bits of each field: those of the tag and the size by section 9.1, and of each other how many booleans it
+    takes.
+    """
     header = frame.header
     bits = {"key_frame": 1, "version": 3, "show_frame": 1, "first_part_size": 19}
     bits |= {"width": 14, "horizontal_scale": 2, "height": 14, "vertical_scale": 2} if header.is_key else {}
@@ -36,28 +55,50 @@ def bits_of(frame):
 def header_of(packet, frame):
     """The fields of a header by their names in RFC 6386, section 19.2."""
     header = frame.header
-    fields = {"packet": packet, "key_frame": int(header.is_key), "version": header.version, "show_frame": header.show_frame, "first_part_size": header.first_size}
+    fields = {
+        "packet": packet,
+        "key_frame": int(header.is_key),
+        "version": header.version,
+        "show_frame": header.show_frame,
+        "first_part_size": header.first_size,
+    }
     if header.is_key:
-        fields |= {name: getattr(header, name) for name in ("width", "horizontal_scale", "height", "vertical_scale", "color_space", "clamping_type")}
+        fields |= {
+            name: getattr(header, name)
+            for name in ("width", "horizontal_scale", "height", "vertical_scale", "color_space", "clamping_type")
+        }
     fields["segmentation_enabled"] = header.segmentation_enabled
     if header.segmentation_enabled:
-        fields |= {name: getattr(header, name) for name in ("update_mb_segmentation_map", "update_segment_feature_data")}
+        fields |= {
+            name: getattr(header, name) for name in ("update_mb_segmentation_map", "update_segment_feature_data")
+        }
         if header.update_segment_feature_data:
             fields["segment_feature_mode"] = frame.context.segment_absolute
             fields["quantizer_update_value"] = frame.context.segment_quantizers
             fields["lf_update_value"] = frame.context.segment_levels
         if header.update_mb_segmentation_map:
             fields["segment_prob"] = header.segment_probabilities
-    fields |= {name: getattr(header, name) for name in ("filter_type", "loop_filter_level", "sharpness_level", "loop_filter_adj_enable")}
+    fields |= {
+        name: getattr(header, name)
+        for name in ("filter_type", "loop_filter_level", "sharpness_level", "loop_filter_adj_enable")
+    }
     if header.loop_filter_adj_enable:
         fields |= {"ref_frame_delta": frame.context.reference_deltas, "mb_mode_delta": frame.context.mode_deltas}
     fields["log2_nbr_of_dct_partitions"] = header.log2_nbr_of_dct_partitions
-    fields |= dict(zip(("y_ac_qi", "y_dc_delta", "y2_dc_delta", "y2_ac_delta", "uv_dc_delta", "uv_ac_delta"), (header.y_ac_qi, *header.deltas)))
+    fields |= dict(
+        zip(
+            ("y_ac_qi", "y_dc_delta", "y2_dc_delta", "y2_ac_delta", "uv_dc_delta", "uv_ac_delta"),
+            (header.y_ac_qi, *header.deltas),
+        )
+    )
     if not header.is_key:
         fields |= {"refresh_golden_frame": header.refresh_golden, "refresh_alternate_frame": header.refresh_altref}
         fields |= {} if header.refresh_golden else {"copy_buffer_to_golden": header.copy_to_golden}
         fields |= {} if header.refresh_altref else {"copy_buffer_to_arf": header.copy_to_altref}
-        fields |= {"sign_bias_golden": frame.context.sign_biases[2], "sign_bias_alternate": frame.context.sign_biases[3]}
+        fields |= {
+            "sign_bias_golden": frame.context.sign_biases[2],
+            "sign_bias_alternate": frame.context.sign_biases[3],
+        }
     fields["refresh_entropy_probs"] = header.refresh_entropy_probs
     if not header.is_key:
         fields["refresh_last"] = header.refresh_last
@@ -73,7 +114,10 @@ def header_of(packet, frame):
 def changes_of(packet, before, after):
     """An object for each probability that a header changes."""
     lists = [(name, getattr(before, list_), getattr(after, list_)) for name, list_ in PROBABILITIES]
-    lists += [(f"mv_{which}_prob", before.vectors[place], after.vectors[place]) for place, which in enumerate(("row", "column"))]
+    lists += [
+        (f"mv_{which}_prob", before.vectors[place], after.vectors[place])
+        for place, which in enumerate(("row", "column"))
+    ]
     for name, old, new in lists:
         for index, (one, other) in enumerate(zip(old, new)):
             if one != other:
@@ -95,7 +139,14 @@ def limits(macroblock, frame):
     level = level_of(macroblock, header, frame.context) if header.loop_filter_level else 0
     interior, threshold, outer, inner = limits_of(level, header) if level else [None] * 4
     filters_inside = bool(level) and (macroblock.has_tokens or not macroblock.has_y2)
-    return {"level": level, "interior_limit": interior, "hev_threshold": threshold, "mbedge_limit": outer, "sub_bedge_limit": inner, "inner": int(filters_inside)}
+    return {
+        "level": level,
+        "interior_limit": interior,
+        "hev_threshold": threshold,
+        "mbedge_limit": outer,
+        "sub_bedge_limit": inner,
+        "inner": int(filters_inside),
+    }
 
 
 def quantizer_of(macroblock, frame):
@@ -132,12 +183,16 @@ def macroblock_of(packet, place, frame):
 
 
 def is_counted(frame):
-    """vp8list counts up to 64 bytes past the end of a partition, and four for each macroblock; if one is read further its counts mean nothing."""
+    """vp8list counts up to 64 bytes past the end of a partition, and four for each macroblock; if one is read further
+    its counts mean nothing.
+    """
     return all(reader.taken <= 8 * (len(reader.text) + 64 + 4 * len(frame.macroblocks)) for reader in frame.readers)
 
 
 def frame_objects(packet, frame, before):
-    """The objects of the header of a frame, and those of its macroblocks; without the bits of records and tokens if they mean nothing."""
+    """The objects of the header of a frame, and those of its macroblocks; without the bits of records and tokens if
+    they mean nothing.
+    """
     records = [macroblock_of(packet, place, frame) for place in range(len(frame.macroblocks))]
     for record in records if not is_counted(frame) else ():
         for name in BITS:
@@ -169,4 +224,12 @@ def objects_of(packets):
 def differs(one, other):
     """The values of two objects that are not the same, or None; bits that mean nothing are left out."""
     shown = {name: value for name, value in other.items() if name in one or name not in BITS}
-    return None if one == shown else {name: (one.get(name, "none"), shown.get(name, "none")) for name in one.keys() | shown.keys() if one.get(name, "none") != shown.get(name, "none")}
+    return (
+        None
+        if one == shown
+        else {
+            name: (one.get(name, "none"), shown.get(name, "none"))
+            for name in one.keys() | shown.keys()
+            if one.get(name, "none") != shown.get(name, "none")
+        }
+    )

@@ -1,7 +1,8 @@
 """Headers, mode records and tokens of packets (RFC 6386, sections 9, 10, 11, 13, 16, 17 and 19.2).
 
-`parse` reads a packet after a context and returns a frame: its header, a record for each macroblock, and the context after it. Each value
-that is read has a name, with what selects its probability: `saw` gets both, and a writer that takes the place of the readers chooses it.
+`parse` reads a packet after a context and returns a frame: its header, a record for each macroblock, and the context
+after it. Each value that is read has a name, with what selects its probability: `saw` gets both, and a writer that
+takes the place of the readers chooses it.
 """
 
 import copy
@@ -325,7 +326,9 @@ class Modes:
                 up = found.subs[block - 4] if block > 3 else above[block + 12]
                 before = found.subs[block - 1] if block % 4 else left[block + 3]
                 at = 90 * up + 9 * before
-                found.subs[block] = reader.tree(tables.SUB_TREE, tables.KEY_SUBS[at : at + 9], "key intra_b_mode", up, before)
+                found.subs[block] = reader.tree(
+                    tables.SUB_TREE, tables.KEY_SUBS[at : at + 9], "key intra_b_mode", up, before
+                )
         else:
             found.subs = [COUNTERPARTS[found.y_mode]] * 16
         found.uv_mode = reader.tree(tables.UV_TREE, tables.KEY_UV_PROBABILITIES, "key intra_uv_mode")
@@ -361,11 +364,17 @@ class Modes:
         found.vectors = [vector] * 16
 
     def near_vectors(self, reference, column, row):
-        """The nearest and the near vector, the best one clamped, and the counts that select probabilities (section 16.3)."""
+        """The nearest and the near vector, the best one clamped, and the counts that select probabilities (section
+        16.3).
+        """
         biases = self.context.sign_biases
         found, counts = [ORIGIN], [0, 0, 0, 0]
         place = 0
-        for neighbour, weight in ((self.at(column, row - 1), 2), (self.at(column - 1, row), 2), (self.at(column - 1, row - 1), 1)):
+        for neighbour, weight in (
+            (self.at(column, row - 1), 2),
+            (self.at(column - 1, row), 2),
+            (self.at(column - 1, row - 1), 1),
+        ):
             if neighbour.reference == INTRA:
                 continue
             vector = neighbour.vector
@@ -388,7 +397,11 @@ class Modes:
             counts[1] += 1
             self.events.add("three different neighbours, the third like the first")
         split = 0
-        for neighbour, weight in ((self.at(column, row - 1), 2), (self.at(column - 1, row), 2), (self.at(column - 1, row - 1), 1)):
+        for neighbour, weight in (
+            (self.at(column, row - 1), 2),
+            (self.at(column - 1, row), 2),
+            (self.at(column - 1, row - 1), 1),
+        ):
             split += weight * (neighbour.reference != INTRA and neighbour.vector_mode == SPLIT)
         counts[3] = split
         if counts[2] > counts[1]:
@@ -432,8 +445,16 @@ class Modes:
         above, left = self.at(column, row - 1), self.at(column - 1, row)
         starts = tables.SPLIT_STARTS[found.split]
         for first in sorted(set(starts)):
-            up = found.vectors[first - 4] if first > 3 else (above.vectors[first + 12] if above.reference != INTRA else ORIGIN)
-            before = found.vectors[first - 1] if first % 4 else (left.vectors[first + 3] if left.reference != INTRA else ORIGIN)
+            up = (
+                found.vectors[first - 4]
+                if first > 3
+                else (above.vectors[first + 12] if above.reference != INTRA else ORIGIN)
+            )
+            before = (
+                found.vectors[first - 1]
+                if first % 4
+                else (left.vectors[first + 3] if left.reference != INTRA else ORIGIN)
+            )
             kind = self.neighbours_kind(before, up)
             choice = reader.tree(tables.PART_VECTOR_TREE, tables.PART_VECTOR_PROBABILITIES[kind], "sub_mv_mode", kind)
             vector = (before, up, ORIGIN, None)[choice]
@@ -494,11 +515,22 @@ class Tokens:
         macroblock.token_bits = reader.taken - begun
 
     def block(self, reader, kind, first, context):
-        """The coefficients of a block, or None without tokens, and whether it has one (an end at the first place is none)."""
+        """The coefficients of a block, or None without tokens, and whether it has one (an end at the first place is
+        none).
+        """
         values, place, node, last = [0] * 16, first, 0, None
         while place < 16:
             at = ((kind * 8 + tables.BANDS[place]) * 3 + context) * 11
-            token = reader.tree(tables.TOKEN_TREE, self.probabilities[at : at + 11], "token", kind, tables.BANDS[place], context, int(node == 2), node=node)
+            token = reader.tree(
+                tables.TOKEN_TREE,
+                self.probabilities[at : at + 11],
+                "token",
+                kind,
+                tables.BANDS[place],
+                context,
+                int(node == 2),
+                node=node,
+            )
             if token == 11:
                 break
             value = token
@@ -541,11 +573,26 @@ def parse(packet, before, size, segment_map, saw=None):
     tokens = Tokens([Reader(text, saw) for text in partitions], context.coefficients, columns)
     for place, macroblock in enumerate(macroblocks):
         tokens.read(macroblock, place % columns, place // columns)
-    return Frame(header, context, after, columns, rows, macroblocks, segment_map, partitions, [reader, *tokens.readers], header_bits, asked, modes.events)
+    return Frame(
+        header,
+        context,
+        after,
+        columns,
+        rows,
+        macroblocks,
+        segment_map,
+        partitions,
+        [reader, *tokens.readers],
+        header_bits,
+        asked,
+        modes.events,
+    )
 
 
 class Parsing:
-    """Parses one packet after another, without samples. After a packet that is refused, packets are refused up to the next key tag."""
+    """Parses one packet after another, without samples. After a packet that is refused, packets are refused up to the
+    next key tag.
+    """
 
     def __init__(self):
         self.context, self.segment_map, self.size, self.broken = None, None, None, None

@@ -1,4 +1,6 @@
-"""What is to be reached: each point has a group, a section of RFC 6386 and a name. `Watch` says which of them a stream reaches."""
+"""What is to be reached: each point has a group, a section of RFC 6386 and a name. `Watch` says which of them a stream
+reaches.
+"""
 
 from . import tables
 from .decoder import Decoder, Refused, chroma_vector, factors, level_of, limits_of
@@ -16,9 +18,10 @@ NEIGHBOURS = ["different", "left zero", "above zero", "same", "both zero"]
 COMPONENTS = ["row", "column"]
 CAUSES = ["ShortPacket", "Version", "StartCode", "Size", "NoKeyFrame", "FirstPartition", "TokenSizes", "TokenPartition"]
 FLAGS = (
-    "color_space clamping_type segmentation_enabled update_mb_segmentation_map update_segment_feature_data segment_feature_mode filter_type"
-    " loop_filter_adj_enable mode_ref_lf_delta_update refresh_entropy_probs refresh_golden_frame refresh_alternate_frame sign_bias_golden"
-    " sign_bias_alternate refresh_last mb_no_coeff_skip intra_16x16_prob_update_flag intra_chroma_prob_update_flag"
+    "color_space clamping_type segmentation_enabled update_mb_segmentation_map update_segment_feature_data"
+    " segment_feature_mode filter_type loop_filter_adj_enable mode_ref_lf_delta_update refresh_entropy_probs"
+    " refresh_golden_frame refresh_alternate_frame sign_bias_golden sign_bias_alternate refresh_last mb_no_coeff_skip"
+    " intra_16x16_prob_update_flag intra_chroma_prob_update_flag"
 ).split()
 PROBABILITIES = ("prob_skip_false", "prob_intra", "prob_last", "prob_gf")
 EDGES = ["corner", "first row", "first column", "inside"]
@@ -28,7 +31,12 @@ def field_points():
     """The fields of the header: each flag, the bounds of each number, each level and sharpness (section 19.2)."""
     for name in FLAGS:
         yield from (f"{name} {value}" for value in (0, 1))
-    for name, places, most in (("quantizer_update", 4, 127), ("lf_update", 4, 63), ("ref_frame_delta", 4, 63), ("mb_mode_delta", 4, 63)):
+    for name, places, most in (
+        ("quantizer_update", 4, 127),
+        ("lf_update", 4, 63),
+        ("ref_frame_delta", 4, 63),
+        ("mb_mode_delta", 4, 63),
+    ):
         for place in range(places):
             yield from (f"{name} {place} {value}" for value in ("absent", -most, most))
     for name in ("y_dc_delta", "y2_dc_delta", "y2_ac_delta", "uv_dc_delta", "uv_ac_delta"):
@@ -59,7 +67,9 @@ def update_points():
         yield from (f"{name} {place}" for place in range(count))
         yield from (f"{name} {place} {value}" for place in range(count) for value in (0, 255))
     yield from (f"coeff_prob {value}" for value in (0, 255))
-    yield from (f"mv_prob {component} {place} {value}" for component in range(2) for place in range(19) for value in (0, 127))
+    yield from (
+        f"mv_prob {component} {place} {value}" for component in range(2) for place in range(19) for value in (0, 127)
+    )
 
 
 def mode_points():
@@ -69,11 +79,17 @@ def mode_points():
     yield from (f"inter frame chroma {name}" for name in MODE_NAMES[:4])
     yield from (f"inter frame sub block {name}" for name in SUB_NAMES)
     yield from (f"segment {number}" for number in range(4))
-    yield from (f"{name} {value}" for name in ("mb_skip_coeff", "is_inter_mb", "mb_ref_frame_sel1", "mb_ref_frame_sel2") for value in (0, 1))
+    yield from (
+        f"{name} {value}"
+        for name in ("mb_skip_coeff", "is_inter_mb", "mb_ref_frame_sel1", "mb_ref_frame_sel2")
+        for value in (0, 1)
+    )
 
 
 def key_sub_points():
-    yield from (f"above {above}, left {left}: {mode}" for above in SUB_NAMES for left in SUB_NAMES for mode in SUB_NAMES)
+    yield from (
+        f"above {above}, left {left}: {mode}" for above in SUB_NAMES for left in SUB_NAMES for mode in SUB_NAMES
+    )
 
 
 def token_points():
@@ -133,8 +149,20 @@ def segment_points():
 
 def residual_points():
     yield from ("macroblock without tokens, not skipped", "skipped with Y2", "skipped without Y2")
-    yield from (f"{kind} factor {name}" for kind in ("Y", "Y2", "chroma") for name in ("least DC", "greatest DC", "least AC", "greatest AC"))
-    yield from ("clamped at 0", "clamped at 255", "DC alone", "Y2 DC alone", "first pass leaves 16 bits", "second pass leaves 16 bits", "coefficient times factor leaves 16 bits")
+    yield from (
+        f"{kind} factor {name}"
+        for kind in ("Y", "Y2", "chroma")
+        for name in ("least DC", "greatest DC", "least AC", "greatest AC")
+    )
+    yield from (
+        "clamped at 0",
+        "clamped at 255",
+        "DC alone",
+        "Y2 DC alone",
+        "first pass leaves 16 bits",
+        "second pass leaves 16 bits",
+        "coefficient times factor leaves 16 bits",
+    )
     yield from (f"Y2: {which} pass leaves 16 bits" for which in ("first", "second"))
 
 
@@ -145,7 +173,11 @@ def filter_points():
     yield from (f"key frame, variance threshold {value}" for value in range(3))
     yield from (f"inter frame, variance threshold {value}" for value in range(4))
     yield from (f"interior limit {value}" for value in range(1, 64))
-    yield from (f"{name}: inner edges {value}" for name in ("normal", "simple") for value in ("filtered", "not filtered", "filtered for tokens that are all 0"))
+    yield from (
+        f"{name}: inner edges {value}"
+        for name in ("normal", "simple")
+        for value in ("filtered", "not filtered", "filtered for tokens that are all 0")
+    )
 
 
 def prediction_points():
@@ -156,20 +188,32 @@ def prediction_points():
     for mode in ("LD", "VL"):
         yield from (f"{mode} uses samples right of the frame, {row}" for row in ("first row", "later row"))
     for taps in ("six taps", "two taps"):
-        yield from (f"{taps}: luma 16x16, fraction {across},{down}" for across in range(0, 8, 2) for down in range(0, 8, 2))
-        yield from (f"{taps}: luma 4x4, fraction {across},{down}" for across in range(0, 8, 2) for down in range(0, 8, 2))
+        yield from (
+            f"{taps}: luma 16x16, fraction {across},{down}" for across in range(0, 8, 2) for down in range(0, 8, 2)
+        )
+        yield from (
+            f"{taps}: luma 4x4, fraction {across},{down}" for across in range(0, 8, 2) for down in range(0, 8, 2)
+        )
         yield from (f"{taps}: chroma 8x8, fraction {across},{down}" for across in range(8) for down in range(8))
         yield from (f"{taps}: chroma 4x4, fraction {across},{down}" for across in range(8) for down in range(8))
     for side in ("left", "right", "top", "bottom", "top left", "top right", "bottom left", "bottom right"):
-        yield from (f"vector out of the frame, {side}, by {reach}" for reach in ("one sample or more", "a border of 32 or more", "200 or more"))
-    yield from (f"chroma vector rounded {way}" for way in ("up from a half, plus", "down from a half, minus", "to whole samples"))
+        yield from (
+            f"vector out of the frame, {side}, by {reach}"
+            for reach in ("one sample or more", "a border of 32 or more", "200 or more")
+        )
+    yield from (
+        f"chroma vector rounded {way}"
+        for way in ("up from a half, plus", "down from a half, minus", "to whole samples")
+    )
     yield "sixteen different vectors in a macroblock"
     yield from (f"reference {name}" for name in ("last", "golden", "altref"))
 
 
 def partition_points():
     yield from (f"{1 << count} token partitions, {rows}" for count in range(4) for rows in ("fewer rows", "more rows"))
-    yield from (f"{which} partition {what}" for which in ("first", "token") for what in ("ends early", "begins with FF"))
+    yield from (
+        f"{which} partition {what}" for which in ("first", "token") for what in ("ends early", "begins with FF")
+    )
     yield "empty token partition"
 
 
@@ -193,7 +237,11 @@ GROUPS = {
     "modes": ("8.1, 9.3, 11, 16", mode_points, {}),
     "key sub block modes in context": ("11.3, 11.5", key_sub_points, {}),
     "tokens": ("13", token_points, {}),
-    "vectors": ("16.3, 17", vector_points, {f"count of near {count}, bit {bit}": NEAR for count in (3, 4, 5) for bit in (0, 1)}),
+    "vectors": (
+        "16.3, 17",
+        vector_points,
+        {f"count of near {count}, bit {bit}": NEAR for count in (3, 4, 5) for bit in (0, 1)},
+    ),
     "references": ("9.7, 9.11", reference_points, {}),
     "segments": ("9.3, 9.6", segment_points, {}),
     "residuals": ("14", residual_points, {}),
@@ -231,7 +279,14 @@ class Watch:
 
     def saw(self, name, value):
         kind, rest = name[0], name[1:]
-        if kind in FLAGS or kind in ("copy_buffer_to_golden", "copy_buffer_to_alternate", "loop_filter_level", "sharpness_level", "log2_nbr_of_dct_partitions", "y_ac_qi"):
+        if kind in FLAGS or kind in (
+            "copy_buffer_to_golden",
+            "copy_buffer_to_alternate",
+            "loop_filter_level",
+            "sharpness_level",
+            "log2_nbr_of_dct_partitions",
+            "y_ac_qi",
+        ):
             self.add("header fields", f"{kind} {value}")
         elif kind.endswith(("_delta", "_update")) and kind not in ("coeff_prob_update", "mv_prob_update"):
             value = "absent" if value is None else value
@@ -250,7 +305,10 @@ class Watch:
 
     def saw_macroblock(self, kind, rest, value):
         if kind == "key intra_b_mode":
-            self.add("key sub block modes in context", f"above {SUB_NAMES[rest[0]]}, left {SUB_NAMES[rest[1]]}: {SUB_NAMES[value]}")
+            self.add(
+                "key sub block modes in context",
+                f"above {SUB_NAMES[rest[0]]}, left {SUB_NAMES[rest[1]]}: {SUB_NAMES[value]}",
+            )
         elif kind == "token":
             block, band, context, after = rest
             where = "after 0" if after else f"context {context}"
@@ -339,14 +397,19 @@ class Watch:
         else:
             golden = "refreshed" if header.refresh_golden else header.copy_to_golden
             altref = "refreshed" if header.refresh_altref else header.copy_to_altref
-            biases = ("no bias", "golden bias", "altref bias", "both biases")[frame.context.sign_biases[GOLDEN] + 2 * frame.context.sign_biases[ALTREF]]
+            biases = ("no bias", "golden bias", "altref bias", "both biases")[
+                frame.context.sign_biases[GOLDEN] + 2 * frame.context.sign_biases[ALTREF]
+            ]
             self.add("references", f"golden {golden}, altref {altref}, {biases}, last {header.refresh_last}")
         if not header.refresh_entropy_probs and frame.context.coefficients != frame.context_after.coefficients:
             self.add("references", "probabilities are saved, changed and come back")
         self.segments(header, frame, segment_map)
         self.partitions(packet, frame)
         if header.loop_filter_level:
-            self.add("loop filter", f"{'simple' if header.filter_type else 'normal'}, {kind} frame, sharpness {header.sharpness_level}")
+            self.add(
+                "loop filter",
+                f"{'simple' if header.filter_type else 'normal'}, {kind} frame, sharpness {header.sharpness_level}",
+            )
 
     def key_frame(self, header, size):
         for which in ("horizontal", "vertical"):
@@ -366,7 +429,9 @@ class Watch:
             elif header.is_key:
                 self.add("segments", "map cleared by a key frame")
             elif before and any(before):
-                self.add("segments", "map kept through a frame without segments" if self.had_segments_off else "map kept")
+                self.add(
+                    "segments", "map kept through a frame without segments" if self.had_segments_off else "map kept"
+                )
                 self.had_segments_off = False
             self.add("segments", "features absolute" if frame.context.segment_absolute else "features delta")
         else:
@@ -374,7 +439,10 @@ class Watch:
 
     def partitions(self, packet, frame):
         count = len(frame.partitions)
-        self.add("partitions", f"{count} token partitions, {'fewer' if frame.rows < count or count == 1 == frame.rows else 'more'} rows")
+        self.add(
+            "partitions",
+            f"{count} token partitions, {'fewer' if frame.rows < count or count == 1 == frame.rows else 'more'} rows",
+        )
         start = 10 if frame.header.is_key else 3
         texts = [packet[start : start + frame.header.first_size], *frame.partitions]
         for number, (text, reader) in enumerate(zip(texts, frame.readers)):
@@ -415,7 +483,9 @@ class Watch:
             if macroblock.reference == INTRA:
                 wanted += context.mode_deltas[0] if macroblock.y_mode == B else 0
             else:
-                wanted += context.mode_deltas[1 if macroblock.vector_mode == 0 else 3 if macroblock.vector_mode == SPLIT else 2]
+                wanted += context.mode_deltas[
+                    1 if macroblock.vector_mode == 0 else 3 if macroblock.vector_mode == SPLIT else 2
+                ]
             for bound, outside in ((0, wanted < 0), (63, wanted > 63)):
                 if outside:
                     self.add("segments", f"level clamped at {bound} by deltas")
@@ -456,7 +526,13 @@ class Watch:
             if block and any(abs(value * pair[place > 0]) > 32767 for place, value in enumerate(block)):
                 self.add("residuals", "coefficient times factor leaves 16 bits")
             if block and not any(block):
-                self.add("tokens", f"{KINDS[1 if number == 24 else 2 if number > 15 else 0 if macroblock.has_y2 else 3]}: zeros up to the last place")
+                self.add(
+                    "tokens",
+                    (
+                        f"{KINDS[1 if number == 24 else 2 if number > 15 else 0 if macroblock.has_y2 else 3]}: zeros up"
+                        " to the last place"
+                    ),
+                )
             if block and block[0] and not any(block[1:]):
                 self.add("residuals", "Y2 DC alone" if number == 24 else "DC alone")
 
@@ -487,7 +563,11 @@ class Watch:
         for block in range(16) if split else (15,):
             down, across = (2 * component for component in macroblock.vectors[block])
             self.add("prediction", f"{taps}: luma {'4x4' if split else '16x16'}, fraction {across & 7},{down & 7}")
-            x, y, side = (16 * column + 4 * (block % 4), 16 * row + 4 * (block // 4), 4) if split else (16 * column, 16 * row, 16)
+            x, y, side = (
+                (16 * column + 4 * (block % 4), 16 * row + 4 * (block // 4), 4)
+                if split
+                else (16 * column, 16 * row, 16)
+            )
             self.reach(frame, x + (across >> 3), y + (down >> 3), side)
         for group in range(4) if split else (0,):
             self.chroma(macroblock, group, version, taps, split)
@@ -499,7 +579,10 @@ class Watch:
         self.add("prediction", f"{taps}: chroma {'4x4' if split else '8x8'}, fraction {across & 7},{down & 7}")
         for total in totals:
             if total % 4 == 2:
-                self.add("prediction", f"chroma vector rounded {'up from a half, plus' if total > 0 else 'down from a half, minus'}")
+                self.add(
+                    "prediction",
+                    f"chroma vector rounded {'up from a half, plus' if total > 0 else 'down from a half, minus'}",
+                )
             if version == 3 and chroma_vector(total, 0) & 7:
                 self.add("prediction", "chroma vector rounded to whole samples")
 

@@ -1,5 +1,5 @@
-"""Captures of calls that the tests make: RTP packets of VP8 by hand, and the files of captures around them, written by the RFCs and the descriptions of
-the formats and not by what reads them."""
+"""Captures of calls that the tests make: RTP packets of VP8 by hand, and the files of captures around them, written by
+the RFCs and the descriptions of the formats and not by what reads them."""
 
 import json
 import random
@@ -49,7 +49,9 @@ def payloads(packets, size=80, first=65000, start=0xFFFFFF00, step=CLOCK // 25, 
                 more.update(base=number // len(layers), layer=layers[number % len(layers)])
             head = descriptor(place == 0, **more)
             options = {name: value for name, value in facts.items() if name != "wide"}
-            found.append(rtp(sequence, start + number * step, head + data[place : place + size], place == places[-1], **options))
+            found.append(
+                rtp(sequence, start + number * step, head + data[place : place + size], place == places[-1], **options)
+            )
             sequence += 1
     return found
 
@@ -75,7 +77,11 @@ def udp(data, source, to, addresses, has_sum=True):
     head = struct.pack(">HHHH", source, to, 8 + len(data), 0)
     if not has_sum:
         return head + data
-    pseudo = addresses + (struct.pack(">BBH", 0, 17, 8 + len(data)) if len(addresses) == 8 else struct.pack(">IHBB", 8 + len(data), 0, 0, 17))
+    pseudo = addresses + (
+        struct.pack(">BBH", 0, 17, 8 + len(data))
+        if len(addresses) == 8
+        else struct.pack(">IHBB", 8 + len(data), 0, 0, 17)
+    )
     return head[:6] + struct.pack(">H", ones_sum(pseudo + head + data) or 0xFFFF) + data
 
 
@@ -90,7 +96,12 @@ def ipv4(data, source=40000, to=50000, has_sum=True, options=b"", part=0):
 def ipv6(data, source=40000, to=50000, options=b""):
     addresses = bytes(15) + b"\1" + bytes(15) + b"\2"
     segment = udp(data, source, to, addresses)
-    return struct.pack(">IHBB", 6 << 28, len(options) + len(segment), 0 if options else 17, 64) + addresses + options + segment
+    return (
+        struct.pack(">IHBB", 6 << 28, len(options) + len(segment), 0 if options else 17, 64)
+        + addresses
+        + options
+        + segment
+    )
 
 
 def ethernet(packet, tags=()):
@@ -102,10 +113,20 @@ def ethernet(packet, tags=()):
 
 
 def pcap(packets, link=1, order="<", nano=False, snap=1 << 16, every=1):
-    """A pcap file of packets of a network, one each millisecond. Every so many of them are captured up to `snap` bytes."""
+    """A pcap file of packets of a network, one each millisecond. Every so many of them are captured up to `snap`
+    bytes.
+    """
     found = [struct.pack(order + "IHHiIII", 0xA1B23C4D if nano else 0xA1B2C3D4, 2, 4, 0, 0, snap, link)]
     for place, packet in enumerate(packets):
-        found.append(struct.pack(order + "IIII", 1000 + place // 1000, place % 1000 * (1000000 if nano else 1000), len(part := packet[:snap] if place % every == every - 1 else packet), len(packet)))
+        found.append(
+            struct.pack(
+                order + "IIII",
+                1000 + place // 1000,
+                place % 1000 * (1000000 if nano else 1000),
+                len(part := packet[:snap] if place % every == every - 1 else packet),
+                len(packet),
+            )
+        )
         found.append(part)
     return b"".join(found)
 
@@ -117,12 +138,17 @@ def block(kind, body, order="<"):
 
 def pcapng(packets, link=1, order="<", simple=False, old=False):
     """A pcapng file: the head of a section, a link, and a block for each packet."""
-    found = [block(0x0A0D0D0A, struct.pack(order + "IHHq", 0x1A2B3C4D, 1, 0, -1), order), block(1, struct.pack(order + "HHI", link, 0, 0), order)]
+    found = [
+        block(0x0A0D0D0A, struct.pack(order + "IHHq", 0x1A2B3C4D, 1, 0, -1), order),
+        block(1, struct.pack(order + "HHI", link, 0, 0), order),
+    ]
     for place, packet in enumerate(packets):
         if simple:
             found.append(block(3, struct.pack(order + "I", len(packet)) + packet, order))
         elif old:
-            found.append(block(2, struct.pack(order + "HHIIII", 0, 0, 0, place, len(packet), len(packet)) + packet, order))
+            found.append(
+                block(2, struct.pack(order + "HHIIII", 0, 0, 0, place, len(packet), len(packet)) + packet, order)
+            )
         else:
             found.append(block(6, struct.pack(order + "IIIII", 0, 0, place, len(packet), len(packet)) + packet, order))
     return b"".join(found)
@@ -143,12 +169,18 @@ def janus(packets, version=2, facts=None):
     text = json.dumps({"t": "v", "c": "vp8", "s": 1, "u": 2} if facts is None else facts).encode()
     found = [b"MJR0000%d" % version, struct.pack(">H", len(text)), text]
     for place, packet in enumerate(packets):
-        found.append((b"MEET" + struct.pack(">I", place) if version == 2 else b"MEETECHO") + struct.pack(">H", len(packet)) + packet)
+        found.append(
+            (b"MEET" + struct.pack(">I", place) if version == 2 else b"MEETECHO")
+            + struct.pack(">H", len(packet))
+            + packet
+        )
     return b"".join(found)
 
 
 def framed(data):
-    """The packets of a stream in which each has its length before it (RFC 4571), as GStreamer's rtpstreampay writes it."""
+    """The packets of a stream in which each has its length before it (RFC 4571), as GStreamer's rtpstreampay writes
+    it.
+    """
     found, place = [], 0
     while place < len(data):
         size = struct.unpack_from(">H", data, place)[0]

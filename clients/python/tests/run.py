@@ -1,9 +1,9 @@
 #!/usr/bin/env python3
 """Runs the tests of the client: python3 clients/python/tests/run.py [NAME ..], where NAME is a file such as test_edits.
 
-The programs are those of the variables VP8SERVE and VP8LIST, or on the PATH, or built in this tree. It prints nothing if all tests
-pass and none is skipped, names those that are skipped, and prints what failed and exits with 1 if one fails. A test has a limit of its
-own, and the whole run one of 25 minutes.
+The programs are those of the variables VP8SERVE and VP8LIST, or on the PATH, or built in this tree. It prints nothing
+if all tests pass and none is skipped, names those that are skipped, and prints what failed and exits with 1 if one
+fails. A test has a limit of its own, and the whole run one of 25 minutes.
 """
 
 import ast

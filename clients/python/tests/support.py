@@ -16,9 +16,10 @@ from unittest import mock
 TOP = pathlib.Path(__file__).resolve().parents[3]
 sys.path.insert(0, str(TOP / "clients/python"))
 
-from wokureti import Refused, Session  # noqa: E402
+from wokureti import Session  # noqa: E402
+from wokureti.base import programs  # noqa: E402
+from wokureti.media import ivf  # noqa: E402
 from wokureti.session import library  # noqa: E402
-from wokureti.tools import ivf, programs  # noqa: E402
 
 # The programs of this tree are tested, not others that may be on the PATH.
 for name in ("vp8serve", "vp8list"):
@@ -43,23 +44,15 @@ ODD = DATA / "odd-size.ivf"
 
 
 def slowness():
-    """How many times longer than on an idle machine a process takes to start here, so that a busy machine fails no test."""
+    """How many times longer than on an idle machine a process takes to start here, so that a busy machine fails no
+    test.
+    """
     start = time.monotonic()
     subprocess.run([sys.executable, "-c", ""], check=True, timeout=60)
     return min(20.0, max(1.0, (time.monotonic() - start) / 0.05))
 
 
 SLOW = slowness()
-
-
-def knows(question):
-    """Whether sessions answer a question: those of an earlier version may not."""
-    with Session() as session:
-        try:
-            session.ask(question)
-        except Refused:
-            return False
-        return True
 
 
 class Case(unittest.TestCase):
@@ -79,7 +72,7 @@ class Case(unittest.TestCase):
 
     def hush(self):
         """What sessions and servers in this process say to people is not printed."""
-        for name in ("wokureti.server.live.say", "wokureti.tools.convert.say"):
+        for name in ("wokureti.server.live.say", "wokureti.session.convert.say"):
             patch = mock.patch(name)
             patch.start()
             self.addCleanup(patch.stop)
@@ -121,7 +114,9 @@ def is_alive(pid):
 
 
 def list_of(path):
-    """The text of a list of edits without its first line, which says what stream it is of, and without those that name its sources."""
+    """The text of a list of edits without its first line, which says what stream it is of, and without those that name
+    its sources.
+    """
     text = re.sub(r"\A# wokureti: edits of \d+ packets, \d+ bytes, sha256 [0-9a-f]{64}\n", "", path.read_text())
     return re.sub(r"(?m)^# source \d+: .*\n", "", text)
 
@@ -165,7 +160,9 @@ def serve(stream, lines, *options, frames="-"):
     """The replies of a run of the program on a list of requests."""
     words = [programs.find("vp8serve"), str(stream), "-", str(frames), *map(str, options)]
     given = "".join(f"{line}\n" for line in lines)
-    return subprocess.run(words, input=given, capture_output=True, text=True, timeout=20 * SLOW, check=True).stdout.splitlines()
+    return subprocess.run(
+        words, input=given, capture_output=True, text=True, timeout=20 * SLOW, check=True
+    ).stdout.splitlines()
 
 
 def frames_of(stream, numbers, *lines_before):
@@ -176,7 +173,7 @@ def frames_of(stream, numbers, *lines_before):
         with open(out, "rb") as file:
             header = file.readline()
             rest = file.read()
-    from wokureti.session.frames import parse_header, size_of
+    from wokureti.media.y4m import parse_header, size_of
 
     size = 6 + size_of(*parse_header(header))
     return [rest[start + 6 : start + size] for start in range(0, len(rest), size)]
@@ -194,8 +191,8 @@ def start(*words, **options):
 
 
 def start_unwaking(*words, **options):
-    """The same. A line of its standard input is a Ctrl-C that came right before the main thread began to wait: the handler is called when
-    the wait is over, and the signal does not end the wait."""
+    """The same. A line of its standard input is a Ctrl-C that came right before the main thread began to wait: the
+    handler is called when the wait is over, and the signal does not end the wait."""
     code = "; ".join((
         "import _thread, sys, threading",
         "from wokureti import commands",

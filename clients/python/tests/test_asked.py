@@ -1,4 +1,6 @@
-"""What the client asks the session for: packets that undo brings back, the facts of packets, and the frames of scripts, against a plain model and against vp8list."""
+"""What the client asks the session for: packets that undo brings back, the facts of packets, and the frames of scripts,
+against a plain model and against vp8list.
+"""
 
 import json
 import random
@@ -7,21 +9,32 @@ import threading
 import unittest
 from unittest import mock
 
-from exporting import origins as model_origins
 from support import DATA, ODD, SLOW, SMALL, Case, crash, packets_of, serve
 from wokureti import Ended, Refused
-from wokureti.tools import ivf, programs
+from wokureti.base import programs
+from wokureti.media import ivf
 from wokureti.session.listing import common
-from wokureti.page.opened import Opened, frame_at, group_of
 from wokureti.session.origins import first_change, joined, runs_of
+from wokureti.page.opened import Opened, frame_at, group_of
 
 HIDDEN, SCENES = DATA / "hidden-altref.ivf", DATA / "scene-cuts.ivf"
 # Packets that drop a frame, that decoding refuses, and that are sound.
-BYTES = [b"", b"", b"\x11\x00", b"\x10\x00", bytes(10), b"\x10\x00\x00", packets_of(SMALL)[0], packets_of(SMALL)[3], packets_of(ODD)[0], packets_of(SCENES)[4]]
+BYTES = [
+    b"",
+    b"",
+    b"\x11\x00",
+    b"\x10\x00",
+    bytes(10),
+    b"\x10\x00\x00",
+    packets_of(SMALL)[0],
+    packets_of(SMALL)[3],
+    packets_of(ODD)[0],
+    packets_of(SCENES)[4],
+]
 
 
 class Model:
-    """The packets of each source, as docs/requests.md says what edits do: pairs of a time stamp and bytes."""
+    """The packets of each source, as docs/reference/requests.md says what edits do: pairs of a time stamp and bytes."""
 
     forged = {}
 
@@ -66,7 +79,9 @@ class Model:
         key = (word, *size)
         if key not in self.forged:
             replies = serve("-", [f"blank 0 {size[0]} {size[1]}", "hold 1", "packet 0", "packet 1"])
-            self.forged[("blank", *size)], self.forged[("hold", *size)] = (bytes.fromhex(reply.split()[2]) for reply in replies[2:])
+            self.forged[("blank", *size)], self.forged[("hold", *size)] = (
+                bytes.fromhex(reply.split()[2]) for reply in replies[2:]
+            )
         return self.forged[key]
 
     def frames(self):
@@ -97,6 +112,29 @@ def random_line(choose, counts, current):
     return choose.choice(lines)
 
 
+def model_origins(script, counts):
+    """The source of each frame of a script of source, trim, splice and parts, and its frame there, for sources of so
+    many frames.
+    """
+    sources = [[(source, frame) for frame in range(count)] for source, count in enumerate(counts)]
+    nodes = [sources[0]]
+    for text in script.split(";") if script != "-" else ():
+        word, *rest = text.split()
+        one, *rest = map(int, rest)
+        if word == "source":
+            made = sources[one]
+        elif word == "splice":
+            made = nodes[one] + nodes[rest[0]]
+        else:
+            made = [
+                frame
+                for node, first, count in zip(*[iter([one, *rest])] * 3)
+                for frame in nodes[node][first : first + count]
+            ]
+        nodes.append(made)
+    return nodes[-1]
+
+
 def random_script(choose, sources, kinds=("source", "trim", "splice", "parts")):
     nodes = []
     for number in range(choose.randrange(5)):
@@ -105,9 +143,15 @@ def random_script(choose, sources, kinds=("source", "trim", "splice", "parts")):
             "source": f"{choose.randrange(sources)}",
             "trim": f"{node} {choose.randrange(6)} {choose.randrange(1, 9)}",
             "splice": f"{node} {choose.randrange(number + 1)}",
-            "parts": " ".join(f"{choose.randrange(number + 1)} {choose.randrange(6)} {choose.randrange(5)}" for _ in range(choose.randrange(1, 5))),
+            "parts": " ".join(
+                f"{choose.randrange(number + 1)} {choose.randrange(6)} {choose.randrange(5)}"
+                for _ in range(choose.randrange(1, 5))
+            ),
             "crop": f"{node} 0 {2 * choose.randrange(2)} {choose.choice([2, 7, 16, 40])} {choose.choice([1, 5, 16])}",
-            "fade": f"{node} {choose.randrange(4)} {choose.randrange(1, 5)} {choose.choice([0, 256])} {choose.choice([0, 256])}",
+            "fade": (
+                f"{node} {choose.randrange(4)} {choose.randrange(1, 5)}"
+                f" {choose.choice([0, 256])} {choose.choice([0, 256])}"
+            ),
         }[word]
         nodes.append(f"{word} {rest}")
     return "; ".join(nodes) or "-"
@@ -115,7 +159,9 @@ def random_script(choose, sources, kinds=("source", "trim", "splice", "parts")):
 
 def listed(path):
     """What vp8list says of a file."""
-    done = subprocess.run([programs.find("vp8list"), path, "--json"], capture_output=True, timeout=20 * SLOW, check=True)
+    done = subprocess.run(
+        [programs.find("vp8list"), path, "--json"], capture_output=True, timeout=20 * SLOW, check=True
+    )
     return [json.loads(line) for line in done.stdout.splitlines()]
 
 
@@ -127,7 +173,9 @@ class AskedCase(Case):
         found = []
         for source in range(sources):
             count = len(stream.packets(source=source))
-            answers = [answer.split() for answer in stream.ask_all([f"packet {index}" for index in range(count)], source)]
+            answers = [
+                answer.split() for answer in stream.ask_all([f"packet {index}" for index in range(count)], source)
+            ]
             found.append([(int(stamp), b"" if data == "-" else bytes.fromhex(data)) for _, stamp, data in answers])
         return found
 
@@ -137,7 +185,9 @@ class AskedCase(Case):
 
 class Packets(AskedCase):
     def test_random_edits_undone_and_made_again(self):
-        """After each step the packets, the current source and the script are those of the model, which is made anew from the list of edits."""
+        """After each step the packets, the current source and the script are those of the model, which is made anew
+        from the list of edits.
+        """
         choose = random.Random(311)
         for paths in ((SMALL, ODD, "-"), (HIDDEN, SCENES)):
             stream, steps = self.session(paths[0], sources=paths[1:], cache=4), 0
@@ -149,7 +199,12 @@ class Packets(AskedCase):
                     elif act < 0.35:
                         stream.redo()
                     elif act < 0.5:
-                        stream.edits.run_step([random_line(choose, self.counts(stream), stream.edits.current) for _ in range(choose.randrange(1, 6))])
+                        stream.edits.run_step(
+                            [
+                                random_line(choose, self.counts(stream), stream.edits.current)
+                                for _ in range(choose.randrange(1, 6))
+                            ]
+                        )
                     else:
                         stream.request(random_line(choose, self.counts(stream), stream.edits.current))
                 except Refused:
@@ -160,7 +215,10 @@ class Packets(AskedCase):
                     model.make(line)
                 self.assertEqual(self.packets(stream, len(paths)), model.sources, list(stream.edits))
                 contents = stream.edits.contents()
-                self.assertEqual((contents.current, contents.script, self.counts(stream)), (model.current, model.script, list(map(len, model.sources))))
+                self.assertEqual(
+                    (contents.current, contents.script, self.counts(stream)),
+                    (model.current, model.script, list(map(len, model.sources))),
+                )
                 # The client knows which packet each of them is: its bytes are found by its number.
                 for source, packets in enumerate(model.sources):
                     numbers = contents.streams[source]
@@ -171,7 +229,9 @@ class Packets(AskedCase):
             stream.close()
 
     def test_steps_that_are_refused_are_taken_back(self):
-        """Those after the refused edit are made on other packets than was thought; so are those of an undo of which one is refused."""
+        """Those after the refused edit are made on other packets than was thought; so are those of an undo of which one
+        is refused.
+        """
         choose, refused = random.Random(319), 0
         stream, wanted = self.session(SMALL, sources=[ODD], cache=1), Model([SMALL, ODD]).sources
         for turn in range(250):
@@ -205,7 +265,10 @@ class Packets(AskedCase):
             stream.delete(1)
             stream.undo()
             stream.delete(range(0, 2))
-            self.assertEqual([line for line in asked if line.startswith(b"packet")], [b"packet 3", b"packet 1", b"packet 1", b"packet 0"])
+            self.assertEqual(
+                [line for line in asked if line.startswith(b"packet")],
+                [b"packet 3", b"packet 1", b"packet 1", b"packet 0"],
+            )
             del stream._exchange
             while stream.undo():
                 pass
@@ -231,7 +294,12 @@ class Packets(AskedCase):
             for line in ("delete 0", "use 0", " script -", "hold 1"):
                 with self.assertRaises(ValueError):
                     stream.ask(line)
-            for question, source, word in (("packet 0", 4, "Source"), ("packet 12", None, "Place"), ("nonsense", None, "Line"), ("list 13 0", 0, "Place")):
+            for question, source, word in (
+                ("packet 0", 4, "Source"),
+                ("packet 12", None, "Place"),
+                ("nonsense", None, "Line"),
+                ("list 13 0", 0, "Place"),
+            ):
                 with self.assertRaises(Refused) as caught:
                     stream.ask(question, source)
                 self.assertEqual(caught.exception.word, word)
@@ -240,14 +308,28 @@ class Packets(AskedCase):
     def test_an_answer_of_many_lines(self):
         with self.session(SCENES) as stream:
             count = stream.count().packets
-            answers = stream.ask_all(["list 0 0", f"list 0 {count}", "packet 0", f"list {count} 5", "list 1 1", "count"])
-            self.assertEqual([answer.split("\n")[0].split()[:2] for answer in answers], [["lines", "0"], ["lines", str(count)], answers[2].split()[:2], ["lines", "0"], ["lines", "1"], ["packets", str(count)]])
+            answers = stream.ask_all(
+                ["list 0 0", f"list 0 {count}", "packet 0", f"list {count} 5", "list 1 1", "count"]
+            )
+            self.assertEqual(
+                [answer.split("\n")[0].split()[:2] for answer in answers],
+                [
+                    ["lines", "0"],
+                    ["lines", str(count)],
+                    answers[2].split()[:2],
+                    ["lines", "0"],
+                    ["lines", "1"],
+                    ["packets", str(count)],
+                ],
+            )
             self.assertEqual([len(answer.split("\n")) for answer in answers], [1, count + 1, 1, 1, 2, 1])
 
 
 class Facts(AskedCase):
     def assertListed(self, stream, source, path):
-        """The facts of a source are those of vp8list of the file that is saved of it: those that are asked for, and those that are stored."""
+        """The facts of a source are those of vp8list of the file that is saved of it: those that are asked for, and
+        those that are stored.
+        """
         stream.save(path, source=source)
         wanted = listed(path)
         self.assertEqual(stream.packets(source=source), wanted)
@@ -257,7 +339,10 @@ class Facts(AskedCase):
         for number, cause, fact in zip(seen.stream, seen.causes, wanted):
             self.assertEqual(listing.causes[cause] or None, fact["cause"])
             self.assertEqual((contents.size(number), contents.stamp(number)), (fact["bytes"], fact["stamp"]))
-            self.assertEqual((contents.has_key_tag(number), contents.is_shown(number)), (fact["kind"] == "key", fact["show"] == "shown"))
+            self.assertEqual(
+                (contents.has_key_tag(number), contents.is_shown(number)),
+                (fact["kind"] == "key", fact["show"] == "shown"),
+            )
             if fact["size"]:
                 self.assertEqual("{}x{}".format(*listing.pictures[number]), fact["size"])
 
@@ -271,14 +356,29 @@ class Facts(AskedCase):
             for _ in range(choose.randrange(1, 4)):
                 for _ in range(choose.randrange(1, 5)):
                     try:
-                        choose.choice([stream.undo, stream.redo, *[lambda: stream.request(random_line(choose, self.counts(stream), stream.edits.current))] * 8])()
+                        choose.choice(
+                            [
+                                stream.undo,
+                                stream.redo,
+                                *[
+                                    lambda: stream.request(
+                                        random_line(choose, self.counts(stream), stream.edits.current)
+                                    )
+                                ]
+                                * 8,
+                            ]
+                        )()
                     except Refused:
                         pass
                 stream.edits.contents().listing.learn()
             for source in range(len(paths)):
                 self.assertListed(stream, source, path)
                 facts = stream.packets(source=source)
-                compared, refused, dropped = compared + 1, refused + any(fact["cause"] for fact in facts), dropped + any(fact["bytes"] == 0 for fact in facts)
+                compared, refused, dropped = (
+                    compared + 1,
+                    refused + any(fact["cause"] for fact in facts),
+                    dropped + any(fact["bytes"] == 0 for fact in facts),
+                )
             stream.close()
         self.assertGreater(compared, 600)
         self.assertGreater(refused, 30)
@@ -288,12 +388,22 @@ class Facts(AskedCase):
         """An edit asks for a few packets around it, also if a refused packet loses all that follow."""
         packets = packets_of(SCENES)
         stream = self.session("-")
-        stream.edits.run_step([f"insert {index} {index} {(packets[0] if index == 0 else packets[1]).hex()}" for index in range(2000)])
+        stream.edits.run_step(
+            [f"insert {index} {index} {(packets[0] if index == 0 else packets[1]).hex()}" for index in range(2000)]
+        )
         contents = stream.edits.contents()
         contents.listing.learn()
         real, asked = stream.ask_all, []
         stream.ask_all = lambda questions, *rest: asked.extend(questions) or real(questions, *rest)
-        for line, most in (("delete 900", 1), ("copy 0 5 7", 2), ("move 10 1000", 992), ("hide 50", 2), ("replace 60 1000", 1941), ("replace 60 -", 1941), ("delete 1500", 1)):
+        for line, most in (
+            ("delete 900", 1),
+            ("copy 0 5 7", 2),
+            ("move 10 1000", 992),
+            ("hide 50", 2),
+            ("replace 60 1000", 1941),
+            ("replace 60 -", 1941),
+            ("delete 1500", 1),
+        ):
             asked.clear()
             stream.request(line)
             contents.listing.learn()
@@ -328,7 +438,10 @@ class Facts(AskedCase):
             stream.edits.run_step(["insert 3 77 1000", "delete 3"])
             stream.edits.run_step(["hold 5", "replace 5 -"])
             [made, *_] = (number for number in range(contents.of_files, contents.of_files + 1))
-            self.assertEqual((contents.stamp(made), contents.bytes(made), contents.size(made), contents.is_shown(made)), (77, b"\x10\x00", 2, True))
+            self.assertEqual(
+                (contents.stamp(made), contents.bytes(made), contents.size(made), contents.is_shown(made)),
+                (77, b"\x10\x00", 2, True),
+            )
             stream.undo()
             self.assertListed(stream, 0, self.folder() / "saved.ivf")
 
@@ -365,11 +478,16 @@ class Frames(AskedCase):
             self.assertEqual(told, [(origin["source"], origin["source_frame"]) for origin in asked])
             self.assertEqual([(run.source, run.first + turn) for run in part for turn in range(run.count)], told[:5])
             # Nodes of every kind.
-            stream.request(f"script {random_script(choose, len(paths), ('source', 'trim', 'splice', 'parts', 'crop', 'fade'))}")
+            stream.request(
+                f"script {random_script(choose, len(paths), ('source', 'trim', 'splice', 'parts', 'crop', 'fade'))}"
+            )
             asked = stream.origins(0, stream.count().frames)
             changed = [node for run in runs_of(stream) for _ in range(run.count) for node in [list(run.changed)]]
             self.assertEqual(changed, [origin["changed"] for origin in asked])
-            self.assertEqual(first_change(runs_of(stream)), min((origin["changed"][0] for origin in asked if origin["changed"]), default=None))
+            self.assertEqual(
+                first_change(runs_of(stream)),
+                min((origin["changed"][0] for origin in asked if origin["changed"]), default=None),
+            )
             stream.close()
 
     def test_views_of_random_edits(self):
@@ -385,15 +503,16 @@ class Frames(AskedCase):
                 pass
             view = live.current_view()
             asked = live.session.origins(0, view.frames)
-            self.assertEqual([view.origin(frame) for frame in range(view.frames)], [(origin["source"], origin["packet"]) for origin in asked])
-            self.assertEqual(live.origins(view, 1, 3), [(origin["source"], origin["packet"]) for origin in asked[1:4]])
+            runs = view.runs()[1]
+            self.assertEqual(
+                [(source, first + turn) for count, source, first in runs for turn in range(count)],
+                [(origin["source"], origin["source_frame"]) for origin in asked],
+            )
             self.assertEqual(view.script, live.session.ask("script").removeprefix("script ").replace(";", "; "))
             for source in range(3):
                 facts = live.session.packets(source=source)
-                for packet in range(len(facts)):
-                    first = next((origin["frame"] for origin in asked if (origin["source"], origin["packet"]) == (source, packet)), None)
-                    if facts[packet]["show"] == "shown":
-                        self.assertEqual(view.frame_of(source, packet), first)
+                self.assertEqual(len(view.streams[source]), len(facts))
+                self.assertEqual(view.count_shown(view.streams[source]), sum(fact["show"] == "shown" for fact in facts))
 
     def test_frames_and_groups_of_a_preview(self):
         with self.session(HIDDEN) as stream:
@@ -409,7 +528,10 @@ class Frames(AskedCase):
             count = stream.count().packets
             for packet in range(count + 2):
                 at = min(packet, count - 1)
-                self.assertEqual(group_of(stream, packet), (max(key for key in keys if key <= at), min([key for key in keys if key > at] + [count])))
+                self.assertEqual(
+                    group_of(stream, packet),
+                    (max(key for key in keys if key <= at), min([key for key in keys if key > at] + [count])),
+                )
         with self.session("-") as stream:
             self.assertEqual((group_of(stream, 0), frame_at(stream, 0, 0)), ((0, 0), 0))
 
@@ -420,13 +542,20 @@ class Failures(AskedCase):
 
     def test_an_exception_in_the_middle(self):
         """The session is over, and goes on from its list as it was before the call."""
-        for act in (lambda stream: stream.delete(3), lambda stream: stream.delete(range(2, 9)), lambda stream: stream.undo(), lambda stream: stream.redo()):
+        for act in (
+            lambda stream: stream.delete(3),
+            lambda stream: stream.delete(range(2, 9)),
+            lambda stream: stream.undo(),
+            lambda stream: stream.redo(),
+        ):
             stream = self.session(SMALL, sources=[ODD], engine="program")
             stream.replace(2, b"\1")
             stream.delete(range(4, 7))
             stream.undo()
             before = self.state(stream)
-            with mock.patch.object(stream._pipes, "answer", side_effect=KeyboardInterrupt), self.assertRaises(KeyboardInterrupt):
+            with mock.patch.object(stream._pipes, "answer", side_effect=KeyboardInterrupt), self.assertRaises(
+                KeyboardInterrupt
+            ):
                 act(stream)
             with self.assertRaises(Ended):
                 stream.count()
@@ -476,7 +605,10 @@ class Failures(AskedCase):
             real = stream._pipes.exchange
 
             def exchange(lines, deadline):
-                return [("refused NoMemory", None) if line.startswith(b"packet") else answer for line, answer in zip(lines, real(lines, deadline))]
+                return [
+                    ("refused NoMemory", None) if line.startswith(b"packet") else answer
+                    for line, answer in zip(lines, real(lines, deadline))
+                ]
 
             with mock.patch.object(stream._pipes, "exchange", exchange):
                 stream.delete(1)
@@ -519,7 +651,10 @@ class Failures(AskedCase):
         for _ in range(150):
             try:
                 with stream.turn():
-                    lines = [random_line(choose, self.counts(stream), stream.edits.current) for _ in range(choose.randrange(1, 4))]
+                    lines = [
+                        random_line(choose, self.counts(stream), stream.edits.current)
+                        for _ in range(choose.randrange(1, 4))
+                    ]
                     choose.choice([stream.undo, stream.redo, *[lambda: stream.edits.run_step(lines)] * 4])()
                     note()
             except Refused:

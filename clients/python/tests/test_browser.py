@@ -17,9 +17,14 @@ from support import CLIP, SLOW, SMALL, TOP, command, digest, packets_of, start, 
 from test_page import SCENES, PageCase
 from test_serve import TOKEN
 from wokureti import Session
-from wokureti.tools import coding, exports, ivf, programs
+from wokureti.base import programs
+from wokureti.media import ivf
+from wokureti.session import exports
+from wokureti.tools import coding
 
 sys.path.append(str(TOP / "compare"))
+from browser import HEARD, INKED  # noqa: E402
+
 BROWSER = None
 
 
@@ -56,8 +61,8 @@ class BrowserCase(PageCase):
         BROWSER.open(f"{self.server.origin}/{TOKEN}/page/")
         self.wait("document.body.dataset.ready === 'yes'")
 
-    def wait(self, script):
-        return BROWSER.wait(script, seconds=10 * SLOW)
+    def wait(self, script, seconds=10):
+        return BROWSER.wait(script, seconds=seconds * SLOW)
 
     def js(self, script, *given):
         return BROWSER.run(script, *given)
@@ -67,12 +72,17 @@ class BrowserCase(PageCase):
 
     def said(self):
         """What the status line and the notices say."""
-        return self.js("return [document.getElementById('status').textContent, ...[...document.querySelectorAll('#notices span')].map((one) => one.textContent)].join('\\n')")
+        return self.js(
+            "return [document.getElementById('status').textContent, ...[...document.querySelectorAll('#notices"
+            " span')].map((one) => one.textContent)].join('\\n')"
+        )
 
 
 class Repairs(BrowserCase):
     def damaged(self):
-        """README's clip with damage in two groups of findings: three bytes of packet 10 are flipped, and packet 40 is cut to two bytes."""
+        """README's clip with damage in two groups of findings: three bytes of packet 10 are flipped, and packet 40 is
+        cut to two bytes.
+        """
         packets = packets_of(CLIP)
         data = bytearray(packets[10])
         for place in (60, 90, 120):
@@ -82,18 +92,23 @@ class Repairs(BrowserCase):
 
     def test_repair_all_while_a_group_is_folded_and_none_is_open(self):
         self.open(self.damaged())
-        self.wait("wokureti.findings.check && wokureti.findings.check.over && document.querySelector('#findings-list li.more')")
+        self.wait(
+            "wokureti.findings.check && wokureti.findings.check.over && document.querySelector('#findings-list"
+            " li.more')"
+        )
         self.js("if (document.querySelector('#findings-list li.is-open')) throw Error('a finding is open')")
         BROWSER.click("#repair-all")
-        self.wait("!document.getElementById('preview-bar').hidden || document.getElementById('status').textContent !== 'ready'")
+        self.wait(
+            "!document.getElementById('preview-bar').hidden || document.getElementById('status').textContent !=="
+            " 'ready'"
+        )
         self.assertNotIn("Cannot read", self.said())
         self.wait("!document.getElementById('preview-bar').hidden")
         self.assertRegex(self.text("#preview-text"), r"\d+ steps, \d+ edits")
-        lines = self.members("/repair_all")["lines"]
+        lines = self.task("repair_all")["lines"]
         BROWSER.click("#preview-take")
         self.wait("wokureti.model.revision === 2")
         self.assertEqual(self.members("/edits")["edits"], lines)
-
 
     def test_no_repair_is_certain(self):
         """The button is off, and what a person can do is said."""
@@ -104,19 +119,31 @@ class Repairs(BrowserCase):
             packets[place] = bytes(data)
         self.open(write_packets(self.folder() / "inside.ivf", packets))
         self.wait("wokureti.findings.check && wokureti.findings.check.over")
-        self.assertEqual(self.members("/repair_all")["lines"], [])
+        self.assertEqual(self.task("repair_all")["lines"], [])
         for size in ((1280, 800), (390, 844)):
             BROWSER.set_size(*size)
             self.wait("document.getElementById('repair-all').disabled")
-            self.assertRegex(self.text("#repair-all-why"), r"No repair is certain, so nothing is changed: (1 packet stays|\d+ packets stay) damaged")
-            self.assertIn("Press a finding to see what can be done there, or open a second recording as source 1", self.text("#repair-all-why"))
+            self.assertRegex(
+                self.text("#repair-all-why"),
+                r"No repair is certain, so nothing is changed: (1 packet stays|\d+ packets stay) damaged",
+            )
+            self.assertIn(
+                "Press a finding to see what can be done there, or open a second recording as source 1",
+                self.text("#repair-all-why"),
+            )
             self.load()
             self.wait("wokureti.findings.check && wokureti.findings.check.over")
         BROWSER.set_size(1440, 900)
         # Other packets, other repairs.
         self.step("hold 40", "delete 41")
         self.wait("wokureti.findings.check.revision === 2 && wokureti.findings.check.over")
-        self.assertEqual(self.js("return [document.getElementById('repair-all-line').hidden, document.getElementById('repair-all').disabled]"), [False, False])
+        self.assertEqual(
+            self.js(
+                "return [document.getElementById('repair-all-line').hidden,"
+                " document.getElementById('repair-all').disabled]"
+            ),
+            [False, False],
+        )
 
 
 class Lists(BrowserCase):
@@ -129,19 +156,36 @@ class Lists(BrowserCase):
         self.open(write_packets(path, packets))
         self.wait("wokureti.findings.check && wokureti.findings.check.over")
         name, text = self.offered(lambda: BROWSER.click("#report-json"))
-        done = subprocess.run([programs.find("vp8list"), path, "--check", "--json"], capture_output=True, text=True, check=False, timeout=60)
+        done = subprocess.run(
+            [programs.find("vp8list"), path, "--check", "--json"],
+            capture_output=True,
+            text=True,
+            check=False,
+            timeout=60,
+        )
         findings = list(map(json.loads, done.stdout.splitlines()))
         damage = sum(one["severity"] == "damage" for one in findings)
         found = json.loads(text)
-        self.assertEqual((name, found["findings"], found["damage"], found["notes"]), ("<b>&-findings.json", findings, damage, len(findings) - damage))
+        self.assertEqual(
+            (name, found["findings"], found["damage"], found["notes"]),
+            ("<b>&-findings.json", findings, damage, len(findings) - damage),
+        )
         name, text = self.offered(lambda: BROWSER.click("#report"))
-        self.assertEqual((text.count("<tr>"), "<b>" in text, "&lt;b&gt;&amp;.ivf" in text, "refused ShortPacket" in text), (len(findings), False, True, True))
+        self.assertEqual(
+            (text.count("<tr>"), "<b>" in text, "&lt;b&gt;&amp;.ivf" in text, "refused ShortPacket" in text),
+            (len(findings), False, True, True),
+        )
 
     def offered(self, act):
         """The name and the text of the file that an act offers."""
-        self.js("""window.offered = null; const real = URL.createObjectURL;
+        self.js(
+            """window.offered = null; const real = URL.createObjectURL;
             URL.createObjectURL = (blob) => { window.offering = blob; return real.call(URL, blob); };
-            HTMLAnchorElement.prototype.click = function () { if (this.download && window.offering) window.offering.text().then((text) => (window.offered = [this.download, text])); };""")
+            HTMLAnchorElement.prototype.click = function () {
+              if (this.download && window.offering)
+                window.offering.text().then((text) => (window.offered = [this.download, text]));
+            };"""
+        )
         act()
         return self.wait("window.offered")
 
@@ -151,7 +195,7 @@ class Lists(BrowserCase):
         self.wait("wokureti.model.revision === 2")
         self.js("document.getElementById('tab-script').click()")
         name, text = self.offered(lambda: BROWSER.click("#cuts-save"))
-        self.assertEqual((name, text.encode()), ("small-cuts.csv", self.ask("/cuts.csv")[2]))
+        self.assertEqual((name, text.encode()), ("small-cuts.csv", self.ask("/file/cuts.csv")[2]))
         path = self.folder() / "list.csv"
         path.write_text(text.splitlines()[1])
         BROWSER.type("#cuts-file", str(path))
@@ -164,15 +208,38 @@ class Lists(BrowserCase):
     def test_curves_as_csv(self):
         self.open(SCENES)
         packets = self.members("/packets?count=100")["packets"]
-        for kind, name, value in (("quantizer", "quantizer", lambda facts: facts["quantizer"]), ("level", "level", lambda facts: facts["level"]), ("bytes", "bits", lambda facts: 8 * facts["bytes"])):
-            self.js("const one = document.getElementById('curve'); one.value = args[0]; one.dispatchEvent(new Event('change'))", kind)
+        for kind, name, value in (
+            ("quantizer", "quantizer", lambda facts: facts["quantizer"]),
+            ("level", "level", lambda facts: facts["level"]),
+            ("bytes", "bits", lambda facts: 8 * facts["bytes"]),
+        ):
+            self.js(
+                (
+                    "const one = document.getElementById('curve'); one.value = args[0]; one.dispatchEvent(new"
+                    " Event('change'))"
+                ),
+                kind,
+            )
             found = self.offered(lambda: BROWSER.click("#curve-save"))
-            self.assertEqual(found, [f"scenes-{kind}.csv", "".join(f"{line}\n" for line in [f"packet,{name}", *(f"{facts['packet']},{value(facts)}" for facts in packets)])])
-        self.js("const one = document.getElementById('curve'); one.value = 'psnr'; one.dispatchEvent(new Event('change'))")
+            self.assertEqual(
+                found,
+                [
+                    f"scenes-{kind}.csv",
+                    "".join(
+                        f"{line}\n"
+                        for line in [f"packet,{name}", *(f"{facts['packet']},{value(facts)}" for facts in packets)]
+                    ),
+                ],
+            )
+        self.js(
+            "const one = document.getElementById('curve'); one.value = 'psnr'; one.dispatchEvent(new Event('change'))"
+        )
         self.wait("document.getElementById('status').textContent.startsWith('PSNR of ')")
         found = self.offered(lambda: BROWSER.click("#curve-save"))
         self.assertEqual(found[1].splitlines()[:2], ["packet,psnr", "0,60"])
-        self.js("const one = document.getElementById('curve'); one.value = 'none'; one.dispatchEvent(new Event('change'))")
+        self.js(
+            "const one = document.getElementById('curve'); one.value = 'none'; one.dispatchEvent(new Event('change'))"
+        )
         self.assertTrue(self.js("return document.getElementById('curve-save').hidden"))
 
 
@@ -181,18 +248,23 @@ class Differences(BrowserCase):
         packets = packets_of(SCENES)
         other = write_packets(self.folder() / "other.ivf", [*packets[:16], *packets[20:]])
         self.open(SCENES, sources=[str(other)])
-        self.js("wokureti.viewer.choose_view('difference'); const one = document.getElementById('against'); one.value = '1'; one.dispatchEvent(new Event('change'))")
+        self.js(
+            "wokureti.viewer.choose_view('difference'); const one = document.getElementById('against'); one.value ="
+            " '1'; one.dispatchEvent(new Event('change'))"
+        )
         BROWSER.click("#next-difference")
         self.wait("document.getElementById('status').textContent.includes('differs from')")
         self.assertRegex(self.text("#status"), "frame 1[67] differs from source 1")
-
 
     def next_from(self, frame, key="n"):
         """The frame that the search goes to, or None."""
         self.js("await wokureti.model.go(args[0]); document.getElementById('status').textContent = ''", frame)
         self.js("document.getElementById('timeline').focus()")
         BROWSER.key(*key)
-        said = self.wait("/differs? from/.test(document.getElementById('status').textContent) && document.getElementById('status').textContent")
+        said = self.wait(
+            "/differs? from/.test(document.getElementById('status').textContent) &&"
+            " document.getElementById('status').textContent"
+        )
         return None if said.startswith("no frame") else self.js("return wokureti.model.frame")
 
     def test_from_before_the_edits_in_both_directions(self):
@@ -202,7 +274,9 @@ class Differences(BrowserCase):
         keys = [place for place, data in enumerate(packets) if ivf.is_key(data)]
         self.step(f"hold {keys[1] + 1}", f"delete {keys[1]}")
         self.wait("wokureti.model.revision === 2")
-        self.assertEqual([self.next_from(0), self.next_from(keys[1]), self.next_from(keys[2] - 1)], [keys[1], keys[1] + 1, None])
+        self.assertEqual(
+            [self.next_from(0), self.next_from(keys[1]), self.next_from(keys[2] - 1)], [keys[1], keys[1] + 1, None]
+        )
         self.assertEqual(self.next_from(len(packets) - 1, ("Shift", "n")), keys[2] - 1)
         # A frame that is refused, and was not.
         self.step("replace 20 1000")
@@ -237,7 +311,7 @@ class Programme(BrowserCase):
 
     def shown(self):
         """The source and the packet of each frame that is shown."""
-        found = self.members("/origins?from=0&count=200")
+        found = self.look("origins")
         return list(zip(found["sources"], found["packets"]))
 
     def press(self, key, revision):
@@ -245,7 +319,10 @@ class Programme(BrowserCase):
         self.settled(revision)
 
     def box(self):
-        return self.js("const { left, top, width, height } = document.getElementById('programme-canvas').getBoundingClientRect(); return [left, top, width, height]")
+        return self.js(
+            "const { left, top, width, height } = document.getElementById('programme-canvas').getBoundingClientRect();"
+            " return [left, top, width, height]"
+        )
 
     def drag(self, first, last, part=0.5):
         """Drags from one boundary of frames to another."""
@@ -301,10 +378,15 @@ class Programme(BrowserCase):
         self.assertEqual(len(self.nodes()), len(nodes))
 
     def nodes(self):
-        return self.js("return wokureti.model.session.edits.filter((line) => line.startsWith('script')).pop().split(';')")
+        return self.js(
+            "return wokureti.model.session.edits.filter((line) => line.startsWith('script')).pop().split(';')"
+        )
 
     def samples(self):
-        return self.js("const found = []; for (let n = 0; n < wokureti.model.frames; n++) found.push((await wokureti.frames.get(n)).samples.join()); return found")
+        return self.js(
+            "const found = []; for (let n = 0; n < wokureti.model.frames; n++) found.push((await"
+            " wokureti.frames.get(n)).samples.join()); return found"
+        )
 
     def test_a_drag_selects_and_its_edges_are_dragged(self):
         for size in self.SIZES:
@@ -325,7 +407,9 @@ class Programme(BrowserCase):
             self.assertEqual(self.shown(), before[:2] + before[24:])
 
     def test_a_selection_snaps_at_a_join(self):
-        """A drag that ends a frame before a join or after it, which are some pixels, ends at the join; further off it does not."""
+        """A drag that ends a frame before a join or after it, which are some pixels, ends at the join; further off it
+        does not.
+        """
         self.open(SCENES)
         self.step("script splice 0 0; splice 1 1; splice 2 2")
         self.settled(2)
@@ -355,7 +439,13 @@ class Programme(BrowserCase):
             self.js("document.getElementById('status').textContent = ''")
             BROWSER.key(key)
             self.wait("document.getElementById('status').textContent !== ''")
-            self.assertEqual(self.text("#status"), f"Nothing is selected to {what}. Select the frames first: I at the first frame and O at the last one, or drag over them on the programme")
+            self.assertEqual(
+                self.text("#status"),
+                (
+                    f"Nothing is selected to {what}. Select the frames first: I at the first frame and O at the last"
+                    " one, or drag over them on the programme"
+                ),
+            )
         self.assertEqual(self.members("/session")["script"], self.MOVED)
         self.assertIn("Select them first", self.js("return document.getElementById('cut-out').title"))
 
@@ -363,9 +453,12 @@ class Programme(BrowserCase):
         """Each key acts on what those before it did, also if nothing is waited for between them."""
         self.moved()
         before = self.shown()
-        self.js("""const press = (key) => document.getElementById('programme').dispatchEvent(new KeyboardEvent('keydown', { key, bubbles: true, cancelable: true }));
+        self.js(
+            """const press = (key) => document.getElementById('programme').dispatchEvent(
+              new KeyboardEvent('keydown', { key, bubbles: true, cancelable: true }));
             wokureti.model.go(12); press('i'); for (let turn = 0; turn < 4; turn++) press('ArrowRight');
-            await new Promise((done) => setTimeout(done, 300)); press('o'); press('x');""")
+            await new Promise((done) => setTimeout(done, 300)); press('o'); press('x');"""
+        )
         self.settled(3)
         self.assertEqual(self.shown(), before[:12] + before[17:])
 
@@ -381,7 +474,9 @@ class Programme(BrowserCase):
         self.assertIsNone(self.range())
 
     def test_delete_is_that_of_the_lane(self):
-        """In the programme Delete cuts out; in the lane of packets it deletes packets, says what breaks, and offers to cut out."""
+        """In the programme Delete cuts out; in the lane of packets it deletes packets, says what breaks, and offers to
+        cut out.
+        """
         for size in self.SIZES:
             BROWSER.set_size(*size)
             self.open(SCENES)
@@ -391,12 +486,21 @@ class Programme(BrowserCase):
             self.assertEqual((self.shown(), self.members("/session")["packets"]), (before[:3] + before[5:], count))
             BROWSER.key("Control", "z")
             self.settled(3)
-            self.js("document.getElementById('timeline').focus(); wokureti.model.select(3, 5); await wokureti.model.goPacket(3)")
+            self.js(
+                "document.getElementById('timeline').focus(); wokureti.model.select(3, 5); await"
+                " wokureti.model.goPacket(3)"
+            )
             self.press("Delete", 4)
             self.assertEqual(self.members("/session")["packets"], count - 2)
             after = next(place for place, data in enumerate(packets_of(SCENES)) if place > 5 and ivf.is_key(data)) - 5
             self.wait("document.querySelector('#notices .offered')")
-            self.assertIn(f"Packets 3 to 4 deleted. The {after} packets after them, up to the next key packet, are predicted from them, so their pictures break", self.said())
+            self.assertIn(
+                (
+                    f"Packets 3 to 4 deleted. The {after} packets after them, up to the next key packet, are predicted"
+                    " from them, so their pictures break"
+                ),
+                self.said(),
+            )
             BROWSER.click("#notices .offered")
             self.settled(6)
             self.assertEqual((self.shown(), self.members("/session")["packets"]), (before[:3] + before[5:], count))
@@ -415,7 +519,9 @@ class Programme(BrowserCase):
         self.mark(5, 15)
         self.js("document.getElementById('timeline').focus()")
         BROWSER.key("Control", "a")
-        self.assertEqual((self.range(), self.js("return wokureti.model.selection.end")), ([5, 16], len(packets_of(SCENES))))
+        self.assertEqual(
+            (self.range(), self.js("return wokureti.model.selection.end")), ([5, 16], len(packets_of(SCENES)))
+        )
         self.js("wokureti.model.select(null); document.getElementById('programme').focus()")
         # The packet of the current frame is not what is selected.
         BROWSER.key("h")
@@ -441,7 +547,8 @@ class Programme(BrowserCase):
     def test_a_picture_that_comes_after_an_edit_is_of_no_other_frame(self):
         """The script moves frames while a small picture is fetched by the number of its frame."""
         self.open(SCENES)
-        self.js("""const { engine } = await import(new URL("engine.js", document.baseURI));
+        self.js(
+            """const { engine } = await import(new URL("engine.js", document.baseURI));
             const [real, { thumbs, programme }] = [engine.frames, wokureti];
             const gate = new Promise((open) => (window.open_gate = open));
             engine.frames = async (list, given) => {
@@ -453,19 +560,161 @@ class Programme(BrowserCase):
             };
             thumbs.found.clear();
             thumbs.key = "";
-            programme.redraw();""")
+            programme.redraw();"""
+        )
         self.wait("window.held === 0 || window.held > 0")
         self.step("script parts 0 20 10 0 0 20")
         self.wait("wokureti.model.frames === 30 && wokureti.programme.window.count === 30")
         self.js("window.open_gate()")
-        self.wait("wokureti.thumbs.wanted.length > 3 && wokureti.thumbs.wanted.every((one) => one && wokureti.thumbs.found.get(one.name)?.picture)")
-        wrong = self.js("""const [context, wrong] = [new OffscreenCanvas(8, 8).getContext("2d"), []];
-            const samples = (picture) => { context.drawImage(picture, 0, 0, 8, 8); return [...context.getImageData(0, 0, 8, 8).data].join(); };
+        self.wait(
+            "wokureti.thumbs.wanted.length > 3 && wokureti.thumbs.wanted.every((one) => one &&"
+            " wokureti.thumbs.found.get(one.name)?.picture)"
+        )
+        wrong = self.js(
+            """const [context, wrong] = [new OffscreenCanvas(8, 8).getContext("2d"), []];
+            const samples = (picture) => {
+              context.drawImage(picture, 0, 0, 8, 8);
+              return [...context.getImageData(0, 0, 8, 8).data].join();
+            };
             for (const { name, number, of } of wokureti.thumbs.wanted) {
-              if (samples(wokureti.thumbs.found.get(name).picture) !== samples((await wokureti.thumbs.small(number, of)).picture)) wrong.push(number);
+              const small = (await wokureti.thumbs.small(number, of)).picture;
+              if (samples(wokureti.thumbs.found.get(name).picture) !== samples(small)) wrong.push(number);
             }
-            return wrong;""")
+            return wrong;"""
+        )
         self.assertEqual(wrong, [])
+
+
+BEEP = "aevalsrc=0.8*sin(2*PI*1000*t)*between(t\\,1\\,1.2):s=48000:d=4"
+
+
+def heard_clip(case, name="beep.webm", codec="libopus", sound=BEEP):
+    """A clip of 100 frames, 25 a second, with a tone in the frames 25 to 29 and none else."""
+    if shutil.which("ffmpeg") is None:
+        case.skipTest("ffmpeg is not there")
+    path = case.folder() / name
+    inputs = [
+        "-f",
+        "lavfi",
+        "-i",
+        "testsrc=size=96x64:rate=25:duration=4",
+        *(["-f", "lavfi", "-i", sound, "-c:a", codec] if sound else []),
+    ]
+    subprocess.run(
+        ["ffmpeg", "-nostdin", "-y", "-v", "error", *inputs, "-c:v", "libvpx", "-g", "20", "-b:v", "150k", path],
+        check=True,
+        timeout=60 * SLOW,
+    )
+    return path
+
+
+class Waves(BrowserCase):
+    """The sound of the frames that are shown, below their pictures."""
+
+    clip = heard_clip
+
+    def inked(self):
+        """The frames that have ink in the picture of the sound, in the pixels of the canvas: ranges of frames."""
+        self.wait(HEARD)
+        return self.js(INKED)
+
+    def set_script(self, text):
+        revision = self.members("/session")["revision"] + 1
+        self.step(f"script {text}")
+        self.wait(
+            f"wokureti.model.revision === {revision} && wokureti.programme.window.count === wokureti.model.frames"
+        )
+
+    def asked(self):
+        return self.js(
+            "return performance.getEntriesByType('resource').map((one) => one.name).filter((name) =>"
+            " /wave\\.webm/.test(name)).length"
+        )
+
+    def test_the_tone_is_where_it_is_heard(self):
+        self.open(self.clip())
+        self.assertEqual(self.inked(), list(range(25, 30)))
+        # A minute of the file.
+        self.assertEqual(self.asked(), 1)
+
+    def test_it_goes_with_its_frames(self):
+        self.open(
+            self.clip(), sources=[str(self.clip("other.mkv", "libvorbis")), str(self.clip("silent.webm", sound=None))]
+        )
+        self.assertEqual(self.inked(), list(range(25, 30)))
+        for script, wanted in (
+            ("parts 0 20 20 0 0 20 0 40 60", range(5, 10)),
+            ("parts 0 0 10 0 27 73", range(10, 13)),
+            ("trim 0 40 60", ()),
+            (
+                "source 1; source 2; trim 1 20 20; trim 2 0 30; trim 0 22 20; splice 4 5; splice 6 3",
+                (*range(33, 38), *range(55, 60)),
+            ),
+            ("fade 0 0 60 0 256", range(25, 30)),
+            # The shade of the fade covers the others.
+            ("trim 0 20 10; fade 1 0 10 256 0; splice 2 2", (5, 6, 15, 16)),
+        ):
+            self.set_script(script)
+            self.assertEqual(self.inked(), list(wanted), script)
+        # Each file was decoded once.
+        self.assertEqual(
+            self.js("return [...wokureti.waves.files.values()].map((pieces) => pieces && pieces.size)"), [1, 1]
+        )
+        self.assertEqual(self.asked(), 2)
+
+    def test_it_goes_with_its_packets(self):
+        """Frames that are deleted take their sound along: their times are asked again once nothing is done for a
+        moment.
+        """
+        self.open(self.clip())
+        self.inked()
+        self.step(*["delete 10"] * 5, "move 94 0")
+        self.wait("wokureti.model.revision === 2 && wokureti.waves.runs.get(0)?.runs.length === 3", seconds=20)
+        runs = self.task("waves", source=0)["runs"]
+        first = runs[1][2]
+        self.assertEqual(runs, [[1, 0, first + 3960, 40], [10, 0, first, 400], [84, 0, first + 600, 3360]])
+        self.js("await wokureti.model.go(50)")
+        self.assertEqual(self.inked(), list(range(21, 26)))
+
+    def test_no_sound(self):
+        """Without sound, or in a browser that cannot decode it, there is no room for it, and nothing is said."""
+        for path, cannot in (
+            (self.clip("silent.webm", sound=None), ""),
+            (SMALL, ""),
+            (
+                self.clip(),
+                (
+                    "OfflineAudioContext.prototype.decodeAudioData = async () => { throw new DOMException('no',"
+                    " 'EncodingError'); }"
+                ),
+            ),
+        ):
+            self.open(path)
+            self.js(cannot)
+            self.wait(
+                "wokureti.thumbs.wanted.length && !wokureti.thumbs.isWanting && !wokureti.waves.isBusy &&"
+                " !wokureti.waves.next()"
+            )
+            self.assertEqual(
+                self.js(
+                    "return [wokureti.programme.box.clientHeight, wokureti.programme.canvas.dataset.waves,"
+                    " document.getElementById('notices').textContent]"
+                ),
+                [92, "0", ""],
+                path,
+            )
+
+    def test_small_pictures_come_first(self):
+        self.open(self.clip())
+        self.inked()
+        names = self.js(
+            "return performance.getEntriesByType('resource').sort((one, other) => one.startTime -"
+            " other.startTime).map((one) => one.name.replace(/.*\\//, '').replace(/\\?.*/, ''))"
+        )
+        self.assertLess(
+            max(place for place, name in enumerate(names) if name == "frames" or name.endswith(".y4m")),
+            names.index("wave.webm"),
+        )
 
 
 class Requests(BrowserCase):
@@ -493,15 +742,24 @@ class Requests(BrowserCase):
 
     def open(self, *given, **options):
         super().open(*given, **options)
-        self.wait("wokureti.findings.check && wokureti.findings.check.over && wokureti.thumbs.wanted.length && wokureti.thumbs.wanted.every(({ name }) => wokureti.thumbs.found.has(name))")
+        self.wait(
+            "wokureti.findings.check && wokureti.findings.check.over && wokureti.thumbs.wanted.length &&"
+            " wokureti.thumbs.wanted.every(({ name }) => wokureti.thumbs.found.has(name))"
+        )
         self.js("document.getElementById('timeline').focus()")
         self.asked(lambda: self.js("await wokureti.model.goPacket(25)"))
 
     def edit(self, act, revision):
-        """The requests of an act that changes the stream; it ends when the picture after it and its findings are shown."""
+        """The requests of an act that changes the stream; it ends when the picture after it and its findings are
+        shown.
+        """
+
         def whole():
             act()
-            self.wait(f"wokureti.model.revision === {revision} && wokureti.frames.here(wokureti.model.frame) && wokureti.findings.check.over && wokureti.findings.check.revision === {revision}")
+            self.wait(
+                f"wokureti.model.revision === {revision} && wokureti.frames.here(wokureti.model.frame) &&"
+                f" wokureti.findings.check.over && wokureti.findings.check.revision === {revision}"
+            )
 
         return self.asked(whole)
 
@@ -513,24 +771,64 @@ class Requests(BrowserCase):
             # The answer to the edit has what the page would ask for.
             self.assertEqual(self.js("return wokureti.model.session"), self.members("/session"))
             tile = self.js("const { marks, ...tile } = wokureti.timeline.tiles.fresh(1, 0); return tile")
-            self.assertEqual(tile, self.members("/timeline?first=0&per=1&count=1024"))
-            self.assertEqual(self.js("return wokureti.findings.check.findings.map(({ group, ...finding }) => finding)"), self.members("/check")["findings"])
+            self.assertEqual(tile, self.look("timeline"))
+            self.assertEqual(
+                self.js("return wokureti.findings.check.findings.map(({ group, ...finding }) => finding)"),
+                self.found()["findings"],
+            )
 
     def test_a_delete_that_damages(self):
         """The findings of the packets after it are told, and the timeline shows them without being read again."""
         self.open(CLIP)
         found = self.edit(lambda: BROWSER.key("Delete"), 2)
         self.assertEqual(found, ["POST edits", "GET frames/25.y4m"])
-        kinds = self.members("/timeline?first=0&per=1&count=1024")["kinds"]
+        inside = [
+            finding["packet"] for finding in self.checked()["findings"] if finding["kind"] in ("past_end", "unread")
+        ]
+        kinds = "".join(
+            "p" if place in inside and kind in "ihkfd" else kind
+            for place, kind in enumerate(self.look("timeline")["kinds"])
+        )
         self.assertIn("p", kinds)
-        self.assertEqual(self.js("return Array.from({ length: wokureti.model.packets }, (_, packet) => wokureti.timeline.entry(packet).kind).join('')"), kinds)
+        self.assertEqual(
+            self.js(
+                "return Array.from({ length: wokureti.model.packets }, (_, packet) =>"
+                " wokureti.timeline.entry(packet).kind).join('')"
+            ),
+            kinds,
+        )
+
+    def test_a_delete_of_a_stream_with_sound(self):
+        """The sound is not asked for again. Small pictures, the times of packets and the repairs are asked for when
+        nothing is done for seconds.
+        """
+        self.open(heard_clip(self))
+        self.wait(HEARD)
+        found = self.edit(lambda: BROWSER.key("Delete"), 2)
+        self.assertEqual(found[:2], ["POST edits", "GET frames/25.y4m"])
+        self.assertFalse([one for one in found if "wave.webm" in one], found)
+        self.js("document.getElementById('programme').focus(); wokureti.model.selectFrames(90, 91)")
+
+        def cut():
+            BROWSER.key("Delete")
+            self.wait(
+                "wokureti.model.revision === 3 && wokureti.model.frames === 98 &&"
+                " wokureti.frames.here(wokureti.model.frame)"
+            )
+
+        found = self.asked(cut)
+        self.assertIn("POST edits", found)
+        self.assertFalse([one for one in found if "wave.webm" in one], found)
 
     def test_a_click_on_a_frame(self):
         self.open(SCENES)
-        left, top, width, height = self.js("const box = document.getElementById('bars').getBoundingClientRect(); return [box.left, box.top, box.width, box.height]")
+        left, top, width, height = self.js(
+            "const box = document.getElementById('bars').getBoundingClientRect(); return [box.left, box.top, box.width,"
+            " box.height]"
+        )
         packet = self.js("return wokureti.timeline.window.packetAt(args[0])", width / 3)
         found = self.asked(lambda: BROWSER.drag([(left + width / 3, top + height / 2)] * 2))
-        self.assertEqual((found, self.js("return wokureti.model.packet")), (["GET place", f"GET frames/{packet}.y4m"], packet))
+        self.assertEqual((found, self.js("return wokureti.model.packet")), ([f"GET frames/{packet}.y4m"], packet))
         self.assertLessEqual(len(self.asked(lambda: BROWSER.key("Right"))), 2)
 
     def test_an_edit_of_another_tab(self):
@@ -541,12 +839,20 @@ class Requests(BrowserCase):
     def test_findings_while_nothing_is_asked(self):
         """A page that was hidden, or lost its server, is told all of the check again."""
         self.open(self.damaged())
-        wanted = self.members("/check")["findings"]
+        wanted = self.found()["findings"]
         self.assertTrue(wanted)
-        self.js("wokureti.findings.check = null; Object.defineProperty(document, 'hidden', { value: true, configurable: true }); document.dispatchEvent(new Event('visibilitychange'))")
-        self.js("Object.defineProperty(document, 'hidden', { value: false, configurable: true }); document.dispatchEvent(new Event('visibilitychange'))")
+        self.js(
+            "wokureti.findings.check = null; Object.defineProperty(document, 'hidden', { value: true, configurable:"
+            " true }); document.dispatchEvent(new Event('visibilitychange'))"
+        )
+        self.js(
+            "Object.defineProperty(document, 'hidden', { value: false, configurable: true });"
+            " document.dispatchEvent(new Event('visibilitychange'))"
+        )
         self.wait("wokureti.findings.check && wokureti.findings.check.over")
-        self.assertEqual(self.js("return wokureti.findings.check.findings.map(({ group, ...finding }) => finding)"), wanted)
+        self.assertEqual(
+            self.js("return wokureti.findings.check.findings.map(({ group, ...finding }) => finding)"), wanted
+        )
 
     def damaged(self):
         packets = packets_of(SCENES)
@@ -567,7 +873,10 @@ class Looks(BrowserCase):
             self.load()
             self.wait("wokureti.findings.check && wokureti.findings.check.over")
             for css in ("footer", "#programme"):
-                top, bottom = self.js("const box = document.querySelector(args[0]).getBoundingClientRect(); return [box.top, box.bottom]", css)
+                top, bottom = self.js(
+                    "const box = document.querySelector(args[0]).getBoundingClientRect(); return [box.top, box.bottom]",
+                    css,
+                )
                 self.assertTrue(0 <= top < bottom <= height + 1, (width, height, css, top, bottom))
 
     def test_the_timeline_covers_no_picture(self):
@@ -580,7 +889,10 @@ class Looks(BrowserCase):
             BROWSER.set_size(width, height)
             self.load()
             self.wait("wokureti.model.session.script !== '-' && wokureti.viewer.picture.now")
-            covered = "document.getElementById('now-canvas').getBoundingClientRect().bottom - document.getElementById('lower').getBoundingClientRect().top"
+            covered = (
+                "document.getElementById('now-canvas').getBoundingClientRect().bottom -"
+                " document.getElementById('lower').getBoundingClientRect().top"
+            )
             self.wait(f"{covered} <= 1")
 
     def folded(self):
@@ -596,10 +908,17 @@ class Looks(BrowserCase):
             BROWSER.set_size(width, height)
             self.load()
             for number in range(2):
-                ask = "const bar = document.querySelectorAll('.tools')[args[0]]; return [bar.scrollWidth > bar.clientWidth, bar.classList.contains('more-left'), bar.classList.contains('more-right')]"
-                self.wait("[0, 1].every((bar) => document.querySelectorAll('.tools')[bar].classList.contains('more-right'))")
+                ask = (
+                    "const bar = document.querySelectorAll('.tools')[args[0]]; return [bar.scrollWidth >"
+                    " bar.clientWidth, bar.classList.contains('more-left'), bar.classList.contains('more-right')]"
+                )
+                self.wait(
+                    "[0, 1].every((bar) => document.querySelectorAll('.tools')[bar].classList.contains('more-right'))"
+                )
                 self.assertEqual(self.js(ask, number), [True, False, True])
-                self.js("const bar = document.querySelectorAll('.tools')[args[0]]; bar.scrollLeft = bar.scrollWidth", number)
+                self.js(
+                    "const bar = document.querySelectorAll('.tools')[args[0]]; bar.scrollLeft = bar.scrollWidth", number
+                )
                 self.wait("document.querySelectorAll('.tools.more-left').length === 1")
                 self.assertEqual(self.js(ask, number), [True, True, False])
                 self.js("document.querySelectorAll('.tools')[args[0]].scrollLeft = 0", number)
@@ -613,7 +932,13 @@ class Looks(BrowserCase):
             self.live.notice("the same sentence")
             self.step("hold 3")
         self.wait("wokureti.model.session.notices.length === 3")
-        self.assertEqual(self.js("return [...document.querySelectorAll('#notices span')].filter((one) => one.textContent === 'the same sentence').length"), 1)
+        self.assertEqual(
+            self.js(
+                "return [...document.querySelectorAll('#notices span')].filter((one) => one.textContent === 'the same"
+                " sentence').length"
+            ),
+            1,
+        )
 
     def test_the_keys_go_on_after_a_repair_is_taken(self):
         self.open(self.folded())
@@ -663,7 +988,10 @@ class Exports(BrowserCase):
         self.wait("!document.getElementById('export').hidden")
         with mock.patch.object(exports, "export", slow):
             BROWSER.click("#export")
-            self.wait("/^exporting: vp8serve makes the packets, \\d+\\.\\d s$/.test(document.getElementById('status').textContent)")
+            self.wait(
+                "/^exporting: vp8serve makes the packets, \\d+\\.\\d"
+                " s$/.test(document.getElementById('status').textContent)"
+            )
             self.assertEqual(self.text("#export"), "Stop the export")
             BROWSER.click("#export")
             self.wait("document.getElementById('status').textContent === 'the export was stopped'")
@@ -679,17 +1007,27 @@ class Exports(BrowserCase):
         self.open(CLIP)
         self.step(f"script {script}")
         self.wait("!document.getElementById('export').hidden")
-        self.js("window.offering = null; const make = URL.createObjectURL; URL.createObjectURL = (blob) => { window.offering = blob; return make.call(URL, blob); }")
+        self.js(
+            "window.offering = null; const make = URL.createObjectURL; URL.createObjectURL = (blob) => {"
+            " window.offering = blob; return make.call(URL, blob); }"
+        )
         BROWSER.click("#export")
         self.wait("document.getElementById('ask').open")
         self.assertEqual(self.text("#ask .note"), f"5 of {frames} frames are coded again; all others stay as they are.")
-        self.assertEqual(self.js("return [...document.querySelectorAll('#ask input, #ask select')].map((one) => one.value)"), ["45"])
+        self.assertEqual(
+            self.js("return [...document.querySelectorAll('#ask input, #ask select')].map((one) => one.value)"), ["45"]
+        )
         self.js("document.querySelector('#ask input').value = 36")
         BROWSER.click("#ask button[value=yes]")
-        self.wait(f"/^exported mandelbrot-export.ivf: .*; 5 of {frames} frames are coded again, in [\\d,]+ bytes, PSNR 3[6-9]\\.\\d dB at least and [\\d.]+ dB in the mean/.test(document.getElementById('status').textContent)")
+        self.wait(
+            f"/^exported mandelbrot-export.ivf: .*; 5 of {frames} frames are coded again, in [\\d,]+ bytes, PSNR"
+            " 3[6-9]\\.\\d dB at least and [\\d.]+ dB in the mean/.test(document.getElementById('status').textContent)"
+        )
         out = self.folder() / "out.ivf"
         self.assertEqual(command("export", CLIP, out, "--code-changed", "--psnr", "36", "--script", script)[0], 0)
-        self.assertEqual(self.js("return [...new Uint8Array(await window.offering.arrayBuffer())]"), list(out.read_bytes()))
+        self.assertEqual(
+            self.js("return [...new Uint8Array(await window.offering.arrayBuffer())]"), list(out.read_bytes())
+        )
 
     @unittest.skipUnless(shutil.which("ffmpeg"), "no ffmpeg")
     def test_coding_shows_how_far_it_is_and_can_be_stopped(self):
@@ -708,7 +1046,10 @@ class Exports(BrowserCase):
             BROWSER.click("#export")
             self.wait("document.getElementById('ask').open")
             BROWSER.click("#ask button[value=yes]")
-            self.wait("/^exporting: coding 9 frames from frame 3 on, try 1 of 6 at most, \\d+\\.\\d s$/.test(document.getElementById('status').textContent)")
+            self.wait(
+                "/^exporting: coding 9 frames from frame 3 on, try 1 of 6 at most, \\d+\\.\\d"
+                " s$/.test(document.getElementById('status').textContent)"
+            )
             BROWSER.click("#export")
             self.wait("document.getElementById('status').textContent === 'the export was stopped'")
             self.assertEqual(self.text("#export"), "Export")
@@ -721,7 +1062,13 @@ class Exports(BrowserCase):
         with mock.patch("shutil.which", lambda name: None):
             BROWSER.click("#export")
             self.wait("document.querySelector('#notices [data-id=exported]')")
-        self.assertIn("Nothing was exported: 9 of 12 frames are coded again; all others stay as they are. No encoder of VP8 was found on the machine of the server: install ffmpeg (with libvpx)", self.said())
+        self.assertIn(
+            (
+                "Nothing was exported: 9 of 12 frames are coded again; all others stay as they are. No encoder of VP8"
+                " was found on the machine of the server: install ffmpeg (with libvpx)"
+            ),
+            self.said(),
+        )
 
     @unittest.skipUnless(shutil.which("ffmpeg"), "no ffmpeg")
     def test_a_long_lead(self):
@@ -734,12 +1081,23 @@ class Exports(BrowserCase):
         BROWSER.click("#export")
         self.wait("document.getElementById('ask').open")
         hidden, own = sum(map(len, packets[:30])), sum(map(len, packets[30:40]))
-        self.assertEqual(self.js("return [...document.querySelectorAll('#ask option')].map((one) => one.textContent)"), ["hidden", "none: coded again"])
-        text = f"Frame 0 is 12 s after a key frame. The packets from there on can come before it, hidden: 30 packets, {hidden:,} bytes. Or its first 10 frames, {own:,} bytes now, are coded again, and nothing is hidden."
+        self.assertEqual(
+            self.js("return [...document.querySelectorAll('#ask option')].map((one) => one.textContent)"),
+            ["hidden", "none: coded again"],
+        )
+        text = (
+            "Frame 0 is 12 s after a key frame. The packets from there on can come before it, hidden: 30 packets,"
+            f" {hidden:,} bytes. Or its first 10 frames, {own:,} bytes now, are coded again, and nothing is hidden."
+        )
         self.assertEqual(self.text("#ask .note"), text)
-        self.js("document.querySelector('#ask select').value = 'coded'; document.querySelector('#ask input').value = 36")
+        self.js(
+            "document.querySelector('#ask select').value = 'coded'; document.querySelector('#ask input').value = 36"
+        )
         BROWSER.click("#ask button[value=yes]")
-        self.wait("/in 10 packets, none of them hidden; 10 of 10 frames are coded again, in [\\d,]+ bytes/.test(document.getElementById('status').textContent)")
+        self.wait(
+            "/in 10 packets, none of them hidden; 10 of 10 frames are coded again, in [\\d,]+"
+            " bytes/.test(document.getElementById('status').textContent)"
+        )
         BROWSER.click("#export")
         self.wait("document.getElementById('ask').open")
         BROWSER.click("#ask button[value=yes]")
@@ -757,15 +1115,23 @@ class Exports(BrowserCase):
 
     def offered(self, act):
         """The name and the bytes of the file that an act offers."""
-        self.js("""window.offered = null; const real = URL.createObjectURL;
+        self.js(
+            """window.offered = null; const real = URL.createObjectURL;
             URL.createObjectURL = (blob) => { window.offering = blob; return real.call(URL, blob); };
-            HTMLAnchorElement.prototype.click = function () { if (this.download && window.offering) window.offering.arrayBuffer().then((bytes) => (window.offered = [this.download, [...new Uint8Array(bytes)]])); };""")
+            HTMLAnchorElement.prototype.click = function () {
+              if (this.download && window.offering)
+                window.offering.arrayBuffer().then(
+                  (bytes) => (window.offered = [this.download, [...new Uint8Array(bytes)]]));
+            };"""
+        )
         act()
         name, data = self.wait("window.offered")
         return name, bytes(data)
 
     def test_one_button_gives_what_is_seen(self):
-        """With a script and without one, by a click and by its key; the packets as they are are an entry of its menu."""
+        """With a script and without one, by a click and by its key; the packets as they are are an entry of its
+        menu.
+        """
         self.open(SMALL, stems=[str(self.folder() / "small")])
         self.assertIsNone(self.js("return document.getElementById('download')"))
         blue = self.js("return [...document.querySelectorAll('header button.main')].map(({ id }) => id)")
@@ -777,11 +1143,18 @@ class Exports(BrowserCase):
         self.step("script trim 0 2 5")
         self.wait("wokureti.model.session.revision === 2")
         self.assertEqual(self.text("#saved"), "the script is in the list of edits")
-        for act in (lambda: BROWSER.click("#export"), lambda: BROWSER.key("Control", "s"), lambda: BROWSER.key("Control", "e")):
+        for act in (
+            lambda: BROWSER.click("#export"),
+            lambda: BROWSER.key("Control", "s"),
+            lambda: BROWSER.key("Control", "e"),
+        ):
             self.assertEqual(self.digests(self.offered(act)[1]), frames[2:7])
         self.assertTrue(self.js("return document.getElementById('export-menu').hidden"))
         BROWSER.click("#export-more")
-        self.assertEqual(self.js("return [document.getElementById('export-menu').hidden, document.activeElement.id]"), [False, "save"])
+        self.assertEqual(
+            self.js("return [document.getElementById('export-menu').hidden, document.activeElement.id]"),
+            [False, "save"],
+        )
         BROWSER.key("Enter")
         self.wait("document.querySelector('#notices [data-id=saved]')")
         saved = self.members("/session")["saves"][0]["file"]
@@ -835,8 +1208,16 @@ class Killed(BrowserCase):
         instance = self.js("return wokureti.model.session.instance")
         _, again = self.start(clip, XDG_STATE_HOME=str(room / "state"))
         self.assertEqual(again, address)
-        self.wait(f"window.wokureti && wokureti.model.session && wokureti.model.session.instance !== '{instance}' && document.body.dataset.ready === 'yes'")
-        self.assertEqual(self.js("return [wokureti.model.session.packets, document.querySelectorAll('#notices [data-id=lost]').length]"), [11, 0])
+        self.wait(
+            f"window.wokureti && wokureti.model.session && wokureti.model.session.instance !== '{instance}' &&"
+            " document.body.dataset.ready === 'yes'"
+        )
+        self.assertEqual(
+            self.js(
+                "return [wokureti.model.session.packets, document.querySelectorAll('#notices [data-id=lost]').length]"
+            ),
+            [11, 0],
+        )
 
 
 class StartPage(BrowserCase):
@@ -849,7 +1230,14 @@ class StartPage(BrowserCase):
         BROWSER.set_size(1440, 900)
 
     def started(self, room, *words):
-        process = start("open", *words, "--no-browser", stdout=subprocess.PIPE, stderr=subprocess.DEVNULL, env={"XDG_STATE_HOME": str(room / "state")})
+        process = start(
+            "open",
+            *words,
+            "--no-browser",
+            stdout=subprocess.PIPE,
+            stderr=subprocess.DEVNULL,
+            env={"XDG_STATE_HOME": str(room / "state")},
+        )
 
         def end():
             if process.poll() is None:
@@ -862,7 +1250,10 @@ class StartPage(BrowserCase):
         return process.stdout.readline().decode().strip()
 
     def recent(self):
-        return self.js("return [...document.querySelectorAll('#recent-list .row')].map((one) => [one.querySelector('.text').textContent, one.querySelector('.sub').textContent])")
+        return self.js(
+            "return [...document.querySelectorAll('#recent-list .row')].map((one) =>"
+            " [one.querySelector('.text').textContent, one.querySelector('.sub').textContent])"
+        )
 
     def ready(self, address):
         BROWSER.open(address)
@@ -884,11 +1275,14 @@ class StartPage(BrowserCase):
             self.assertTrue(self.js("return document.getElementById('recent').hidden"))
             self.assertLessEqual(self.js("return document.documentElement.scrollWidth"), size[0])
             self.chosen(path)
-            self.assertEqual(self.js("const { names, packets } = wokureti.model.session; return [names, packets]"), [["<b>a clip.ivf"], 12])
+            self.assertEqual(
+                self.js("const { names, packets } = wokureti.model.session; return [names, packets]"),
+                [["<b>a clip.ivf"], 12],
+            )
             self.js("wokureti.model.selectFrames(2, 5); await wokureti.cutting.cutOut()")
             self.assertEqual(self.js("return wokureti.model.frames"), 9)
             self.ready(address)
-            (name, about), = self.recent()
+            ((name, about),) = self.recent()
             self.assertEqual(name, "<b>a clip.ivf")
             self.assertTrue(about.startswith("1 edit · "), about)
             # Nothing is written next to the stream; the list is in the state folder.
@@ -917,7 +1311,7 @@ class StartPage(BrowserCase):
         path.write_bytes(b"no stream " * 9)
         self.ready(self.started(room))
         BROWSER.type("#welcome-file", str(path))
-        self.wait("/text\\.ivf is no stream of VP8/.test(document.getElementById('welcome-text').textContent)")
+        self.wait("/text\\.ivf is not a stream of VP8/.test(document.getElementById('welcome-text').textContent)")
 
     def test_pieces_are_of_a_name_and_in_order(self):
         """No path leads out of the folder, and no piece is left out."""
@@ -926,7 +1320,11 @@ class StartPage(BrowserCase):
 
         def post(path, **body):
             origin = re.match("http://[^/]*", address).group(0)
-            request = urllib.request.Request(address.replace("/page/", f"/{path}"), json.dumps(body).encode(), {"Content-Type": "application/json", "Origin": origin})
+            request = urllib.request.Request(
+                address.replace("/page/", f"/{path}"),
+                json.dumps(body).encode(),
+                {"Content-Type": "application/json", "Origin": origin},
+            )
             try:
                 with urllib.request.urlopen(request, timeout=20 * SLOW) as answer:
                     return answer.status, json.load(answer)
@@ -935,9 +1333,18 @@ class StartPage(BrowserCase):
 
         status, found = post("piece", copy="", name="../../a.ivf", at=0, data="AAAA")
         self.assertEqual(status, 200)
-        for copy, at, data, wanted in ((found["copy"], 9, "AAAA", 409), ("../../" + 10 * "a", 3, "AAAA", 400), (found["copy"], 3, "no base64", 400)):
+        for copy, at, data, wanted in (
+            (found["copy"], 9, "AAAA", 409),
+            ("../../" + 10 * "a", 3, "AAAA", 400),
+            (found["copy"], 3, "no base64", 400),
+        ):
             self.assertEqual(post("piece", copy=copy, name="../../a.ivf", at=at, data=data)[0], wanted)
-        for body in ({"recent": 0}, {"copy": found["copy"], "name": "../../etc/passwd"}, {"copy": "..", "name": "a"}, {}):
+        for body in (
+            {"recent": 0},
+            {"copy": found["copy"], "name": "../../etc/passwd"},
+            {"copy": "..", "name": "a"},
+            {},
+        ):
             self.assertEqual(post("pages", **body)[0], 404, body)
         self.assertEqual([one.name for one in room.iterdir() if one.name != "state"], [])
 

@@ -11,9 +11,8 @@ from unittest import mock
 import captured
 from captured import descriptor, ethernet, ipv4, ipv6, janus, lossy, payloads, pcap, pcapng, rtp, rtpdump
 from support import CLIP, DATA, SLOW, Case, command, packets_of
-from wokureti.calls import captures, partitions, recordings
-from wokureti.calls import rtp as streams
-from wokureti.tools import ivf
+from wokureti.media import ivf
+from wokureti.calls import captures, partitions, recordings, rtp as streams
 
 # A clip whose frames take several packets of RTP, and one with several token partitions.
 PACKETS = packets_of(CLIP)[:60]
@@ -57,7 +56,13 @@ class Formats(CallCase):
     def test_files(self):
         sent = payloads(PACKETS)
         for order in "<>":
-            for data in (pcap(on_network(sent), order=order), pcap(on_network(sent), order=order, nano=True), pcapng(on_network(sent), order=order), pcapng(on_network(sent), order=order, simple=True), pcapng(on_network(sent), order=order, old=True)):
+            for data in (
+                pcap(on_network(sent), order=order),
+                pcap(on_network(sent), order=order, nano=True),
+                pcapng(on_network(sent), order=order),
+                pcapng(on_network(sent), order=order, simple=True),
+                pcapng(on_network(sent), order=order, old=True),
+            ):
                 self.assertWhole(data)
         self.assertWhole(rtpdump(sent))
         self.assertWhole(janus(sent))
@@ -111,12 +116,16 @@ class Formats(CallCase):
             self.assertIn(text, said)
             self.assertTrue(said.startswith(("call.pcap is a ", "call.pcap: it does not")), said)
         status, out, errors = command("cat", self.write(pcap(on_network(secret)), "secret.pcap"), "-")
-        self.assertEqual((status, out, "secret.pcap is a pcap file" in errors, "encrypted" in errors), (2, b"", True, True), errors)
+        self.assertEqual(
+            (status, out, "secret.pcap is a pcap file" in errors, "encrypted" in errors), (2, b"", True, True), errors
+        )
 
     def test_several_streams(self):
         other = packets_of(DATA / "small.ivf")
         small = payloads(other, first=7, ssrc=5, kind=100)
-        sent = [one for pair in zip(payloads(PACKETS), small + [b""] * 1000) for one in pair if one] + small[len(payloads(PACKETS)) :]
+        sent = [one for pair in zip(payloads(PACKETS), small + [b""] * 1000) for one in pair if one] + small[
+            len(payloads(PACKETS)) :
+        ]
         data = pcap(on_network(sent))
         self.assertWhole(data)
         self.assertWhole(data, number=1)
@@ -143,9 +152,23 @@ class Fields(CallCase):
                                 text = descriptor(True, 0, picture, wide, base, layer, key, extended)
                                 found = streams.descriptor_of(text + b"rest")
                                 number = None if picture is None else picture if wide else picture % 128
-                                self.assertEqual(found, (True, len(text), number, base, layer if layer is not None else None, wide and picture is not None))
+                                self.assertEqual(
+                                    found,
+                                    (
+                                        True,
+                                        len(text),
+                                        number,
+                                        base,
+                                        layer if layer is not None else None,
+                                        wide and picture is not None,
+                                    ),
+                                )
                                 for end in range(1, len(text)):
-                                    self.assertIn(streams.descriptor_of(text[:end]), (None,) if text[0] & 0x80 else (None, found), (text, end))
+                                    self.assertIn(
+                                        streams.descriptor_of(text[:end]),
+                                        (None,) if text[0] & 0x80 else (None, found),
+                                        (text, end),
+                                    )
         self.assertEqual(streams.descriptor_of(descriptor(True, 3) + b"x")[0], False)
         self.assertEqual(streams.descriptor_of(b""), None)
 
@@ -154,7 +177,16 @@ class Fields(CallCase):
         self.assertWhole(pcap(on_network(sent)))
         self.assertWhole(pcap(on_network(payloads(PACKETS, padding=7))))
         # What a relay passes on has a channel and a length before it.
-        self.assertWhole(pcap(on_network([b"\x40\x01" + len(one).to_bytes(2, "big") + one + bytes(-len(one) % 4) for one in payloads(PACKETS)])))
+        self.assertWhole(
+            pcap(
+                on_network(
+                    [
+                        b"\x40\x01" + len(one).to_bytes(2, "big") + one + bytes(-len(one) % 4)
+                        for one in payloads(PACKETS)
+                    ]
+                )
+            )
+        )
         for pictures in (0, 120, 32760):
             for wide in (True, False):
                 self.assertWhole(pcap(on_network(payloads(PACKETS, pictures=pictures, wide=wide))))
@@ -176,7 +208,9 @@ class Fields(CallCase):
     def test_order(self):
         # Numbers and time stamps go over their ends; packets come late, and twice.
         sent, chance = payloads(PACKETS), random.Random(3)
-        self.assertEqual([int.from_bytes(sent[place][2:4], "big") for place in (0, -1)], [65000, (65000 + len(sent) - 1) % 65536])
+        self.assertEqual(
+            [int.from_bytes(sent[place][2:4], "big") for place in (0, -1)], [65000, (65000 + len(sent) - 1) % 65536]
+        )
         self.assertGreater(len(sent), 536)
         late = sorted(range(len(sent)), key=lambda place: place + (chance.randrange(40) if place else 0))
         self.assertWhole(pcap(on_network([sent[place] for place in late])))
@@ -206,7 +240,10 @@ class Losses(CallCase):
                 for place, frame in enumerate(call.frames):
                     number = (frame.time - 0xFFFFFF00) // 3600
                     self.assertTrue(frame.is_whole == (place not in cut))
-                    self.assertTrue(whole[number] == frame.data if frame.is_whole else whole[number].startswith(frame.data), (seed, part, number))
+                    self.assertTrue(
+                        whole[number] == frame.data if frame.is_whole else whole[number].startswith(frame.data),
+                        (seed, part, number),
+                    )
                     right += frame.is_whole
                 lost = [frame for frame in sent if frame not in left]
                 damaged = {int.from_bytes(one[4:8], "big") for one in lost}
@@ -216,9 +253,14 @@ class Losses(CallCase):
 
     def test_a_lost_picture_is_counted(self):
         sent = payloads(PACKETS, pictures=126, wide=False)
-        times = sorted({int.from_bytes(one[4:8], "big") for one in sent}, key=lambda one: (one - 0xFFFFFF00) % (1 << 32))
+        times = sorted(
+            {int.from_bytes(one[4:8], "big") for one in sent}, key=lambda one: (one - 0xFFFFFF00) % (1 << 32)
+        )
         left = [one for one in sent if int.from_bytes(one[4:8], "big") not in times[10:13]]
-        self.assertEqual([tuple(one)[:2] + (one.count,) for one in self.call(pcap(on_network(left))).missing], [("lost_pictures", 10, 3)])
+        self.assertEqual(
+            [tuple(one)[:2] + (one.count,) for one in self.call(pcap(on_network(left))).missing],
+            [("lost_pictures", 10, 3)],
+        )
 
     def test_a_frame_without_its_end_is_decoded(self):
         # With one token partition and with several: what is missing is zeros, which a decoder reads after an end too.
@@ -234,7 +276,9 @@ class Losses(CallCase):
                     self.assertEqual(made.strip(b"\0"), data[:end].strip(b"\0"))
                     path = self.room / "cut.ivf"
                     with open(path, "wb") as file:
-                        file.writelines(ivf.pieces(ivf.Head(16, 16, 30, 1), number + 1, list(enumerate([*packets[:number], made]))))
+                        file.writelines(
+                            ivf.pieces(ivf.Head(16, 16, 30, 1), number + 1, list(enumerate([*packets[:number], made])))
+                        )
                     status, out, errors = command("cat", path, "-")
                     self.assertEqual((status, out.count(b"FRAME\n") >= number + 1), (0, True), errors)
 
@@ -245,25 +289,41 @@ class Losses(CallCase):
                 # A server gives what it sends on other numbers.
                 again = payloads(PACKETS, pictures=9000, first=300, start=50000, ssrc=9) if changes else sent
                 one, two = lossy(range(len(sent)), 0.04, seed), lossy(range(len(sent)), 0.04, seed + 100)
-                paths = [self.write(pcap(on_network([made[place] for place in places])), f"{name}.pcap") for name, made, places in (("one", sent, one), ("two", again, two))]
+                paths = [
+                    self.write(pcap(on_network([made[place] for place in places])), f"{name}.pcap")
+                    for name, made, places in (("one", sent, one), ("two", again, two))
+                ]
                 found = recordings.Searched(paths[0], "one", paths[1], "two")
                 both = set(one) | set(two)
                 frames = {int.from_bytes(sent[place][4:8], "big") for place in range(len(sent)) if place not in both}
                 whole = [frame.data for frame in found.call.frames if frame.is_whole]
                 self.assertEqual(len(whole), len(PACKETS) - len(frames), (changes, seed, found.said))
                 self.assertTrue(set(whole) <= set(PACKETS))
-                self.assertTrue(found.said[0].startswith(f"{len(set(two) - set(one))} packets of RTP of two taken"), found.said)
+                self.assertTrue(
+                    found.said[0].startswith(f"{len(set(two) - set(one))} packets of RTP of two taken"), found.said
+                )
 
     def test_another_call_is_refused(self):
-        paths = [self.write(pcap(on_network(payloads(packets))), f"{name}.pcap") for name, packets in (("one", PACKETS), ("two", packets_of(DATA / "small.ivf")))]
+        paths = [
+            self.write(pcap(on_network(payloads(packets))), f"{name}.pcap")
+            for name, packets in (("one", PACKETS), ("two", packets_of(DATA / "small.ivf")))
+        ]
         out = self.room / "out.ivf"
         status, _, errors = command("repair", paths[0], out, "--second", paths[1])
-        self.assertEqual((status, "no packet of the second capture is one of the first" in errors, out.exists()), (2, True, False), errors)
+        self.assertEqual(
+            (status, "no packet of the second capture is one of the first" in errors, out.exists()),
+            (2, True, False),
+            errors,
+        )
 
     def test_many_packets(self):
         sent = payloads(PACKETS, size=60)
         turns = 100000 // len(sent) + 1
-        many = [one for turn in range(turns) for one in payloads(PACKETS, size=60, first=turn * len(sent), start=turn * 3600 * len(PACKETS))]
+        many = [
+            one
+            for turn in range(turns)
+            for one in payloads(PACKETS, size=60, first=turn * len(sent), start=turn * 3600 * len(PACKETS))
+        ]
         data = pcap(on_network(many))
         with self.within(15):
             self.assertEqual(len(self.call(data).frames), turns * len(PACKETS))
@@ -281,7 +341,12 @@ class Damaged(CallCase):
 
     def test_cut_and_flipped(self):
         sent = payloads(PACKETS[:20], size=400)
-        made = [pcap(on_network(sent)), pcapng(on_network(sent)), pcapng(on_network(sent), order=">", simple=True), pcap([ipv6(one) for one in sent], 229)]
+        made = [
+            pcap(on_network(sent)),
+            pcapng(on_network(sent)),
+            pcapng(on_network(sent), order=">", simple=True),
+            pcap([ipv6(one) for one in sent], 229),
+        ]
         chance, true, found = random.Random(11), set(PACKETS[:20]), 0
         for turn in range(200):
             data = bytearray(made[turn % len(made)])
@@ -341,12 +406,18 @@ class Commands(CallCase):
         # The last packets of frames 0 and 24.
         ends = [place for place, one in enumerate(self.sent) if one[1] & 0x80]
         self.gone = (ends[0], ends[24])
-        self.lossy = self.write(pcap(on_network([one for place, one in enumerate(self.sent) if place not in self.gone])), "lossy.pcap")
+        self.lossy = self.write(
+            pcap(on_network([one for place, one in enumerate(self.sent) if place not in self.gone])), "lossy.pcap"
+        )
 
     def test_each_command(self):
         out = self.room / "out.ivf"
         status, text, errors = command("list", self.whole, "--json")
-        self.assertEqual((status, [json.loads(line)["bytes"] for line in text.splitlines()]), (0, [len(one) for one in PACKETS]), errors)
+        self.assertEqual(
+            (status, [json.loads(line)["bytes"] for line in text.splitlines()]),
+            (0, [len(one) for one in PACKETS]),
+            errors,
+        )
         self.assertIn(f"SSRC 11223344, payload type 96, {len(self.sent):,} packets, 0 lost", errors)
         status, text, errors = command("check", self.whole)
         self.assertEqual((status, b"damage: 0" in text), (0, True), errors)
@@ -355,7 +426,9 @@ class Commands(CallCase):
         status, _, errors = command("export", self.whole, out, "-y")
         self.assertEqual((status, len(packets_of(out))), (0, len(PACKETS)), errors)
         status, text, errors = command("cat", self.whole, "-")
-        self.assertEqual((status, text.count(b"FRAME\n"), text.split(b"\n")[0].split()[3]), (0, len(PACKETS), b"F25:1"), errors)
+        self.assertEqual(
+            (status, text.count(b"FRAME\n"), text.split(b"\n")[0].split()[3]), (0, len(PACKETS), b"F25:1"), errors
+        )
         status, _, errors = command("repair", self.whole, out, "-y")
         self.assertEqual((status, packets_of(out)), (0, PACKETS), errors)
 
@@ -365,14 +438,21 @@ class Commands(CallCase):
         lines = text.decode().splitlines()
         self.assertEqual(status, 1, errors)
         for number in missing:
-            self.assertTrue(any(line.startswith("damage: ") and f"RTP packets {number} are missing" in line for line in lines), (number, lines[:4]))
+            self.assertTrue(
+                any(line.startswith("damage: ") and f"RTP packets {number} are missing" in line for line in lines),
+                (number, lines[:4]),
+            )
         status, text, _ = command("check", self.lossy, "--json")
         found = [json.loads(line) for line in text.splitlines()]
-        self.assertEqual([one["missing"] for one in found if "missing" in one], [[[number, number]] for number in missing])
+        self.assertEqual(
+            [one["missing"] for one in found if "missing" in one], [[[number, number]] for number in missing]
+        )
         self.assertTrue(any(one["kind"] == "past_end" for one in found))
         for words in (("list",), ("export", self.room / "x.ivf"), ("cat", "-")):
             status, _, errors = command(words[0], self.lossy, *words[1:])
-            self.assertEqual((status, "2 packets of RTP are missing: 2 frames are cut off" in errors), (1, True), (words, errors))
+            self.assertEqual(
+                (status, "2 packets of RTP are missing: 2 frames are cut off" in errors), (1, True), (words, errors)
+            )
         self.assertEqual(command("export", self.lossy, self.room / "x.ivf", "-y", "--anyway")[0], 0)
 
     def test_repair(self):
@@ -388,7 +468,9 @@ class Commands(CallCase):
         self.assertEqual(status in (1, 2), True, errors)
         first, given = self.room / "first.ivf", list(enumerate(PACKETS))
         with open(first, "wb") as file:
-            file.writelines(ivf.pieces(ivf.Head(320, 180, 90000, 1), len(given), [(stamp * 3600, data) for stamp, data in given]))
+            file.writelines(
+                ivf.pieces(ivf.Head(320, 180, 90000, 1), len(given), [(stamp * 3600, data) for stamp, data in given])
+            )
         self.assertEqual(command("repair", first, out, "-y", "--second", self.lossy)[0], 0)
         self.assertEqual(packets_of(out), PACKETS)
 
@@ -405,8 +487,13 @@ class Payloaders(CallCase):
         for mode in ("none", "7-bit", "15-bit"):
             for size in (300, 1200, 8000):
                 out = self.room / "sent"
-                words = f"filesrc location={clip} ! matroskademux ! rtpvp8pay mtu={size} picture-id-mode={mode} ! rtpstreampay ! filesink location={out}"
-                made = subprocess.run(["gst-launch-1.0", "-q", *words.split()], capture_output=True, timeout=30 * SLOW, check=False)
+                words = (
+                    f"filesrc location={clip} ! matroskademux ! rtpvp8pay mtu={size} picture-id-mode={mode} !"
+                    f" rtpstreampay ! filesink location={out}"
+                )
+                made = subprocess.run(
+                    ["gst-launch-1.0", "-q", *words.split()], capture_output=True, timeout=30 * SLOW, check=False
+                )
                 if b"no element" in made.stderr:
                     self.skipTest(made.stderr.decode().strip())
                 self.assertEqual(made.returncode, 0, made.stderr)
@@ -417,7 +504,10 @@ class Payloaders(CallCase):
     def test_ffmpeg(self):
         import socket
 
-        with socket.socket(socket.AF_INET, socket.SOCK_DGRAM) as port, socket.socket(socket.AF_INET, socket.SOCK_DGRAM) as control:
+        with (
+            socket.socket(socket.AF_INET, socket.SOCK_DGRAM) as port,
+            socket.socket(socket.AF_INET, socket.SOCK_DGRAM) as control,
+        ):
             port.bind(("127.0.0.1", 0))
             number = port.getsockname()[1]
             try:
@@ -426,8 +516,24 @@ class Payloaders(CallCase):
                 pass
             port.setsockopt(socket.SOL_SOCKET, socket.SO_RCVBUF, 1 << 22)
             port.settimeout(5 * SLOW)
-            words = ["ffmpeg", "-v", "error", "-re", "-readrate", "4", "-i", CLIP, "-c", "copy", "-f", "rtp", f"rtp://127.0.0.1:{number}?pkt_size=700"]
-            with subprocess.Popen(words, stdin=subprocess.DEVNULL, stdout=subprocess.DEVNULL, stderr=subprocess.DEVNULL) as sender:
+            words = [
+                "ffmpeg",
+                "-v",
+                "error",
+                "-re",
+                "-readrate",
+                "4",
+                "-i",
+                CLIP,
+                "-c",
+                "copy",
+                "-f",
+                "rtp",
+                f"rtp://127.0.0.1:{number}?pkt_size=700",
+            ]
+            with subprocess.Popen(
+                words, stdin=subprocess.DEVNULL, stdout=subprocess.DEVNULL, stderr=subprocess.DEVNULL
+            ) as sender:
                 sent, limit = [], time.monotonic() + 30 * SLOW
                 try:
                     while time.monotonic() < limit:

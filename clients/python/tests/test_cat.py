@@ -15,9 +15,25 @@ import unittest
 import urllib.request
 from unittest import mock
 
-from support import DATA, ODD, SLOW, SMALL, Case, command, packets_of, start, start_python, start_unwaking, whole_text, write_packets
+from support import (
+    DATA,
+    ODD,
+    SLOW,
+    SMALL,
+    Case,
+    command,
+    packets_of,
+    start,
+    start_python,
+    start_unwaking,
+    whole_text,
+    write_packets,
+)
 from wokureti import Session, commands, system
-from wokureti.tools import cat, machines, parts, programs, rooms, webm
+from wokureti.errors import Failed
+from wokureti.base import programs, rooms
+from wokureti.media import webm
+from wokureti.tools import cat, machines, parts
 
 SCENES = DATA / "scene-cuts.ivf"
 HIDDEN = DATA / "hidden-altref.ivf"
@@ -84,7 +100,9 @@ class Texts(Case):
 
     def test_a_script_that_refuses(self):
         script = "source 1; splice 0 1"
-        self.assertWhole(SMALL, 1, lines=[f"script {script}"], sources=[ODD], words=["--source", ODD, "--script", script])
+        self.assertWhole(
+            SMALL, 1, lines=[f"script {script}"], sources=[ODD], words=["--source", ODD, "--script", script]
+        )
 
     def test_edits_of_another_stream(self):
         edits = self.folder() / "list"
@@ -156,11 +174,18 @@ class Paths(Case):
         self.assertEqual(command("cat", "/dev/null"), (0, b"", ""))
         # The other commands too.
         png = command("png", SCENES, 3, "-")
-        self.assertEqual((command("png", "-", 3, "-", given=SCENES.read_bytes()), png[0], png[1][:4]), (png, 0, b"\x89PNG"))
+        self.assertEqual(
+            (command("png", "-", 3, "-", given=SCENES.read_bytes()), png[0], png[1][:4]), (png, 0, b"\x89PNG")
+        )
         self.assertEqual(command("repair", "-", self.room / "mended.ivf", given=SCENES.read_bytes())[::2], (0, ""))
         self.assertEqual((self.room / "mended.ivf").read_bytes(), SCENES.read_bytes())
         with open(SCENES, "rb") as file:
-            self.assertEqual(start("repair", "-", self.room / "mended.ivf", "-y", stdin=file, stdout=subprocess.DEVNULL).wait(20 * SLOW), 0)
+            self.assertEqual(
+                start("repair", "-", self.room / "mended.ivf", "-y", stdin=file, stdout=subprocess.DEVNULL).wait(
+                    20 * SLOW
+                ),
+                0,
+            )
         self.assertEqual(command("compare", "-", SCENES, given=SCENES.read_bytes())[0], 0)
 
     def test_standard_input_of_each_command(self):
@@ -170,10 +195,14 @@ class Paths(Case):
         self.assertEqual((status, packets_of(self.room / "cut.ivf") if not status else errors), (0, wanted[:key]))
         status, _, errors = command("join", "-", self.clip, self.room / "joined.ivf", given=data)
         self.assertEqual((status, packets_of(self.room / "joined.ivf") if not status else errors), (0, 2 * wanted))
-        status, _, errors = command("export", "-", self.room / "exported.ivf", "--script", f"trim 0 0 {key}", given=data)
+        status, _, errors = command(
+            "export", "-", self.room / "exported.ivf", "--script", f"trim 0 0 {key}", given=data
+        )
         self.assertEqual((status, packets_of(self.room / "exported.ivf") if not status else errors), (0, wanted[:key]))
         for words in (["serve"], ["open", "--no-browser", "--edits", self.room / "list"]):
-            process = start(words[0], "-", *words[1:], stdin=subprocess.PIPE, stdout=subprocess.PIPE, stderr=subprocess.PIPE)
+            process = start(
+                words[0], "-", *words[1:], stdin=subprocess.PIPE, stdout=subprocess.PIPE, stderr=subprocess.PIPE
+            )
             self.addCleanup(process.kill)
             process.stdin.write(data)
             process.stdin.close()
@@ -206,14 +235,23 @@ class Containers(Case):
         super().setUp()
         self.room = self.folder()
         self.webm = self.room / "a.webm"
-        subprocess.run(["ffmpeg", "-nostdin", "-v", "error", "-i", SCENES, "-c", "copy", self.webm], check=True, timeout=20 * SLOW)
+        subprocess.run(
+            ["ffmpeg", "-nostdin", "-v", "error", "-i", SCENES, "-c", "copy", self.webm], check=True, timeout=20 * SLOW
+        )
         self.packets = packets_of(SCENES)
 
     def test_each_command_reads_them(self):
         # Earlier programs read no WebM files.
         is_copied = not webm.is_read(self.webm)
         status, text, errors = command("cat", self.webm)
-        self.assertEqual((status, b"".join(text.split(b"\n", 1)[1:]) == whole_text(SCENES).split(b"\n", 1)[1], "took its packets out" in errors), (0, True, is_copied))
+        self.assertEqual(
+            (
+                status,
+                b"".join(text.split(b"\n", 1)[1:]) == whole_text(SCENES).split(b"\n", 1)[1],
+                "took its packets out" in errors,
+            ),
+            (0, True, is_copied),
+        )
         status, piped, errors = command("cat", "-", given=self.webm.read_bytes())
         self.assertEqual((status, piped == text, "standard input is a WebM" in errors), (0, True, is_copied))
         self.assertEqual(command("compare", "-", SCENES, given=self.webm.read_bytes())[0], 0)
@@ -221,7 +259,9 @@ class Containers(Case):
         self.assertEqual((status, packets_of(self.room / "out.ivf")), (0, self.packets))
         # The header counts the packets.
         self.assertEqual(int.from_bytes((self.room / "out.ivf").read_bytes()[24:28], "little"), len(self.packets))
-        done = subprocess.run([programs.find("vp8list"), self.room / "out.ivf", "--check"], capture_output=True, text=True, check=False)
+        done = subprocess.run(
+            [programs.find("vp8list"), self.room / "out.ivf", "--check"], capture_output=True, text=True, check=False
+        )
         self.assertNotIn("note: header: 1", done.stdout)
         self.assertNotIn("frames, 16 packets", done.stdout)
 
@@ -260,8 +300,14 @@ class Bounded(Case):
             sizes.append(size_of(folder.path(number, "y4m")))
 
         for script in ((), ("--script", "trim 0 0 500")):
-            with mock.patch.object(cat, "run_part", run_part), mock.patch.object(cat, "MOST_HELD", 30 * size), mock.patch.object(parts, "MOST_PART", 12 * size):
-                self.assertEqual(commands.main(["cat", str(path), str(room / "out.y4m"), "-y", "--jobs", "4", *script]), 0)
+            with (
+                mock.patch.object(cat, "run_part", run_part),
+                mock.patch.object(cat, "MOST_HELD", 30 * size),
+                mock.patch.object(parts, "MOST_PART", 12 * size),
+            ):
+                self.assertEqual(
+                    commands.main(["cat", str(path), str(room / "out.y4m"), "-y", "--jobs", "4", *script]), 0
+                )
             self.assertEqual((room / "out.y4m").read_bytes(), wanted)
         # A part has 12 frames, and the one that leads, and two of them are there at a time; one more is being joined.
         self.assertLessEqual(max(sizes), header + 13 * size)
@@ -274,7 +320,10 @@ class Bounded(Case):
         (room / "it").mkdir()
         self.assertEqual(cat.if_full(str(room / "it")), "")
         with mock.patch.object(cat, "LEAST_FREE", 1 << 62):
-            self.assertEqual(cat.if_full(str(room / "it")), f". The folder for temporary files, {room}, is full: name another one in the variable TMPDIR")
+            self.assertEqual(
+                cat.if_full(str(room / "it")),
+                f". The folder for temporary files, {room}, is full: name another one in the variable TMPDIR",
+            )
 
 
 class Failures(Case):
@@ -293,7 +342,9 @@ class Failures(Case):
         return errors
 
     def test_a_part_that_fails(self):
-        env = program_that(self.room, 'case "$2" in */2.list) echo "vp8serve: no memory" >&2; exit 1;; esac\nexec "$real" "$@"')
+        env = program_that(
+            self.room, 'case "$2" in */2.list) echo "vp8serve: no memory" >&2; exit 1;; esac\nexec "$real" "$@"'
+        )
         self.assertIn("part 2: vp8serve: no memory", self.assertFails(env))
 
     def test_a_part_that_is_killed(self):
@@ -306,7 +357,9 @@ class Failures(Case):
 
     def test_no_program(self):
         errors = self.assertFails({"VP8SERVE": "/nowhere/vp8serve"})
-        self.assertEqual(errors, "wokureti: there is no /nowhere/vp8serve: install it, or name it in the variable VP8SERVE\n")
+        self.assertEqual(
+            errors, "wokureti: there is no /nowhere/vp8serve: install it, or name it in the variable VP8SERVE\n"
+        )
 
     def test_a_full_disk(self):
         limit = ["sh", "-c", 'ulimit -f 8; exec "$@"', "sh"]
@@ -319,7 +372,9 @@ class Failures(Case):
     def test_a_reader_that_goes_away(self):
         env = program_that(self.room, 'echo $$ >> "$PIDS"; exec "$real" "$@"')
         pids = self.room / "pids"
-        process = start("cat", SCENES, "--jobs", 2, stdout=subprocess.PIPE, stderr=subprocess.PIPE, env={**env, "PIDS": str(pids)})
+        process = start(
+            "cat", SCENES, "--jobs", 2, stdout=subprocess.PIPE, stderr=subprocess.PIPE, env={**env, "PIDS": str(pids)}
+        )
         process.stdout.read(10)
         process.stdout.close()
         with self.within(5):
@@ -342,12 +397,20 @@ class Failures(Case):
         with self.within(5):
             interrupt(process)
             self.assertEqual(process.wait(10 * SLOW), 130)
-        self.assertEqual((process.stderr.read(), self.out.read_bytes(), os.listdir(self.room / "tmp")), (b"", b"old", []))
+        self.assertEqual(
+            (process.stderr.read(), self.out.read_bytes(), os.listdir(self.room / "tmp")), (b"", b"old", [])
+        )
         process.stderr.close()
 
     def test_an_interrupt_while_a_part_begins(self):
         begins, start_program = threading.Event(), subprocess.Popen
-        room = mock.Mock(**{"first.size": 1, "words.return_value": ["sleep", "30"], "path": lambda number, name: self.room / f"{number}.{name}"})
+        room = mock.Mock(
+            **{
+                "first.size": 1,
+                "words.return_value": ["sleep", "30"],
+                "path": lambda number, name: self.room / f"{number}.{name}",
+            }
+        )
         here = cat.Here(room, [mock.Mock(first=0, end=1)], 1, None)
 
         def slowly(*words, **channels):
@@ -361,9 +424,14 @@ class Failures(Case):
             here.ready.acquire()
             raise KeyboardInterrupt
 
-        with self.within(5), mock.patch.object(cat.subprocess, "Popen", slowly), mock.patch.object(here.ready, "wait", interrupted), self.assertRaises(KeyboardInterrupt):
+        with (
+            self.within(5),
+            mock.patch.object(cat.subprocess, "Popen", slowly),
+            mock.patch.object(here.ready, "wait", interrupted),
+            self.assertRaises(KeyboardInterrupt),
+        ):
             list(here)
-        with self.assertRaises(cat.Failed), here.started(["sleep", "30"]):
+        with self.assertRaises(Failed), here.started(["sleep", "30"]):
             pass
 
     def test_an_interrupt(self):
@@ -384,17 +452,29 @@ class Machines(Case):
         room = self.folder()
         ssh = room / "ssh"
         # What a machine answers is in its name.
-        ssh.write_text('#!/bin/sh\ncase "$1" in none) echo "ssh: no such host" >&2; exit 255;; rsync) exit 3;; program) exit 4;; slow) exec sleep 60;; esac\n')
+        ssh.write_text(
+            '#!/bin/sh\ncase "$1" in none) echo "ssh: no such host" >&2; exit 255;; rsync) exit 3;; program) exit 4;;'
+            " slow) exec sleep 60;; esac\n"
+        )
         ssh.chmod(0o755)
         names = ["none", "4/rsync", "2/program", "slow"]
-        with mock.patch.dict(os.environ, {"PARALLEL_SSH": str(ssh)}), mock.patch.object(machines, "MOST_ASK", 0.5), mock.patch("sys.stderr") as said, self.within(5):
-            with self.assertRaisesRegex(cat.Failed, "no machine"):
+        with (
+            mock.patch.dict(os.environ, {"PARALLEL_SSH": str(ssh)}),
+            mock.patch.object(machines, "MOST_ASK", 0.5),
+            mock.patch("sys.stderr") as said,
+            self.within(5),
+        ):
+            with self.assertRaisesRegex(Failed, "no machine"):
                 machines.able(names, "vp8serve")
             self.assertEqual(machines.able([":", "8/good", *names], "vp8serve"), [":", "8/good"])
         text = "".join(call.args[0] for call in said.write.call_args_list)
-        for sentence in ("none cannot be reached: ssh: no such host", "rsync has no rsync", "program has no vp8serve: install it there", "slow does not answer in 0.5 seconds"):
+        for sentence in (
+            "none cannot be reached: ssh: no such host",
+            "rsync has no rsync",
+            "program has no vp8serve: install it there",
+            "slow does not answer in 0.5 seconds",
+        ):
             self.assertIn(f"wokureti: {sentence}", text)
-
 
     def test_what_counts_is_the_file(self):
         """A machine that dies may leave a status of 0 in parallel's log, and no file: another one decodes its part."""
@@ -402,7 +482,8 @@ class Machines(Case):
         for name in ("ssh", "rsync"):
             (room / name).write_text("#!/bin/sh\n")
         # parallel with one process: parts 1 and 2 are lost by the machine `dead`, each once it is there.
-        (room / "parallel").write_text(f"""#!{sys.executable}
+        (room / "parallel").write_text(
+            f"""#!{sys.executable}
 import subprocess, sys
 words = sys.argv[1:]
 logins = [words[place + 1] for place, word in enumerate(words) if word == "--sshlogin"]
@@ -415,15 +496,23 @@ with open(words[words.index("--joblog") + 1], "w") as log:
             subprocess.run(["rm", f"{{number}}.replies", *([f"{{number}}.y4m"] if number == "2" else [])], check=True)
         log.write(f"{{place}}\\t{{host}}\\t0\\t0\\t0\\t0\\t0\\t0\\tcommand\\n")
         log.flush()
-""")
+"""
+        )
         for name in ("ssh", "rsync", "parallel"):
             (room / name).chmod(0o755)
-        env = {"PATH": f"{room}:{os.environ['PATH']}", "PARALLEL_SSH": str(room / "ssh"), "VP8SERVE": programs.find("vp8serve")}
+        env = {
+            "PATH": f"{room}:{os.environ['PATH']}",
+            "PARALLEL_SSH": str(room / "ssh"),
+            "VP8SERVE": programs.find("vp8serve"),
+        }
         many = write_packets(room / "in.ivf", 6 * packets_of(SMALL))
         words = ["cat", many, "--remote", programs.find("vp8serve")]
         status, out, errors = command(*words, "--sshlogin", "2/dead,good", env=env)
         self.assertEqual((status, out == whole_text(many)), (0, True), errors)
-        self.assertEqual(errors, "".join(f"wokureti: part {number} did not come back from dead: it is decoded again\n" for number in (1, 2)))
+        self.assertEqual(
+            errors,
+            "".join(f"wokureti: part {number} did not come back from dead: it is decoded again\n" for number in (1, 2)),
+        )
         status, _, errors = command(*words, "--sshlogin", "2/dead", env=env)
         self.assertEqual((status, errors), (2, "wokureti: part 1 did not come back from dead\n"))
 
@@ -432,12 +521,14 @@ class Rooms(Case):
     """Folders for temporary files that a program left, and those of programs that run."""
 
     def sweep(self, room, **env):
-        code = "import tempfile\nfrom wokureti.tools import rooms\nrooms.sweep()"
+        code = "import tempfile\nfrom wokureti.base import rooms\nrooms.sweep()"
         process = start_python("-c", code, env={"TMPDIR": str(room), **env})
         self.assertEqual(process.wait(20 * SLOW), 0)
 
     def test_a_folder_that_is_written_into_until_the_end_is_removed(self):
-        """A program that is being ended may make a file while the folder is removed: no error hides the one that the run ended with."""
+        """A program that is being ended may make a file while the folder is removed: no error hides the one that the
+        run ended with.
+        """
         tries, remove = [], shutil.rmtree
 
         def full(path, *words, **more):
@@ -453,7 +544,10 @@ class Rooms(Case):
 
     def test_only_a_folder_whose_program_is_gone_is_removed(self):
         room = self.folder()
-        code = "import sys\nfrom wokureti.tools import rooms\nroom = rooms.Room()\nprint(room.name, flush=True)\nsys.stdin.read()"
+        code = (
+            "import sys\nfrom wokureti.base import rooms\nroom = rooms.Room()\nprint(room.name,"
+            " flush=True)\nsys.stdin.read()"
+        )
         process = start_python("-c", code, env={"TMPDIR": str(room)}, stdin=subprocess.PIPE, stdout=subprocess.PIPE)
         name = pathlib.Path(process.stdout.readline().decode().strip())
         # Where locks are not made, as on some file systems, each program finds the lock free.
@@ -479,9 +573,10 @@ class Rooms(Case):
         self.assertEqual(sorted(path.name for path in room.iterdir()), ["wokureti-old", "wokureti-other"])
 
     def test_a_system_without_locks(self):
-
         room = self.folder()
-        with mock.patch.object(system, "lock", side_effect=OSError(38, "Function not implemented")), mock.patch.object(tempfile, "tempdir", str(room)):
+        with mock.patch.object(system, "lock", side_effect=OSError(38, "Function not implemented")), mock.patch.object(
+            tempfile, "tempdir", str(room)
+        ):
             with rooms.Room() as folder:
                 rooms.sweep()
                 self.assertTrue(os.path.isdir(folder))

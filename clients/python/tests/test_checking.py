@@ -1,6 +1,7 @@
-"""The check of the page: a session is asked for the findings of some packets at a time. What it finds, and what comes in between."""
+"""The check of the page: a session is asked for the findings of some packets at a time. What it finds, and what comes
+in between.
+"""
 
-import json
 import random
 import struct
 import threading
@@ -8,15 +9,12 @@ import time
 import unittest
 from unittest import mock
 
-from support import DATA, SLOW, crash, knows, packets_of, write_packets
+from support import DATA, SLOW, crash, packets_of, write_packets
 from test_page import BROKEN, SCENES, PageCase, check_of
-from wokureti import Refused, Session
+from wokureti.media import ivf
+from wokureti.session.listing import Listing
 from wokureti.page import checking
 from wokureti.page.opened import Opened
-from wokureti.session.listing import Listing
-from wokureti.tools import ivf
-
-NEEDS = unittest.skipUnless(knows("check 0 0"), "this vp8serve is an earlier one, without check FIRST COUNT")
 
 
 class Held:
@@ -82,13 +80,20 @@ class CheckCase(PageCase):
         return found
 
 
-@NEEDS
 class Ranges(CheckCase):
     def damaged(self):
         """A stream with damage of many kinds."""
         packets, choose = packets_of(SCENES), random.Random(70)
         for place in choose.sample(range(len(packets)), 12):
-            packets[place] = choose.choice([b"", BROKEN, packets[place][: len(packets[place]) // 2], packets[place] + b"\1\2\3\4\5\6", packets[max(0, place - 1)]])
+            packets[place] = choose.choice(
+                [
+                    b"",
+                    BROKEN,
+                    packets[place][: len(packets[place]) // 2],
+                    packets[place] + b"\1\2\3\4\5\6",
+                    packets[max(0, place - 1)],
+                ]
+            )
         return write_packets(self.folder() / "damaged.ivf", packets)
 
     def test_ranges_put_together_are_the_whole(self):
@@ -99,13 +104,18 @@ class Ranges(CheckCase):
             self.serve(path)
             found = self.checked()
             self.assertEqual(found["findings"], wanted)
-            self.assertEqual((found["damage"], found["notes"]), tuple(sum(one["severity"] == kind for one in wanted) for kind in ("damage", "note")))
+            self.assertEqual(
+                (found["damage"], found["notes"]),
+                tuple(sum(one["severity"] == kind for one in wanted) for kind in ("damage", "note")),
+            )
             self.assertEqual(found["done"], found["packets"])
 
     def test_long_streams_are_checked_beside(self):
         path = self.damaged()
         small_ranges(self)
-        with mock.patch.object(checking, "MOST_BEFORE", -1), mock.patch.object(checking.Pace, "is_late", return_value=True):
+        with mock.patch.object(checking, "MOST_BEFORE", -1), mock.patch.object(
+            checking.Pace, "is_late", return_value=True
+        ):
             self.serve(path)
             self.assertEqual(self.checked()["findings"], check_of(path))
             self.assertTrue(self.live.beside.is_open)
@@ -126,7 +136,16 @@ class Ranges(CheckCase):
         whole = SCENES.read_bytes()
         header = bytearray(whole[:32])
         heads = [("<HH", 12, (0, 0)), ("<HH", 12, (176, 144)), ("<I", 24, (7,)), ("<I", 16, (0,)), ("<I", 20, (0,))]
-        texts = [whole[:-1], whole + b"\0", whole + b"\0\1\2", whole + bytes(11), whole + bytes(12), whole + struct.pack("<IQ", 9, 1), whole[:32], whole[:37]]
+        texts = [
+            whole[:-1],
+            whole + b"\0",
+            whole + b"\0\1\2",
+            whole + bytes(11),
+            whole + bytes(12),
+            whole + struct.pack("<IQ", 9, 1),
+            whole[:32],
+            whole[:37],
+        ]
         for form, at, values in heads:
             other = bytearray(header)
             struct.pack_into(form, other, at, *values)
@@ -164,7 +183,6 @@ class Ranges(CheckCase):
             self.assertLess(most, 2.5 * (before + max(checking.SHORT, 2 * before, each)), (each, before))
 
 
-@NEEDS
 class Once(CheckCase):
     """Nothing is asked of the session twice."""
 
@@ -182,15 +200,22 @@ class Once(CheckCase):
 
     def look(self):
         """What the page asks for after an edit."""
-        for path in ("/session", "/session", "/timeline?source=0", "/place?packet=10", "/origins"):
-            self.members(path)
+        self.members("/session?known=")
+        self.members("/session")
         self.checked()
 
     def test_a_click(self):
         self.serve(SCENES)
         self.look()
         lines = self.logged()
-        for edit in ("delete 10", "hold 3", "replace 7 1000", "script trim 0 0 9", "script trim 0 0 9;fade 1 0 5 0 256", "delete 2"):
+        for edit in (
+            "delete 10",
+            "hold 3",
+            "replace 7 1000",
+            "script trim 0 0 9",
+            "script trim 0 0 9;fade 1 0 5 0 256",
+            "delete 2",
+        ):
             lines.clear()
             self.step(edit)
             self.look()
@@ -208,13 +233,20 @@ class Once(CheckCase):
     def test_the_size_of_the_first_key_packet_before_the_stream_is_listed(self):
         packets = packets_of(SCENES)
         packets[0] = packets[0][:3] + b"xxx" + packets[0][6:]
-        for path in (SCENES, write_packets(self.folder() / "in.ivf", packets), write_packets(self.folder() / "none.ivf", packets[1:4])):
-            with mock.patch.object(Opened, "list_files", lambda live: live.session.read_indexes()), mock.patch.object(Listing, "is_whole", False), mock.patch.object(self, "await_list"):
+        for path in (
+            SCENES,
+            write_packets(self.folder() / "in.ivf", packets),
+            write_packets(self.folder() / "none.ivf", packets[1:4]),
+        ):
+            with (
+                mock.patch.object(Opened, "list_files", lambda live: live.session.read_indexes()),
+                mock.patch.object(Listing, "is_whole", False),
+                mock.patch.object(self, "await_list"),
+            ):
                 self.serve(path)
                 self.assertEqual(self.checked()["findings"], check_of(path))
 
 
-@NEEDS
 class Between(CheckCase):
     def test_an_error_in_the_middle(self):
         small_ranges(self)
@@ -229,12 +261,12 @@ class Between(CheckCase):
 
         with mock.patch.object(checking, "answer", answer):
             limit = time.monotonic() + 10 * SLOW
-            while not (found := self.members("/check"))["over"]:
+            while not (found := self.found())["over"]:
                 self.assertLess(time.monotonic(), limit)
             self.assertEqual(found["failed"], "the disk is gone")
             self.assertLess(found["done"], found["packets"])
             # The same packets are not checked again and again.
-            self.assertEqual(self.members("/check")["check"], found["check"])
+            self.assertEqual(self.found()["check"], found["check"])
         self.step("delete 3")
         self.assertEqual(self.checked()["findings"], self.saved())
         # A check that failed is none of these packets.
@@ -243,9 +275,11 @@ class Between(CheckCase):
 
     def test_an_error_that_nobody_expects(self):
         self.serve(SCENES)
-        with mock.patch.object(checking, "answer", side_effect=ZeroDivisionError), mock.patch.object(threading, "excepthook"):
+        with mock.patch.object(checking, "answer", side_effect=ZeroDivisionError), mock.patch.object(
+            threading, "excepthook"
+        ):
             limit = time.monotonic() + 10 * SLOW
-            while not (found := self.members("/check"))["over"]:
+            while not (found := self.found())["over"]:
                 self.assertLess(time.monotonic(), limit)
         self.assertIn("ZeroDivisionError", found["failed"])
 
@@ -253,7 +287,7 @@ class Between(CheckCase):
         small_ranges(self)
         self.serve(self.broken(40))
         held = self.waiting()
-        first = self.members("/check")
+        first = self.found()
         held.wait(self)
         self.step("delete 0", "delete 0")
         held.let.set()
@@ -268,7 +302,7 @@ class Between(CheckCase):
         path = self.broken(40)
         self.serve(path)
         held = self.waiting()
-        self.members("/check")
+        self.found()
         held.wait(self)
         self.change("delete 0")
         held.let.set()
@@ -284,7 +318,7 @@ class Between(CheckCase):
         small_ranges(self)
         self.serve(SCENES)
         held = Held(self)
-        self.members("/check")
+        self.found()
         held.wait(self)
         done = []
         thread = threading.Thread(target=lambda: done.append(self.step("delete 3")))
@@ -298,7 +332,7 @@ class Between(CheckCase):
         small_ranges(self)
         self.serve(SCENES)
         held = self.waiting()
-        self.members("/check")
+        self.found()
         held.wait(self)
         with self.within(5):
             self.picture("/frames/20.y4m")
@@ -309,9 +343,11 @@ class Between(CheckCase):
         path = self.broken(40)
         for beside in (False, True):
             self.serve(path)
-            with mock.patch.object(checking, "MOST_BEFORE", -1 if beside else 1000), mock.patch.object(checking.Pace, "is_late", return_value=True):
+            with mock.patch.object(checking, "MOST_BEFORE", -1 if beside else 1000), mock.patch.object(
+                checking.Pace, "is_late", return_value=True
+            ):
                 held = self.waiting()
-                self.members("/check")
+                self.found()
                 held.wait(self)
                 with mock.patch("sys.stderr"):
                     crash(self.live.session)
@@ -331,12 +367,12 @@ class Between(CheckCase):
 
         with mock.patch.object(checking, "answer", answer), mock.patch("sys.stderr"):
             limit = time.monotonic() + 10 * SLOW
-            while not (found := self.members("/check"))["failed"] or found["check"] <= checking.MOST_TRIES:
+            while not (found := self.found())["failed"] or found["check"] <= checking.MOST_TRIES:
                 self.assertLess(time.monotonic(), limit)
                 time.sleep(0.02)
             self.assertTrue(found["over"])
             for _ in range(5):
-                self.assertEqual(self.members("/check")["check"], found["check"])
+                self.assertEqual(self.found()["check"], found["check"])
         self.await_list()
         self.assertLessEqual(self.members("/session")["restarts"], checking.MOST_TRIES + 1)
         self.step("delete 3")
@@ -358,10 +394,12 @@ class Between(CheckCase):
     def test_it_is_closed_during_a_check(self):
         small_ranges(self)
         for beside in (False, True):
-            with mock.patch.object(checking, "MOST_BEFORE", -1 if beside else 1000), mock.patch.object(checking.Pace, "is_late", return_value=True):
+            with mock.patch.object(checking, "MOST_BEFORE", -1 if beside else 1000), mock.patch.object(
+                checking.Pace, "is_late", return_value=True
+            ):
                 self.serve(SCENES)
                 held = self.waiting()
-                self.members("/check")
+                self.found()
                 held.wait(self)
                 check = self.live.check
                 with self.within(5):
@@ -375,10 +413,12 @@ class Between(CheckCase):
 
     def test_a_source_is_added_during_a_check(self):
         small_ranges(self)
-        with mock.patch.object(checking, "MOST_BEFORE", -1), mock.patch.object(checking.Pace, "is_late", return_value=True):
+        with mock.patch.object(checking, "MOST_BEFORE", -1), mock.patch.object(
+            checking.Pace, "is_late", return_value=True
+        ):
             self.serve(self.broken(40))
             held = self.waiting()
-            self.members("/check")
+            self.found()
             held.wait(self)
             check, beside = self.live.check, self.live.beside
             self.live.add_source(str(DATA / "odd-size.ivf"), "odd", ".ivf")
@@ -396,9 +436,9 @@ class Between(CheckCase):
         small_ranges(self)
         self.serve(self.broken(40))
         for line in ("delete 30", "hold 3", "undo", "replace 0 -", "undo", "use 0"):
-            self.members("/check")
+            self.found()
             self.change(line)
-            self.members("/check")
+            self.found()
         self.assertEqual(self.checked()["findings"], self.saved())
 
     def test_another_source_is_current(self):
@@ -412,34 +452,8 @@ class Between(CheckCase):
         wanted = [finding for finding in check_of(path) if finding["packet"] is not None]
         keys = [place for place, data in enumerate(packets_of(path)) if ivf.is_key(data)]
         for first, end in zip(keys, [*keys[1:], len(packets_of(path))]):
-            found = json.loads(self.post_to("/preview", lines=[], findings=first)[2])["findings"]
+            found = self.task("check", lines=[], packet=first)["findings"]
             self.assertEqual(found, [finding for finding in wanted if first <= finding["packet"] < end])
-
-
-class Earlier(CheckCase):
-    """A session that answers no `check`, as that of an earlier version."""
-
-    def test_it_is_said(self):
-        real = Session.ask
-
-        def ask(session, question, *given):
-            if question.startswith("check "):
-                raise Refused("refused Line")
-            return real(session, question, *given)
-
-        self.serve(SCENES)
-        with mock.patch.object(Session, "ask", ask):
-            limit = time.monotonic() + 10 * SLOW
-            while not (found := self.members("/check"))["over"]:
-                self.assertLess(time.monotonic(), limit)
-            self.assertIn("is an earlier one", found["failed"])
-            self.assertEqual(self.members("/check")["check"], found["check"])
-            status, _, body = self.post_to("/preview", lines=["delete 3"], findings=5)
-            self.assertEqual(status, 409)
-            self.assertIn("is an earlier one", json.loads(body)["error"])
-        # Frames and edits go on.
-        self.step("delete 3")
-        self.picture("/frames/2.y4m")
 
 
 if __name__ == "__main__":

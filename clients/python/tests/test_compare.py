@@ -15,8 +15,10 @@ from unittest import mock
 from support import DATA, ODD, SLOW, SMALL, TOP, Case, command, packets_of, start, whole_text, write_packets
 from test_serve import unpacked
 from wokureti import Session
+from wokureti.base import programs
+from wokureti.media import ivf
 from wokureti.session import frames
-from wokureti.tools import compare, ivf, programs
+from wokureti.tools import compare
 
 BROKEN = b"\x10\x00"
 # 8 frames of 5x3: 15 luma samples, and 6 of each chroma plane.
@@ -61,7 +63,10 @@ class Compare(Case):
             (15, "plane Cb, column 0, row 0 (macroblock 0, 0)", (36, 37), 1, (None, chroma, None)),
             (26, "plane Cr, column 2, row 1 (macroblock 0, 0)", (47, 57), 10, (None, None, chroma)),
         ):
-            words = [f"{name} {10 * math.log10(65025 * side / far**2) if side else math.inf:.2f}" for name, side in zip(("Y", "Cb", "Cr"), sides)]
+            words = [
+                f"{name} {10 * math.log10(65025 * side / far**2) if side else math.inf:.2f}"
+                for name, side in zip(("Y", "Cb", "Cr"), sides)
+            ]
             self.assertSays(
                 1,
                 [
@@ -79,7 +84,10 @@ class Compare(Case):
             "first difference: frame 2: plane Y, column 1, row 1 (macroblock 0, 0): 20 in A, 25 in B",
             "2 of 8 frames differ",
             "3 of 216 samples differ, by 5 at most",
-            f"PSNR Y {10 * math.log10(65025 * 120 / 29):.2f}, Cb {10 * math.log10(65025 * 48 / 9):.2f}, Cr inf, all {10 * math.log10(65025 * 216 / 38):.2f} dB",
+            (
+                f"PSNR Y {10 * math.log10(65025 * 120 / 29):.2f}, Cb {10 * math.log10(65025 * 48 / 9):.2f}, Cr inf, all"
+                f" {10 * math.log10(65025 * 216 / 38):.2f} dB"
+            ),
         ]
         self.assertSays(1, lines, self.one, self.changed((2, 6, 5), (2, 16, 3), (5, 0, -2)))
 
@@ -88,7 +96,10 @@ class Compare(Case):
             width, height, samples = stream.picture(0)
         path = self.room / "a.y4m"
         samples = bytearray(samples)
-        for place, where in ((70 * 175 + 100, "plane Y, column 100, row 70 (macroblock 6, 4)"), (175 * 143 + 30 * 88 + 50, "plane Cb, column 50, row 30 (macroblock 6, 3)")):
+        for place, where in (
+            (70 * 175 + 100, "plane Y, column 100, row 70 (macroblock 6, 4)"),
+            (175 * 143 + 30 * 88 + 50, "plane Cb, column 50, row 30 (macroblock 6, 3)"),
+        ):
             other = bytearray(samples)
             other[place] ^= 1
             path.write_bytes(b"YUV4MPEG2 W175 H143\n" + MARK + other)
@@ -136,7 +147,9 @@ class Compare(Case):
         for line, path, name, packet in zip(lines[2:], (one, other), "AB", (6, 7)):
             start = f"  {name}, packet {packet}: "
             self.assertTrue(line.startswith(start), line)
-            self.assertEqual(dict(words.split(" ", 1) for words in self.words(line[len(start) :])), self.listed(path, packet, *place))
+            self.assertEqual(
+                dict(words.split(" ", 1) for words in self.words(line[len(start) :])), self.listed(path, packet, *place)
+            )
         # A YUV4MPEG2 text has no records.
         status, out, _ = command("compare", one, "-", given=whole_text(other))
         self.assertEqual((status, out.decode().splitlines()[2:3]), (1, lines[2:3]))
@@ -148,11 +161,19 @@ class Compare(Case):
 
     def listed(self, path, packet, column, row):
         """The line of a macroblock as vp8list prints it, without its position and what it has not."""
-        lines = subprocess.run([programs.find("vp8list"), path, "--macroblocks", str(packet)], stdout=subprocess.PIPE, check=True).stdout.decode().splitlines()
+        lines = (
+            subprocess.run(
+                [programs.find("vp8list"), path, "--macroblocks", str(packet)], stdout=subprocess.PIPE, check=True
+            )
+            .stdout.decode()
+            .splitlines()
+        )
         names = lines[0].split("\t")
         rows = (dict(zip(names, line.split("\t"))) for line in lines[1:] if not line.startswith("#"))
         found = next(line for line in rows if (line["column"], line["row"]) == (str(column), str(row)))
-        return {name: value for name, value in found.items() if name not in ("packet", "column", "row") and value != "-"}
+        return {
+            name: value for name, value in found.items() if name not in ("packet", "column", "row") and value != "-"
+        }
 
     def test_without_vp8list(self):
         packets = packets_of(ODD)
@@ -169,10 +190,23 @@ class Compare(Case):
         self.assertSays(0, ["12 frames, all the same"], ODD, path)
         self.assertSays(0, ["12 frames, all the same"], path, "-", given=ODD.read_bytes())
         process = start("cat", ODD, stdout=subprocess.PIPE)
-        self.assertSays(0, ["12 frames, all the same"], ODD, f"/dev/fd/{process.stdout.fileno()}", pass_fds=[process.stdout.fileno()])
+        self.assertSays(
+            0,
+            ["12 frames, all the same"],
+            ODD,
+            f"/dev/fd/{process.stdout.fileno()}",
+            pass_fds=[process.stdout.fileno()],
+        )
         process.stdout.close()
         self.assertEqual(process.wait(5 * SLOW), 0)
-        self.assertSays(1, ["first difference: frame 11: only A has it", "A has 12 frames, B has 11", "0 of 11 frames differ"] + self.last_two(ODD, 11), ODD, "-", given=text[: text.rindex(MARK)])
+        self.assertSays(
+            1,
+            ["first difference: frame 11: only A has it", "A has 12 frames, B has 11", "0 of 11 frames differ"]
+            + self.last_two(ODD, 11),
+            ODD,
+            "-",
+            given=text[: text.rindex(MARK)],
+        )
 
     def last_two(self, path, count):
         samples = count * (175 * 143 + 2 * 88 * 72)
@@ -215,8 +249,8 @@ class Compare(Case):
             (text.replace(b"W5 ", b""), "no size"),
             (text.replace(MARK, b"FARCE\n", 1), "does not begin with FRAME"),
             (b"YUV4MPEG2 " + b"x" * 10000, "no end"),
-            (b"", "no IVF file"),
-            (b"text", "no IVF file"),
+            (b"", "neither an IVF file"),
+            (b"text", "neither an IVF file"),
             (b"DKIF" + bytes(100), "standard input: it is an IVF file of another codec than VP8"),
         ):
             status, out, errors = command("compare", self.one, "-", given=data)
@@ -226,8 +260,13 @@ class Compare(Case):
 
     def test_pictures(self):
         folder = self.room / "new" / "pictures of it"
-        status, _, errors = command("compare", self.one, self.changed((3, 0, 2), (3, 14, 100), (3, 17, 5), (6, 1, 1)), "--png", folder)
-        self.assertEqual((status, errors, sorted(os.listdir(folder))), (1, "", ["frame-3-a.png", "frame-3-b.png", "frame-3-difference.png"]))
+        status, _, errors = command(
+            "compare", self.one, self.changed((3, 0, 2), (3, 14, 100), (3, 17, 5), (6, 1, 1)), "--png", folder
+        )
+        self.assertEqual(
+            (status, errors, sorted(os.listdir(folder))),
+            (1, "", ["frame-3-a.png", "frame-3-b.png", "frame-3-difference.png"]),
+        )
         other = bytearray(self.pictures[3])
         other[0], other[14], other[17] = other[0] + 2, other[14] + 100, other[17] + 5
         for name, picture in (("a", self.pictures[3]), ("b", bytes(other))):
@@ -268,13 +307,20 @@ class Decoders(Case):
     def decoder(self, text):
         """A command with a space in its path, that has the frames of a stream and does something with them."""
         path = self.room.parent / "a decoder"
-        lines = ["#!/bin/sh", f"export PYTHONPATH='{TOP}/clients/python'", f'"{sys.executable}" -m wokureti cat "$1" "$2.y4m" --jobs 1 2> /dev/null', text]
+        lines = [
+            "#!/bin/sh",
+            f"export PYTHONPATH='{TOP}/clients/python'",
+            f'"{sys.executable}" -m wokureti cat "$1" "$2.y4m" --jobs 1 2> /dev/null',
+            text,
+        ]
         path.write_text("\n".join(lines) + "\n")
         path.chmod(0o755)
         return f"'{path}' {{in}} {{out}}"
 
     def run_it(self, text, *words):
-        status, out, errors = command("compare", "--decoder", self.decoder(text), self.room, "--junit", self.room.parent / "junit.xml", *words)
+        status, out, errors = command(
+            "compare", "--decoder", self.decoder(text), self.room, "--junit", self.room.parent / "junit.xml", *words
+        )
         self.assertEqual(errors, "")
         suite = xml.parse(self.room.parent / "junit.xml").getroot()
         failures = {case.get("name"): case.find("failure").text for case in suite if case.find("failure") is not None}
@@ -284,19 +330,30 @@ class Decoders(Case):
     def test_a_folder_of_streams(self):
         status, lines, failures = self.run_it('mv "$2.y4m" "$2"')
         names = ["broken.ivf", "more/odd.ivf", "scene-cuts.ivf", "still.ivf"]
-        self.assertEqual((status, lines, failures), (0, [*(f"{name}: same" for name in names), "4 of 4 streams are the same"], {}))
+        self.assertEqual(
+            (status, lines, failures), (0, [*(f"{name}: same" for name in names), "4 of 4 streams are the same"], {})
+        )
         # I420, as a decoder writes it that knows no Y4M; one stream by itself, and one process.
         raw = 'tail -n +2 "$2.y4m" | sed "s/^FRAME$//" > /dev/null; "$0.py" "$2.y4m" > "$2"'
-        (self.room.parent / "a decoder.py").write_text(f"#!{sys.executable}\nimport sys\nsys.path.insert(0, {str(TOP / 'clients/python')!r})\nfrom wokureti.tools import y4m\nfor frame in y4m.read_frames(open(sys.argv[1], 'rb')):\n    sys.stdout.buffer.write(frame[2])\n")
+        (self.room.parent / "a decoder.py").write_text(
+            f"#!{sys.executable}\nimport sys\nsys.path.insert(0, {str(TOP / 'clients/python')!r})\nfrom wokureti.media"
+            " import y4m\nfor frame in y4m.read_frames(open(sys.argv[1], 'rb')):\n   "
+            " sys.stdout.buffer.write(frame[2])\n"
+        )
         (self.room.parent / "a decoder.py").chmod(0o755)
         self.assertEqual(self.run_it(raw, "--jobs", "1")[0], 0)
 
     def test_what_differs(self):
-        change = 'if [ "$(basename "$1")" = still.ivf ]; then printf x | dd of="$2.y4m" bs=1 seek=200 conv=notrunc status=none; fi; mv "$2.y4m" "$2"'
+        change = (
+            'if [ "$(basename "$1")" = still.ivf ]; then printf x | dd of="$2.y4m" bs=1 seek=200 conv=notrunc'
+            ' status=none; fi; mv "$2.y4m" "$2"'
+        )
         status, lines, failures = self.run_it(change)
         self.assertEqual((status, list(failures), lines[-1]), (1, ["still.ivf"], "3 of 4 streams are the same"))
         self.assertIn("first difference: frame 0: plane Y", failures["still.ivf"])
-        status, lines, failures = self.run_it('case "$1" in *odd*) echo "no memory" >&2; exit 3;; esac; head -c 100 "$2.y4m" > "$2"')
+        status, lines, failures = self.run_it(
+            'case "$1" in *odd*) echo "no memory" >&2; exit 3;; esac; head -c 100 "$2.y4m" > "$2"'
+        )
         self.assertEqual((status, len(failures)), (1, 4))
         self.assertIn("no memory", failures["more/odd.ivf"])
 
@@ -306,13 +363,21 @@ class Decoders(Case):
         (self.room / "still.ivf").write_bytes(whole[:-7])
         for words, wanted, errors in (([], 2, 1), (["--anyway"], 0, 0)):
             status, lines, failures = self.run_it('mv "$2.y4m" "$2"', *words)
-            self.assertEqual((status, failures, lines[-1]), (wanted, {}, "4 of 4 streams are the same; 1 is damaged or ends in the middle"))
+            self.assertEqual(
+                (status, failures, lines[-1]),
+                (wanted, {}, "4 of 4 streams are the same; 1 is damaged or ends in the middle"),
+            )
             self.assertRegex(lines[-2], r"^still\.ivf: same; .*still\.ivf ends in the middle")
             suite = xml.parse(self.room.parent / "junit.xml").getroot()
-            found = {case.get("name"): case.find("error").get("message") for case in suite if case.find("error") is not None}
+            found = {
+                case.get("name"): case.find("error").get("message") for case in suite if case.find("error") is not None
+            }
             self.assertEqual((suite.get("errors"), len(found)), (str(errors), errors))
         # One that differs and one that is damaged: the damage is the status.
-        change = 'if [ "$(basename "$1")" = scene-cuts.ivf ]; then printf x | dd of="$2.y4m" bs=1 seek=200 conv=notrunc status=none; fi; mv "$2.y4m" "$2"'
+        change = (
+            'if [ "$(basename "$1")" = scene-cuts.ivf ]; then printf x | dd of="$2.y4m" bs=1 seek=200 conv=notrunc'
+            ' status=none; fi; mv "$2.y4m" "$2"'
+        )
         self.assertEqual([self.run_it(change, *words)[0] for words in ([], ["--anyway"])], [2, 1])
 
     def test_what_cannot_be_run(self):
@@ -349,7 +414,13 @@ class Png(Case):
     def test_what_is_refused(self):
         room = self.folder()
         path = write_packets(room / "a.ivf", packets_of(SMALL)[:2] + [BROKEN])
-        for words, text in (([path, 2, room / "x.png"], "refused packet 2 ShortPacket"), ([path, 3, room / "x.png"], "there is no frame 3: 3 frames are shown"), ([path, 0, path], "name another file"), ([path, 0, room / "none" / "x.png"], "No such file"), ([room, 0, room / "x.png"], "Is a directory")):
+        for words, text in (
+            ([path, 2, room / "x.png"], "refused packet 2 ShortPacket"),
+            ([path, 3, room / "x.png"], "there is no frame 3: 3 frames are shown"),
+            ([path, 0, path], "name another file"),
+            ([path, 0, room / "none" / "x.png"], "No such file"),
+            ([room, 0, room / "x.png"], "Is a directory"),
+        ):
             status, out, errors = command("png", *words)
             self.assertEqual((status, out, text in errors), (2, b"", True), errors)
         self.assertEqual(os.listdir(room), ["a.ivf"])
@@ -378,7 +449,13 @@ class Containers(Case):
 
     def run_it(self, *words):
         """The command, whose PATH has only what a test puts there."""
-        done = subprocess.run([sys.executable, "-m", "wokureti", *map(str, words)], env={**os.environ, **self.env}, capture_output=True, timeout=20 * SLOW, check=False)
+        done = subprocess.run(
+            [sys.executable, "-m", "wokureti", *map(str, words)],
+            env={**os.environ, **self.env},
+            capture_output=True,
+            timeout=20 * SLOW,
+            check=False,
+        )
         return done.returncode, done.stdout, done.stderr.decode()
 
     def test_packets_are_taken_out(self):
@@ -386,13 +463,24 @@ class Containers(Case):
         # The packets one after the other, and a line for each with its time.
         index = ivf.read_packets(SMALL)[1]
         (self.room / "data").write_bytes(b"".join(data for _, data in index))
-        (self.room / "times").write_text("".join(f"0, {33 * place}, {33 * place}, 33, {len(data)}, 0x0\n" for place, (_, data) in enumerate(index)))
+        (self.room / "times").write_text(
+            "".join(f"0, {33 * place}, {33 * place}, 33, {len(data)}, 0x0\n" for place, (_, data) in enumerate(index))
+        )
         taken = f"""case "$*" in *"-i file:{self.clip} "*"-c copy"*);; *) exit 1;; esac
-        while [ $# -gt 0 ]; do [ "$1" = data ] && cp {self.room}/data "$2"; [ "$1" = framecrc ] && cp {self.room}/times "$2"; shift; done; exit 0"""
+        while [ $# -gt 0 ]; do
+          [ "$1" = data ] && cp {self.room}/data "$2"
+          [ "$1" = framecrc ] && cp {self.room}/times "$2"
+          shift
+        done
+        exit 0"""
         self.tool("ffmpeg", taken)
         status, out, errors = self.run_it("cat", self.clip)
-        self.assertEqual((status, out), (0, b"YUV4MPEG2 W7 H5 F1000:33 Ip C420jpeg\n" + whole_text(SMALL).split(b"\n", 1)[1]))
-        self.assertIn("a clip.webm is a WebM or Matroska file; ffmpeg took its packets out without coding them again", errors)
+        self.assertEqual(
+            (status, out), (0, b"YUV4MPEG2 W7 H5 F1000:33 Ip C420jpeg\n" + whole_text(SMALL).split(b"\n", 1)[1])
+        )
+        self.assertIn(
+            "a clip.webm is a WebM or Matroska file; ffmpeg took its packets out without coding them again", errors
+        )
         self.assertEqual(self.run_it("png", self.clip, 3, "-")[0], 0)
         self.assertEqual(self.run_it("compare", self.clip, SMALL)[:2], (0, b"12 frames, all the same\n"))
         self.tool("ffmpeg", "echo no such codec >&2; exit 1")
@@ -405,11 +493,17 @@ class Containers(Case):
         self.assertEqual((status, out, "mkvextract" in errors), (0, whole_text(SMALL), True))
 
     def test_nothing_that_takes_them_out(self):
-        for head, kind in ((b"\x1a\x45\xdf\xa3", "WebM or Matroska"), (b"RIFF1234AVI ", "AVI"), (b"1234ftypisom", "MP4")):
+        for head, kind in (
+            (b"\x1a\x45\xdf\xa3", "WebM or Matroska"),
+            (b"RIFF1234AVI ", "AVI"),
+            (b"1234ftypisom", "MP4"),
+        ):
             self.clip.write_bytes(head + bytes(20))
             status, out, errors = self.run_it("cat", self.clip)
             self.assertEqual((status, out), (2, b""))
-            self.assertIn(f"is a {kind} file: to take its packets out, install python3-av, ffmpeg or mkvtoolnix", errors)
+            self.assertIn(
+                f"is a {kind} file: to take its packets out, install python3-av, ffmpeg or mkvtoolnix", errors
+            )
         self.assertEqual(self.run_it("cat", DATA / "still.ivf")[0], 0)
 
 

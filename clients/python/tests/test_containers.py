@@ -17,7 +17,11 @@ from array import array
 from unittest import mock
 
 from support import SLOW, SMALL, Case, command, packets_of, start, write_packets
-from wokureti.tools import blocks, containers, convert, ends, excerpts, exports, ivf, matroska, muxing, opus, paces, programs, progress, sounds, times
+from wokureti.errors import NoSound, NotIvf
+from wokureti.base import programs, progress
+from wokureti.media import blocks, containers, ends, excerpts, ivf, matroska, muxing, opus, sounds, times, webm
+from wokureti.session import convert
+from wokureti.tools import paces
 
 MS = 10**6
 HAS_FFMPEG = bool(shutil.which("ffmpeg") and shutil.which("ffprobe"))
@@ -38,7 +42,24 @@ def ffmpeg(*words):
 
 # What makes each clip, after a picture with a sound that rises.
 KINDS = {
-    "talk.webm": ["-c:a", "libopus", "-b:a", "64k", "-auto-alt-ref", "1", "-lag-in-frames", "12", "-arnr-maxframes", "5", "-metadata", "title=A talk", "-metadata:s:a:0", "language=eng", "-metadata:s:a:0", "title=Room"],
+    "talk.webm": [
+        "-c:a",
+        "libopus",
+        "-b:a",
+        "64k",
+        "-auto-alt-ref",
+        "1",
+        "-lag-in-frames",
+        "12",
+        "-arnr-maxframes",
+        "5",
+        "-metadata",
+        "title=A talk",
+        "-metadata:s:a:0",
+        "language=eng",
+        "-metadata:s:a:0",
+        "title=Room",
+    ],
     "long.webm": ["-c:a", "libopus", "-b:a", "32k", "-frame_duration", "60"],
     "vorbis.webm": ["-c:a", "libvorbis", "-b:a", "64k"],
     "two.mkv": ["-c:a", "libopus", "-b:a", "48k", "-map", "0:v", "-map", "1:a", "-map", "2:a", "-ac:a:1", "2"],
@@ -54,8 +75,25 @@ def clip(name):
     if not path.exists():
         start = ["-itsoffset", "0.5"] if name == "late.webm" else []
         pictures = [*start, "-f", "lavfi", "-i", "testsrc=size=96x64:rate=25:duration=4"]
-        sound = [word for pitch in (440, 880) for word in ("-f", "lavfi", "-i", f"aevalsrc=0.3*sin({pitch}*t*(1+t)):s=48000:d=4")]
-        words = [*pictures, *sound, "-c:v", "libvpx", "-threads", "1", "-g", "20", "-b:v", "150k", *([] if "two" in name else ["-map", "0:v", "-map", "1:a"]), *KINDS[name]]
+        sound = [
+            word
+            for pitch in (440, 880)
+            for word in ("-f", "lavfi", "-i", f"aevalsrc=0.3*sin({pitch}*t*(1+t)):s=48000:d=4")
+        ]
+        words = [
+            *pictures,
+            *sound,
+            "-c:v",
+            "libvpx",
+            "-threads",
+            "1",
+            "-g",
+            "20",
+            "-b:v",
+            "150k",
+            *([] if "two" in name else ["-map", "0:v", "-map", "1:a"]),
+            *KINDS[name],
+        ]
         # Hidden packets need two passes.
         for turn in (1, 2) if "-auto-alt-ref" in words else ():
             ffmpeg(*words, "-pass", turn, "-passlogfile", ROOM / "passes", path)
@@ -76,7 +114,21 @@ def sound_packets(track):
 
 def frames(path):
     """The MD5s of a file's frames, by ffmpeg."""
-    words = ["ffmpeg", "-nostdin", "-v", "error", "-i", path, "-map", "0:v", "-fps_mode", "passthrough", "-f", "framemd5", "-"]
+    words = [
+        "ffmpeg",
+        "-nostdin",
+        "-v",
+        "error",
+        "-i",
+        path,
+        "-map",
+        "0:v",
+        "-fps_mode",
+        "passthrough",
+        "-f",
+        "framemd5",
+        "-",
+    ]
     found = subprocess.run(list(map(str, words)), capture_output=True, text=True, check=True, timeout=60 * SLOW).stdout
     return [line.split(",")[-1].strip() for line in found.splitlines() if not line.startswith("#")]
 
@@ -95,7 +147,8 @@ class Durations(Case):
         self.assertEqual((list(stamps), end), ([0, 0, 40, 40, 70], 70))
 
     def test_new_stamps_of_two_rates(self):
-        # Three frames of 1/20 second and three of 1/7 in ticks of 1/30: 1.5, 3 and 4.5, and with these 4.5 + 4.29, rounded apart.
+        # Three frames of 1/20 second and three of 1/7 in ticks of 1/30: 1.5, 3 and 4.5, and with these 4.5 + 4.29,
+        # rounded apart.
         twenty, seven = (True, 1, (20, 1)), (True, 1, (7, 1))
         stamps, end = times.stamps_of([twenty] * 3 + [seven] * 3, (30, 1))
         self.assertEqual((list(stamps), end), ([0, 2, 3, 5, 9, 14], 18))
@@ -112,9 +165,25 @@ class Durations(Case):
 class Opus(Case):
     def test_durations(self):
         # RFC 6716, section 3.1: table 2, and the numbers of frames.
-        cases = {b"\x00": 10, b"\x18": 60, b"\x19": 120, b"\x60": 10, b"\x78": 20, b"\x80": 2.5, b"\xe8": 5, b"\xf8": 20, b"\xfa": 40, b"\xfb\x03": 60, b"\xfb": 0, b"": 0}
+        cases = {
+            b"\x00": 10,
+            b"\x18": 60,
+            b"\x19": 120,
+            b"\x60": 10,
+            b"\x78": 20,
+            b"\x80": 2.5,
+            b"\xe8": 5,
+            b"\xf8": 20,
+            b"\xfa": 40,
+            b"\xfb\x03": 60,
+            b"\xfb": 0,
+            b"": 0,
+        }
         self.assertEqual({data: opus.duration(data) / MS for data in cases}, cases)
-        self.assertEqual([opus.duration(opus.silence(int(length * MS), 2)[0]) / MS for length in (2.5, 5, 7, 20, 60)], [2.5, 5, 5, 20, 20])
+        self.assertEqual(
+            [opus.duration(opus.silence(int(length * MS), 2)[0]) / MS for length in (2.5, 5, 7, 20, 60)],
+            [2.5, 5, 5, 20, 20],
+        )
 
     def test_pre_skip(self):
         self.assertEqual(opus.pre_skip(b"OpusHead\x01\x02\x38\x01" + bytes(7)), 6_500_000)
@@ -129,7 +198,9 @@ class Opus(Case):
             track = matroska.sound(2, "opus", private, 48000, channels, 0)
             with open(room / "silent.mka", "wb") as file:
                 parts = {matroska.INFO: matroska.info("", 0), matroska.TRACKS: matroska.element(matroska.TRACKS, track)}
-                matroska.write(file, "matroska", parts, ((int(turn * length * MS), 2, True, data) for turn in range(50)))
+                matroska.write(
+                    file, "matroska", parts, ((int(turn * length * MS), 2, True, data) for turn in range(50))
+                )
             ffmpeg("-i", room / "silent.mka", "-f", "s16le", room / "samples")
             samples = array("h", (room / "samples").read_bytes())
             self.assertEqual((len(samples), set(samples)), (int(50 * length * 48) * channels, {0}))
@@ -145,7 +216,10 @@ class Elements(Case):
 
     def test_a_pipe_gets_a_file_without_an_index(self):
         read, write = os.pipe()
-        parts = {matroska.INFO: matroska.info("", 0), matroska.TRACKS: matroska.element(matroska.TRACKS, matroska.video(1, (16, 16), None))}
+        parts = {
+            matroska.INFO: matroska.info("", 0),
+            matroska.TRACKS: matroska.element(matroska.TRACKS, matroska.video(1, (16, 16), None)),
+        }
         with open(write, "wb") as file:
             matroska.write(file, "webm", parts, [(0, 1, True, b"a packet")])
         with open(read, "rb") as file:
@@ -158,7 +232,9 @@ class Elements(Case):
 class Joins(Case):
     """The choice of packets, of tracks that are made here."""
 
-    def track(self, length=20, count=500, start=-7, channels=1, private=b"OpusHead\x01\x01\x38\x01" + bytes(7), name="track"):
+    def track(
+        self, length=20, count=500, start=-7, channels=1, private=b"OpusHead\x01\x01\x38\x01" + bytes(7), name="track"
+    ):
         """A track of Opus packets of this many milliseconds, each with its number in it."""
         path = self.folder() / name
         place = {2.5: 0xE0, 5: 0xE8, 10: 0xF0, 20: 0xF8, 60: 0x18}[length]
@@ -167,7 +243,20 @@ class Joins(Case):
         starts, sizes = array("Q", range(0, 5 * count, 5)), array("I", [5] * count)
         # A file has milliseconds.
         found = array("q", (round(start + number * length) * MS for number in range(count)))
-        return containers.Sound("opus", private, 48000, channels, {}, "und", 1, str(path), starts, sizes, found, array("q", [int(length * MS)] * count))
+        return containers.Sound(
+            "opus",
+            private,
+            48000,
+            channels,
+            {},
+            "und",
+            1,
+            str(path),
+            starts,
+            sizes,
+            found,
+            array("q", [int(length * MS)] * count),
+        )
 
     def media(self, *tracks):
         return containers.Media("", (25, 1), {}, {}, "und", list(tracks), "")
@@ -208,11 +297,21 @@ class Joins(Case):
                 clock = end
             # No time is lost or added, however many joins there are.
             self.assertLessEqual(abs(packets[-1][0] + length * MS - clock), length * MS / 2)
-            self.assertEqual([after[0] - before[0] for before, after in zip(packets, packets[1:])], [length * MS] * (len(packets) - 1))
+            self.assertEqual(
+                [after[0] - before[0] for before, after in zip(packets, packets[1:])],
+                [length * MS] * (len(packets) - 1),
+            )
 
     def test_silence_where_there_is_no_sound(self):
         media, mute = self.media(self.track(count=100)), self.media()
-        _, packets = self.output([sounds.Span(media, 1900 * MS, 200 * MS), sounds.Span(mute, 0, 40 * MS), sounds.Span(None, 0, 60 * MS), sounds.Span(media, 0, 20 * MS)])
+        _, packets = self.output(
+            [
+                sounds.Span(media, 1900 * MS, 200 * MS),
+                sounds.Span(mute, 0, 40 * MS),
+                sounds.Span(None, 0, 60 * MS),
+                sounds.Span(media, 0, 20 * MS),
+            ]
+        )
         self.assertEqual(self.numbers(packets), [95, 96, 97, 98, 99, *[None] * 10, 0])
         self.assertEqual(len(packets) * 20, 320)
 
@@ -225,7 +324,14 @@ class Joins(Case):
 
     def test_spans_that_follow_each_other_are_one(self):
         media, other = self.media(), self.media()
-        spans = [sounds.Span(media, 0, 33), sounds.Span(media, 33, 34), sounds.Span(other, 67, 33), sounds.Span(other, 90, 0), sounds.Span(None, 0, 5), sounds.Span(None, 0, 6)]
+        spans = [
+            sounds.Span(media, 0, 33),
+            sounds.Span(media, 33, 34),
+            sounds.Span(other, 67, 33),
+            sounds.Span(other, 90, 0),
+            sounds.Span(None, 0, 5),
+            sounds.Span(None, 0, 6),
+        ]
         self.assertEqual([(span.start, span.length) for span in sounds.joined(spans)], [(0, 67), (67, 33), (0, 11)])
 
     def test_tracks_that_cannot_be_copied(self):
@@ -236,12 +342,16 @@ class Joins(Case):
             ([(one, 0), (other, 0)], ".webm", "different codecs, headers, rates or channels"),
             ([(vorbis, 0), (vorbis, 2 * half)], ".webm", "needs the one before it"),
             ([(one._replace(codec="mp3"), 0)], ".webm", "mp3 cannot be copied to .webm"),
-            ([(one._replace(private=one.private[:18] + b"\x01\x02\x01"), 0), (None, 0)], ".mkv", "more than two channels"),
+            (
+                [(one._replace(private=one.private[:18] + b"\x01\x02\x01"), 0), (None, 0)],
+                ".mkv",
+                "more than two channels",
+            ),
         ]
         for parts, ending, why in cases:
             known = {id(track): self.media(*([track] if track else [])) for track, _ in parts}
             spans = [sounds.Span(known[id(track)], start, half) for track, start in parts]
-            with self.assertRaisesRegex(sounds.Cannot, f"sound track 0 cannot be copied: .*{why}.*--sound encode"):
+            with self.assertRaisesRegex(NoSound, f"sound track 0 cannot be copied: .*{why}.*--sound encode"):
                 self.output(spans, ending)
             self.assertEqual(sounds.outputs(spans, ending, "none", self.fail, None), [])
         _, packets = self.output([sounds.Span(self.media(vorbis), half, half)])
@@ -249,7 +359,9 @@ class Joins(Case):
 
     def test_without_ffmpeg_nothing_is_coded_again(self):
         media = self.media(self.track())
-        with mock.patch.object(shutil, "which", return_value=None), self.assertRaisesRegex(sounds.Cannot, "install ffmpeg, or leave it out with --sound none"):
+        with mock.patch.object(shutil, "which", return_value=None), self.assertRaisesRegex(
+            NoSound, "install ffmpeg, or leave it out with --sound none"
+        ):
             sounds.outputs([sounds.Span(media, 0, 20 * MS)], ".webm", "encode", self.fail, self.folder())
 
 
@@ -307,7 +419,14 @@ class Spans(Case):
         stamps = (0, 10, 20, 40, 60)
         path.write_bytes(b"".join(ivf.pieces(ivf.Head(7, 5, 1000, 1), 5, list(zip(stamps, packets_of(SMALL))))))
         contents = self.contents("hold 5", stream=path)
-        self.assertEqual((list(contents.stamps(0, contents.streams[0])[0]), contents.stamps(0, contents.streams[0])[1], contents.rate), ([0, 10, 20, 40, 60, 70], 80, (100, 1)))
+        self.assertEqual(
+            (
+                list(contents.stamps(0, contents.streams[0])[0]),
+                contents.stamps(0, contents.streams[0])[1],
+                contents.rate,
+            ),
+            ([0, 10, 20, 40, 60, 70], 80, (100, 1)),
+        )
 
 
 @needs_ffmpeg
@@ -316,19 +435,46 @@ class Reading(Case):
 
     def test_a_webm_file(self):
         found, path = media(clip("talk.webm"), self.folder())
-        self.assertEqual((found.rate, found.tags, found.sounds[0].language, found.sounds[0].tags), ((25, 1), {"title": "A talk"}, "eng", {"title": "Room"}))
+        self.assertEqual(
+            (found.rate, found.tags, found.sounds[0].language, found.sounds[0].tags),
+            ((25, 1), {"title": "A talk"}, "eng", {"title": "Room"}),
+        )
         [track] = found.sounds
         self.assertEqual((track.codec, track.rate, track.channels, track.private[:8]), ("opus", 48000, 1, b"OpusHead"))
         self.assertEqual({opus.duration(data) for data in sound_packets(track)}, {20 * MS})
         ffmpeg("-i", clip("talk.webm"), "-c", "copy", "-copyts", "-an", f"{path}.other.ivf")
         self.assertEqual(packets_of(path), packets_of(f"{path}.other.ivf"))
         # Each packet has the time of its block; a hidden one that of the next one here.
-        done = subprocess.run(["ffprobe", "-v", "error", "-select_streams", "v", "-show_entries", "packet=pts", "-of", "csv=p=0", clip("talk.webm")], capture_output=True, text=True, check=True)
-        self.assertEqual([stamp for stamp, _ in ivf.read_packets(path)[1]], list(map(int, done.stdout.replace(",", " ").split())))
+        done = subprocess.run(
+            [
+                "ffprobe",
+                "-v",
+                "error",
+                "-select_streams",
+                "v",
+                "-show_entries",
+                "packet=pts",
+                "-of",
+                "csv=p=0",
+                clip("talk.webm"),
+            ],
+            capture_output=True,
+            text=True,
+            check=True,
+        )
+        self.assertEqual(
+            [stamp for stamp, _ in ivf.read_packets(path)[1]], list(map(int, done.stdout.replace(",", " ").split()))
+        )
 
     def test_rates(self):
         room = self.folder()
-        self.assertEqual({name: media(clip(name), room)[0].rate for name in ("talk.webm", "late.webm", "varied.webm", "silent.webm")}, dict.fromkeys(("talk.webm", "late.webm", "varied.webm", "silent.webm"), (25, 1)))
+        self.assertEqual(
+            {
+                name: media(clip(name), room)[0].rate
+                for name in ("talk.webm", "late.webm", "varied.webm", "silent.webm")
+            },
+            dict.fromkeys(("talk.webm", "late.webm", "varied.webm", "silent.webm"), (25, 1)),
+        )
         # A rate that the time stamps do not have.
         self.assertEqual(containers.rate_of(media(clip("talk.webm"), room)[1], (1000, 1)), (25, 1))
         self.assertEqual([len(media(clip(name), room)[0].sounds) for name in ("two.mkv", "silent.webm")], [2, 0])
@@ -340,7 +486,11 @@ class Reading(Case):
             one, path = media(clip(name), room)
             two = containers.read_by_av(clip(name), f"{path}.av")
             self.assertEqual(ivf.read_packets(path), ivf.read_packets(f"{path}.av"), name)
-            self.assertEqual([(*track[:7], track.times, track.sizes, sound_packets(track)) for track in one.sounds], [(*track[:7], track.times, track.sizes, sound_packets(track)) for track in two.sounds], name)
+            self.assertEqual(
+                [(*track[:7], track.times, track.sizes, sound_packets(track)) for track in one.sounds],
+                [(*track[:7], track.times, track.sizes, sound_packets(track)) for track in two.sounds],
+                name,
+            )
             self.assertEqual(one[1:5], two[1:5])
 
     def test_the_header_counts_the_packets(self):
@@ -348,7 +498,13 @@ class Reading(Case):
             out = self.folder() / "read.ivf"
             read(clip("silent.webm"), out)
             self.assertEqual(int.from_bytes(out.read_bytes()[24:28], "little"), len(packets_of(out)), read)
-            done = subprocess.run([programs.find("vp8list"), out, "--check"], capture_output=True, text=True, timeout=20 * SLOW, check=False)
+            done = subprocess.run(
+                [programs.find("vp8list"), out, "--check"],
+                capture_output=True,
+                text=True,
+                timeout=20 * SLOW,
+                check=False,
+            )
             self.assertNotIn("note: header", done.stdout)
             # This ffmpeg may write the right number itself; others write 30000.
             text = out.read_bytes()
@@ -369,7 +525,6 @@ class Reading(Case):
         _, text, _ = command("cat", clip("talk.webm"))
         self.assertEqual(text.split(b"\n", 1)[0], b"YUV4MPEG2 W96 H64 F25:1 Ip C420jpeg")
 
-    @unittest.skipUnless(exports.has_option(programs.find("vp8serve"), "--export"), "this vp8serve has no --export")
     def test_an_ivf_file_of_a_webm_file_has_its_rate(self):
         """Its time base is that of the file, milliseconds: each command has the rate of its time stamps."""
         room = self.folder()
@@ -380,7 +535,23 @@ class Reading(Case):
         self.assertEqual(times.base_of(head), (1000, 1))
         self.assertEqual(command("cat", out)[1].split(b"\n", 1)[0], b"YUV4MPEG2 W96 H64 F25:1 Ip C420jpeg")
         status, _, _ = command("cut", out, room / "again.webm", "--from", "f3")
-        done = subprocess.run(["ffprobe", "-v", "error", "-select_streams", "v", "-show_entries", "stream=r_frame_rate", "-of", "csv=p=0", room / "again.webm"], capture_output=True, text=True, check=True)
+        done = subprocess.run(
+            [
+                "ffprobe",
+                "-v",
+                "error",
+                "-select_streams",
+                "v",
+                "-show_entries",
+                "stream=r_frame_rate",
+                "-of",
+                "csv=p=0",
+                room / "again.webm",
+            ],
+            capture_output=True,
+            text=True,
+            check=True,
+        )
         self.assertEqual((status, done.stdout.strip()), (0, "25/1"))
 
 
@@ -400,7 +571,7 @@ class ByTheCore(Case):
 
     def as_ivf(self, path):
         """The packets, what else is known, and what is said."""
-        with mock.patch("wokureti.tools.convert.say") as say:
+        with mock.patch("wokureti.session.convert.say") as say:
             out = convert.as_ivf(path, str(self.folder()))
         return pathlib.Path(out).read_bytes(), containers.media_of(out), [call.args[0] for call in say.call_args_list]
 
@@ -408,18 +579,33 @@ class ByTheCore(Case):
         path, room = clip("talk.webm"), self.folder()
         by_ffmpeg, _ = media(path, room)
         (room / "mine.ivf").write_bytes(SMALL.read_bytes())
-        with self.program(f'case "$1" in --help) echo "the IVF or WebM file";; *) [ "$#" = 5 ] && [ "$4" = --save ] && cp {room}/mine.ivf "$5";; esac'):
+        with self.program(
+            'case "$1" in --help) echo "the IVF or WebM file";; *) [ "$#" = 5 ] && [ "$4" = --save ] && cp'
+            f' {room}/mine.ivf "$5";; esac'
+        ):
             data, found, said = self.as_ivf(path)
         self.assertEqual(data, SMALL.read_bytes())
-        self.assertEqual(said, [f"{path} is a WebM or Matroska file; vp8serve took its packets out without coding them again, and 1 track of sound"])
+        self.assertEqual(
+            said,
+            [
+                f"{path} is a WebM or Matroska file; vp8serve took its packets out without coding them again, and 1"
+                " track of sound"
+            ],
+        )
         self.assertEqual((found.tags, found.video_tags, found.language), by_ffmpeg[2:5])
-        self.assertEqual([(*track[:7], track.times, track.durations, sound_packets(track)) for track in found.sounds], [(*track[:7], track.times, track.durations, sound_packets(track)) for track in by_ffmpeg.sounds])
+        self.assertEqual(
+            [(*track[:7], track.times, track.durations, sound_packets(track)) for track in found.sounds],
+            [(*track[:7], track.times, track.durations, sound_packets(track)) for track in by_ffmpeg.sounds],
+        )
 
     def test_one_that_does_not_read_it(self):
         """An earlier one, and one that refuses the file: then ffmpeg reads it, or says why it cannot."""
         path = clip("talk.webm")
         _, wanted = media(path, self.folder())
-        for text in ('[ "$1" = --help ] && echo "the IVF file"', 'case "$1" in --help) echo "the IVF or WebM file";; *) echo "vp8serve: input NoVideo" >&2; exit 1;; esac'):
+        for text in (
+            '[ "$1" = --help ] && echo "the IVF file"',
+            'case "$1" in --help) echo "the IVF or WebM file";; *) echo "vp8serve: input NoVideo" >&2; exit 1;; esac',
+        ):
             with self.program(text):
                 data, _, said = self.as_ivf(path)
             self.assertEqual(data, pathlib.Path(wanted).read_bytes())
@@ -433,7 +619,9 @@ class ByTheCore(Case):
             data, found, said = self.as_ivf(clip(name))
             self.assertEqual(data, pathlib.Path(out).read_bytes(), name)
             self.assertIn("; vp8serve took its packets out", said[0])
-            self.assertEqual((found.rate, *found[2:5], len(found.sounds)), (wanted.rate, *wanted[2:5], len(wanted.sounds)), name)
+            self.assertEqual(
+                (found.rate, *found[2:5], len(found.sounds)), (wanted.rate, *wanted[2:5], len(wanted.sounds)), name
+            )
 
 
 class HowFar(Case):
@@ -456,13 +644,36 @@ class HowFar(Case):
             if not (containers.has_av() if name == "av" else shutil.which(name)):
                 continue
             heard = []
-            watch = mock.Mock(**{"stage.side_effect": lambda text: heard.append((text, [])), "part.side_effect": lambda *given: heard[-1][1].append(given)})
-            looks = (mock.patch.object(containers, "MANY", 1), mock.patch.object(containers, "PIECE", 100), mock.patch.object(blocks, "MANY", 1))
-            with self.subTest(name), mock.patch.dict(os.environ, self.slow("ffmpeg", "mkvextract") if name != "av" else {}), looks[0], looks[1], looks[2]:
-                with mock.patch.object(containers, "read_by_core", return_value=False), mock.patch.object(containers, "has_av", return_value=name == "av"), mock.patch.object(containers, "can_read", return_value=name != "mkvextract"):
+            watch = mock.Mock(
+                **{
+                    "stage.side_effect": lambda text: heard.append((text, [])),
+                    "part.side_effect": lambda *given: heard[-1][1].append(given),
+                }
+            )
+            looks = (
+                mock.patch.object(containers, "MANY", 1),
+                mock.patch.object(containers, "PIECE", 100),
+                mock.patch.object(blocks, "MANY", 1),
+            )
+            with (
+                self.subTest(name),
+                mock.patch.dict(os.environ, self.slow("ffmpeg", "mkvextract") if name != "av" else {}),
+                looks[0],
+                looks[1],
+                looks[2],
+            ):
+                with (
+                    mock.patch.object(containers, "read_by_core", return_value=False),
+                    mock.patch.object(containers, "has_av", return_value=name == "av"),
+                    mock.patch.object(containers, "can_read", return_value=name != "mkvextract"),
+                ):
                     out = convert.as_ivf(path, str(self.folder()), is_quiet=True, watch=watch)
                 self.assertEqual(len(packets_of(out)), len(packets_of(media(path, self.folder())[1])))
-                stages = ["taking the packets out of", *(["listing the packets of", "copying the packets of"] if name == "ffmpeg" else []), "looking for damage of"]
+                stages = [
+                    "taking the packets out of",
+                    *(["listing the packets of", "copying the packets of"] if name == "ffmpeg" else []),
+                    "looking for damage of",
+                ]
                 self.assertEqual([text for text, _ in heard], [f"{text} {path}" for text in stages])
                 for text, parts in heard:
                     # Of the file, of the list of each of its two tracks, and of the packets of the video.
@@ -478,7 +689,11 @@ class HowFar(Case):
         room = self.folder()
         path = room / "talk.avi"
         ffmpeg("-i", clip("talk.webm"), "-an", "-c", "copy", path)
-        for words in (("cut", path, room / "out.ivf", "--from", "f2"), ("cat", path, "/dev/null"), ("repair", path, room / "repaired.ivf")):
+        for words in (
+            ("cut", path, room / "out.ivf", "--from", "f2"),
+            ("cat", path, "/dev/null"),
+            ("repair", path, room / "repaired.ivf"),
+        ):
             ours, theirs = pty.openpty()
             process = start(*words, stdout=subprocess.DEVNULL, stderr=theirs, env=self.slow("ffmpeg"))
             os.close(theirs)
@@ -496,14 +711,25 @@ class HowFar(Case):
         """Each step of it has per cent, once it takes a second."""
         room, said = self.folder(), io.StringIO()
         watch = progress.Stages()
-        with mock.patch.object(progress, "TICK", 0.01), mock.patch.object(progress, "SOON", 0), mock.patch.object(sys, "stderr", mock.Mock(wraps=said, isatty=lambda: True)), watch:
+        with (
+            mock.patch.object(progress, "TICK", 0.01),
+            mock.patch.object(progress, "SOON", 0),
+            mock.patch.object(sys, "stderr", mock.Mock(wraps=said, isatty=lambda: True)),
+            watch,
+        ):
             real = watch.part
 
             def slow(done, total):
                 real(done, total)
                 time.sleep(0.03)
 
-            with mock.patch.object(containers, "read_by_core", return_value=False), mock.patch.object(watch, "part", slow), mock.patch.object(containers, "PIECE", 1000), mock.patch.object(containers, "MANY", 20), mock.patch.object(blocks, "MANY", 50):
+            with (
+                mock.patch.object(containers, "read_by_core", return_value=False),
+                mock.patch.object(watch, "part", slow),
+                mock.patch.object(containers, "PIECE", 1000),
+                mock.patch.object(containers, "MANY", 20),
+                mock.patch.object(blocks, "MANY", 50),
+            ):
                 convert.as_ivf(clip("talk.webm"), str(room), is_quiet=True, watch=watch)
             with mock.patch.object(watch, "part", slow), mock.patch.object(blocks, "MANY", 50):
                 watch.stage("searching")
@@ -576,7 +802,10 @@ class Writing(Case):
             after, path, out = self.edited(name, f"out{pathlib.Path(name).suffix}", sound="copy")
             self.assertEqual(packets_of(path), packets_of(packets), name)
             self.assertEqual(frames(out), frames(clip(name)))
-            self.assertEqual((after.rate, after.tags.get("title"), len(after.sounds)), (before.rate, before.tags.get("title"), len(before.sounds)))
+            self.assertEqual(
+                (after.rate, after.tags.get("title"), len(after.sounds)),
+                (before.rate, before.tags.get("title"), len(before.sounds)),
+            )
             starts = [ivf.read_packets(one)[1][0][0] for one in (path, packets)]
             for one, other in zip(before.sounds, after.sounds):
                 # All but what is after the picture, and as long after it as it was: to a packet's half, for Opus.
@@ -585,7 +814,9 @@ class Writing(Case):
                 self.assertEqual(theirs, ours[first : first + len(theirs)])
                 self.assertLessEqual(abs(len(theirs) - len(ours)), 2, name)
                 length = max(one.durations) / MS
-                self.assertLessEqual(abs((other.times[3] - one.times[first + 3]) / MS - (starts[0] - starts[1])), length / 2 + 1.5, name)
+                self.assertLessEqual(
+                    abs((other.times[3] - one.times[first + 3]) / MS - (starts[0] - starts[1])), length / 2 + 1.5, name
+                )
                 self.assertEqual((one[:4], one.tags, one.language), (other[:4], other.tags, other.language))
 
     def test_a_cut_takes_its_sound(self):
@@ -633,9 +864,11 @@ class Writing(Case):
 
     def test_vorbis_with_a_join(self):
         lines = ["delete 0"] * 20 + ["move 20 0"] * 20
-        with self.assertRaisesRegex(ValueError, "sound track 0 cannot be copied: a packet of vorbis needs the one before it"):
+        with self.assertRaisesRegex(
+            ValueError, "sound track 0 cannot be copied: a packet of vorbis needs the one before it"
+        ):
             self.edited("vorbis.webm", "out.webm", *lines, sound="copy")
-        with mock.patch("wokureti.tools.progress.print") as said:
+        with mock.patch("wokureti.base.progress.print") as said:
             found, path, _ = self.edited("vorbis.webm", "out.webm", *lines)
         self.assertIn("sound track 0 is coded again as Opus: a packet of vorbis needs", said.call_args[0][0])
         self.assertEqual((found.sounds[0].codec, len(found.sounds)), ("opus", 1))
@@ -650,7 +883,10 @@ class Writing(Case):
             ffmpeg("-i", path, "-ar", "8000", "-ac", "1", "-f", "s16le", room / path.name)
         one, other = (array("h", (room / path.name).read_bytes()) for path in (clip("talk.webm"), out))
         at = 8000
-        errors = {shift: sum(abs(one[at + shift + place] - other[at + place]) for place in range(4000)) for shift in range(-40, 200, 4)}
+        errors = {
+            shift: sum(abs(one[at + shift + place] - other[at + place]) for place in range(4000))
+            for shift in range(-40, 200, 4)
+        }
         best = min(errors, key=errors.get)
         self.assertLess(errors[best], 0.2 * sum(abs(one[at + place]) for place in range(4000)))
         # Both begin with the picture: to 8 ms, since ffmpeg shows the clip's first frame 7 ms after the sound.
@@ -678,13 +914,32 @@ class Writing(Case):
         out = room / "out.webm"
         out.write_text("before")
         with self.session(clip("talk.webm")) as session:
-            with mock.patch.object(matroska, "cue", side_effect=OSError(28, "No space left on device")), self.assertRaises(OSError):
+            with mock.patch.object(
+                matroska, "cue", side_effect=OSError(28, "No space left on device")
+            ), self.assertRaises(OSError):
                 session.save(out)
-            with mock.patch.object(sounds, "read_packet", side_effect=KeyboardInterrupt), self.assertRaises(KeyboardInterrupt):
+            with mock.patch.object(sounds, "read_packet", side_effect=KeyboardInterrupt), self.assertRaises(
+                KeyboardInterrupt
+            ):
                 session.save(out)
             self.assertEqual((out.read_text(), os.listdir(room)), ("before", ["out.webm"]))
             with self.assertRaisesRegex(ValueError, "is a file of the session"):
                 session.save(clip("talk.webm"))
+
+    def test_two_saves_are_equal(self):
+        room = self.folder()
+        with self.session(clip("talk.webm")) as session:
+            session.delete(90)
+            session.save(room / "one.webm")
+            # A date in the file, in seconds, would be another one.
+            time.sleep(1.1)
+            session.save(room / "two.webm")
+        self.assertEqual((room / "one.webm").read_bytes(), (room / "two.webm").read_bytes())
+        with open(room / "one.webm", "rb") as file:
+            told = webm.first(webm.parts_of(file.fileno())[blocks.INFO])
+        # Muxing and writing application, SegmentUID and date.
+        names = (0x4D80, 0x5741, 0x73A4, 0x4461)
+        self.assertEqual([told.get(name) for name in names], [b"wokureti", b"wokureti", None, None])
 
     def test_what_the_program_saves_is_ivf(self):
         with self.assertRaisesRegex(ValueError, "out.webm' is written by session.save"):
@@ -696,7 +951,13 @@ class Writing(Case):
             session.save(room / "out.webm")
         found, path = media(room / "out.webm", room)
         self.assertEqual((packets_of(path), found.rate, found.sounds), (packets_of(SMALL), (30, 1), []))
-        info = json.loads(subprocess.run(["ffprobe", "-v", "error", "-of", "json", "-show_format", room / "out.webm"], capture_output=True, check=True).stdout)
+        info = json.loads(
+            subprocess.run(
+                ["ffprobe", "-v", "error", "-of", "json", "-show_format", room / "out.webm"],
+                capture_output=True,
+                check=True,
+            ).stdout
+        )
         self.assertAlmostEqual(float(info["format"]["duration"]), 0.4, delta=0.002)
 
     @unittest.skipUnless(shutil.which("mkvinfo"), "mkvinfo is not here")
@@ -704,9 +965,15 @@ class Writing(Case):
         room = self.folder()
         _, _, out = self.edited("two.mkv", "out.mkv")
         done = subprocess.run(["mkvinfo", "--all", out], capture_output=True, text=True, check=True, timeout=20 * SLOW)
-        for line in ("Cue time: 00:00:00.800000000", "Default duration: 00:00:00.040000000", "Seek pre-roll: 00:00:00.080000000"):
+        for line in (
+            "Cue time: 00:00:00.800000000",
+            "Default duration: 00:00:00.040000000",
+            "Seek pre-roll: 00:00:00.080000000",
+        ):
             self.assertIn(line, done.stdout)
-        done = subprocess.run(["mkvmerge", "-o", room / "again.mkv", out], capture_output=True, text=True, check=False, timeout=20 * SLOW)
+        done = subprocess.run(
+            ["mkvmerge", "-o", room / "again.mkv", out], capture_output=True, text=True, check=False, timeout=20 * SLOW
+        )
         self.assertEqual((done.returncode, "Warning" in done.stdout), (0, False))
 
 
@@ -717,7 +984,10 @@ class Blocks(Case):
         """A file of pictures of 40 ms and sound of 20 ms, in clusters, and its blocks."""
         pictures = [(40 * MS * turn, 1, data[0] & 1 == 0, data) for turn, data in enumerate(packets_of(SMALL) * 10)]
         sound = [(20 * MS * turn, 2, True, bytes([0xF8]) + turn.to_bytes(60, "big")) for turn in range(240)]
-        entries = [matroska.video(1, (7, 5), 40 * MS), matroska.sound(2, "opus", b"OpusHead\x01\x01\x38\x01" + bytes(9), 48000, 1, 6_500_000, "fre", "Room")]
+        entries = [
+            matroska.video(1, (7, 5), 40 * MS),
+            matroska.sound(2, "opus", b"OpusHead\x01\x01\x38\x01" + bytes(9), 48000, 1, 6_500_000, "fre", "Room"),
+        ]
         parts = {matroska.INFO: matroska.info("", 0), matroska.TRACKS: matroska.element(matroska.TRACKS, *entries)}
         out = self.folder() / "file"
         made = sorted(pictures + sound, key=lambda block: block[0])
@@ -733,7 +1003,13 @@ class Blocks(Case):
         data, made = self.file()
         found, rest = self.found(data)
         self.assertEqual((found, rest.gaps), (made, []))
-        self.assertEqual({number: (entry.codec, entry.language, entry.title, entry.delay, entry.rate) for number, entry in rest.tracks.items()}, {1: ("vp8", "und", "", 0, 0 or 48000), 2: ("opus", "fre", "Room", 6_500_000, 48000)})
+        self.assertEqual(
+            {
+                number: (entry.codec, entry.language, entry.title, entry.delay, entry.rate)
+                for number, entry in rest.tracks.items()
+            },
+            {1: ("vp8", "und", "", 0, 0 or 48000), 2: ("opus", "fre", "Room", 6_500_000, 48000)},
+        )
 
     def test_zeroed_sectors(self):
         dice = random.Random(7)
@@ -745,14 +1021,23 @@ class Blocks(Case):
             for at in hit:
                 data[at : at + 300] = bytes(300)
             found, rest = self.found(bytes(data))
-            # What was hit by no sector is found, but for the block before a gap, whose end leads nowhere. Where the time of a cluster was hit, it
-            # is that of the blocks before, which may have been hit too.
+            # What was hit by no sector is found, but for the block before a gap, whose end leads nowhere. Where the
+            # time of a cluster was hit, it is that of the blocks before, which may have been hit too.
             times = {(track, data): time for track, time, data in made if track == 2}
             sound = [block for block in found if block[0] == 2 and bytes(60) not in block[2]]
             self.assertTrue(rest.gaps)
             self.assertLessEqual(len(made) - len(found), 3 * 9, (turn, hit))
-            self.assertEqual([block for block in sound if abs(times[block[0], block[2]] - block[1]) > 120], [], (turn, hit))
-            self.assertEqual([data for number, _, data in found if number == 1 and bytes(20) not in data and data not in packets_of(SMALL)], [])
+            self.assertEqual(
+                [block for block in sound if abs(times[block[0], block[2]] - block[1]) > 120], [], (turn, hit)
+            )
+            self.assertEqual(
+                [
+                    data
+                    for number, _, data in found
+                    if number == 1 and bytes(20) not in data and data not in packets_of(SMALL)
+                ],
+                [],
+            )
 
     def test_another_time_scale(self):
         data, made = self.file()
@@ -765,17 +1050,37 @@ class Blocks(Case):
     def test_files_of_other_programs_are_whole(self):
         room = self.folder()
         for name in ("talk.webm", "vorbis.webm", "two.mkv"):
-            ffmpeg("-i", clip(name), "-map", "0", "-c", "copy", "-f", "matroska", "-cluster_time_limit", "500", "-live", "1", room / "live.mkv")
+            ffmpeg(
+                "-i",
+                clip(name),
+                "-map",
+                "0",
+                "-c",
+                "copy",
+                "-f",
+                "matroska",
+                "-cluster_time_limit",
+                "500",
+                "-live",
+                "1",
+                room / "live.mkv",
+            )
             subprocess.run(["mkvmerge", "-q", "-o", room / "merged.mkv", clip(name)], check=True, timeout=20 * SLOW)
             # Blocks with several packets: mkvmerge makes them of sound that is not in a WebM file.
             ffmpeg("-i", clip(name), "-c:v", "copy", "-c:a", "ac3", room / "other.mkv")
-            subprocess.run(["mkvmerge", "-q", "-o", room / "laced.mkv", room / "other.mkv"], check=True, timeout=20 * SLOW)
+            subprocess.run(
+                ["mkvmerge", "-q", "-o", room / "laced.mkv", room / "other.mkv"], check=True, timeout=20 * SLOW
+            )
             wanted = packets_of(media(clip(name), room)[1])
             for path in (clip(name), room / "live.mkv", room / "merged.mkv", room / "laced.mkv"):
                 found = blocks.find(path.read_bytes())
                 track = blocks.video_track(found)
                 self.assertIsNone(blocks.damage(path.read_bytes()), path.name)
-                self.assertEqual((found.gaps, [block.data for block in found.blocks if block.track == track]), ([], wanted), path.name)
+                self.assertEqual(
+                    (found.gaps, [block.data for block in found.blocks if block.track == track]),
+                    ([], wanted),
+                    path.name,
+                )
 
     def test_a_file_that_ends_in_the_middle_is_damaged(self):
         data, _ = self.file()
@@ -815,15 +1120,26 @@ class Blocks(Case):
         self.assertEqual((found, rest.tracks, blocks.video_track(rest)), (made, {}, 1))
         room = self.folder()
         head, packets, gaps = blocks.as_file(rest, "", str(room / "out.ivf"))
-        self.assertEqual((head[:2], [packet.data for packet in packets]), ((7, 5), [data for number, _, data in made if number == 1]))
+        self.assertEqual(
+            (head[:2], [packet.data for packet in packets]), ((7, 5), [data for number, _, data in made if number == 1])
+        )
         self.assertEqual([gap.after for gap in gaps], [0])
         [track] = containers.media_of(room / "out.ivf").sounds
-        self.assertEqual((track.codec, track.channels, sound_packets(track)), ("opus", 1, [data for number, _, data in made if number == 2]))
+        self.assertEqual(
+            (track.codec, track.channels, sound_packets(track)),
+            ("opus", 1, [data for number, _, data in made if number == 2]),
+        )
 
     def test_numbers_that_damage_made_great(self):
         """The time of a cluster, the rate, the channels and the delay of sound."""
         data, made = self.file()
-        for mark, value in (("e788", b"\xff" * 8), ("b588", b"\x7f\xf0" + bytes(6)), ("b588", b"\x7f\xf8" + bytes(6)), ("9f88", b"\xff" * 8), ("56aa88", b"\xff" * 8)):
+        for mark, value in (
+            ("e788", b"\xff" * 8),
+            ("b588", b"\x7f\xf0" + bytes(6)),
+            ("b588", b"\x7f\xf8" + bytes(6)),
+            ("9f88", b"\xff" * 8),
+            ("56aa88", b"\xff" * 8),
+        ):
             place = data.index(bytes.fromhex(mark)) + len(mark) // 2
             found = blocks.find(data[:place] + value + data[place + 8 :])
             _, packets, _ = blocks.as_file(found, "", str(self.folder() / "out.ivf"))
@@ -833,7 +1149,7 @@ class Blocks(Case):
         for data in (b"", b"\xa3", random.Random(1).randbytes(20000), bytes(20000), b"\xa3\x84\x81\x00\x00" * 40):
             blocks.find(data)
         out = self.folder() / "out.ivf"
-        with self.assertRaisesRegex(ivf.NotIvf, "no packet of VP8"):
+        with self.assertRaisesRegex(NotIvf, "no packet of VP8"):
             blocks.as_file(blocks.find(bytes(100)), "", str(out))
 
 
@@ -855,8 +1171,12 @@ class Cut(Case):
         for path in self.cut():
             out = path.parent / "out.webm"
             commands = {
-                "export": ("export", path, out), "cut": ("cut", path, out, "--from", "0", "--to", "0.5"), "join": ("join", path, path, out),
-                "cat": ("cat", path, path.parent / "out.y4m"), "png": ("png", path, "0", path.parent / "out.png"), "compare": ("compare", path, path),
+                "export": ("export", path, out),
+                "cut": ("cut", path, out, "--from", "0", "--to", "0.5"),
+                "join": ("join", path, path, out),
+                "cat": ("cat", path, path.parent / "out.y4m"),
+                "png": ("png", path, "0", path.parent / "out.png"),
+                "compare": ("compare", path, path),
             }  # fmt: skip
             for name, words in commands.items():
                 wanted = 2 if name == "compare" else 1
@@ -868,13 +1188,33 @@ class Cut(Case):
                     self.assertIn(f"{path} ends in the middle", errors)
 
     def test_other_containers(self):
-        """The programs that read them do not say that they end in the middle; a file that was written to a pipe is whole."""
+        """The programs that read them do not say that they end in the middle; a file that was written to a pipe is
+        whole.
+        """
         room = self.folder()
         for ending in ("avi", "ogg"):
             whole, piped = room / f"whole.{ending}", room / f"piped.{ending}"
             ffmpeg("-i", clip("talk.webm"), "-an", "-c", "copy", whole)
             with open(piped, "wb") as file:
-                subprocess.run(["ffmpeg", "-nostdin", "-v", "error", "-i", clip("talk.webm"), "-an", "-c", "copy", "-f", ending, "-"], stdout=file, check=True, timeout=20 * SLOW)
+                subprocess.run(
+                    [
+                        "ffmpeg",
+                        "-nostdin",
+                        "-v",
+                        "error",
+                        "-i",
+                        clip("talk.webm"),
+                        "-an",
+                        "-c",
+                        "copy",
+                        "-f",
+                        ending,
+                        "-",
+                    ],
+                    stdout=file,
+                    check=True,
+                    timeout=20 * SLOW,
+                )
             data = whole.read_bytes()
             for path in (whole, piped):
                 status, _, errors = command("export", path, room / "out.ivf", "-y")
@@ -882,21 +1222,52 @@ class Cut(Case):
             half = room / f"half.{ending}"
             for length in (len(data) // 2, len(data) - 100):
                 half.write_bytes(data[:length])
-                for name, words in (("export", (half, room / "out.ivf", "-y")), ("repair", (half, room / "out.ivf", "-y"))):
+                for name, words in (
+                    ("export", (half, room / "out.ivf", "-y")),
+                    ("repair", (half, room / "out.ivf", "-y")),
+                ):
                     status, _, errors = command(name, *words)
                     self.assertIn(status, (1, 2) if name == "repair" else (1,), (length, errors))
-                    self.assertIn(f"{half} ends in the middle, after {length:,} bytes: the packets that followed are missing\n", errors)
+                    self.assertIn(
+                        f"{half} ends in the middle, after {length:,} bytes: the packets that followed are missing\n",
+                        errors,
+                    )
                 self.assertEqual(command("export", half, room / "out.ivf", "-y", "--anyway")[0], 0)
 
     def test_ends(self):
         """Of each kind: whole, and cut off at each byte that a reader would not miss."""
         chunk = lambda name, data: name + len(data).to_bytes(4, "little") + data + bytes(len(data) % 2)  # noqa: E731
         box = lambda name, data: (8 + len(data)).to_bytes(4, "big") + name + data  # noqa: E731
-        page = lambda serial, flags, data: b"OggS\0" + bytes([flags]) + bytes(8) + serial.to_bytes(4, "little") + bytes(8) + bytes([1, len(data)]) + data  # noqa: E731
+        page = (
+            lambda serial, flags, data: b"OggS\0"
+            + bytes([flags])
+            + bytes(8)
+            + serial.to_bytes(4, "little")
+            + bytes(8)
+            + bytes([1, len(data)])
+            + data
+        )  # noqa: E731
         cases = (
             ("AVI", chunk(b"RIFF", b"AVI " + bytes(31)) + chunk(b"RIFF", b"AVIX" + bytes(20)), 24 + 8 + 44),
-            ("MP4", box(b"ftyp", b"isom") + (1).to_bytes(4, "big") + b"mdat" + (36).to_bytes(8, "big") + bytes(20) + box(b"moov", bytes(9)), 12 + 36 + 17),
-            ("Ogg", page(1, 2, b"head") + page(2, 2, b"head") + page(1, 4, b"end") + page(2, 0, b"data") + page(2, 4, b"end"), 5 * 28 + 4 + 4 + 3 + 4 + 3),
+            (
+                "MP4",
+                box(b"ftyp", b"isom")
+                + (1).to_bytes(4, "big")
+                + b"mdat"
+                + (36).to_bytes(8, "big")
+                + bytes(20)
+                + box(b"moov", bytes(9)),
+                12 + 36 + 17,
+            ),
+            (
+                "Ogg",
+                page(1, 2, b"head")
+                + page(2, 2, b"head")
+                + page(1, 4, b"end")
+                + page(2, 0, b"data")
+                + page(2, 4, b"end"),
+                5 * 28 + 4 + 4 + 3 + 4 + 3,
+            ),
         )
         for kind, data, length in cases:
             self.assertEqual((len(data), ends.is_cut(kind, data)), (length, False), kind)
@@ -934,7 +1305,9 @@ class Cut(Case):
                 while not check.is_over and time.monotonic() < limit:
                     time.sleep(0.02)
                 self.assertEqual((check.error, check.damage), (None, 1))
-                self.assertEqual([finding["kind"] for finding in check.findings if finding["severity"] == "damage"], ["container"])
+                self.assertEqual(
+                    [finding["kind"] for finding in check.findings if finding["severity"] == "damage"], ["container"]
+                )
                 self.assertIn("ends in the middle", check.findings[-1]["text"])
                 _, lines = live.findings()
                 self.assertEqual([line for line in lines if "ends in the middle" in line][0][:8], "damage: ")
@@ -961,7 +1334,9 @@ class Repaired(Case):
         status, said, errors, out = self.repaired(bytes(data))
         self.assertIn(status, (1, 2))
         self.assertIn("lead to no block: read on at byte", said)
-        self.assertIn("in.webm is a damaged WebM or Matroska file: its packets were searched, and 1 track of sound", errors)
+        self.assertIn(
+            "in.webm is a damaged WebM or Matroska file: its packets were searched, and 1 track of sound", errors
+        )
         found, path = media(out, self.folder())
         before, packets = media(clip("talk.webm"), self.folder())
         # Every frame has its time.

@@ -13,10 +13,11 @@ from unittest import mock
 
 from support import DATA, ODD, SLOW, SMALL, TOP, Case, list_of, packets_of, process_of, serve, write_packets
 from wokureti import Ended, Refused, Script, Session, Unexported
+from wokureti.errors import OtherStream
+from wokureti.base import programs
+from wokureti.media import ivf
 from wokureti.session import edit_files
 from wokureti.session.contents import Contents
-from wokureti.tools import ivf, programs
-from wokureti.session.errors import OtherStream
 
 HIDDEN = DATA / "hidden-altref.ivf"
 
@@ -52,9 +53,14 @@ def edit(choose, stream, sources):
 
 
 def state(stream, sources):
-    """The packets of all sources with their stamps, the current source and the number of frames, as the client and the program say."""
+    """The packets of all sources with their stamps, the current source and the number of frames, as the client and the
+    program say.
+    """
     contents = stream.edits.contents()
-    known = [[(contents.packet(n, s).stamp, contents.packet(n, s).bytes()) for n in range(len(contents.streams[s]))] for s in range(sources)]
+    known = [
+        [(contents.packet(n, s).stamp, contents.packet(n, s).bytes()) for n in range(len(contents.streams[s]))]
+        for s in range(sources)
+    ]
     return known, contents.current, contents.script, stream.count()
 
 
@@ -69,7 +75,9 @@ class Undo(Case):
             hidden = bytes([packets[3][0] & 0xEF]) + packets[3][1:]
             self.assertEqual(stream.packet(3), hidden)
             self.assertEqual(stream.request("packet 3").split()[2], hidden.hex())
-            self.assertEqual([stream.frame(n).i420() for n in range(stream.count().frames)], pictures[:3] + pictures[4:])
+            self.assertEqual(
+                [stream.frame(n).i420() for n in range(stream.count().frames)], pictures[:3] + pictures[4:]
+            )
             self.assertEqual(stream.undo(), ["hide 3"])
             self.assertEqual([stream.frame(n).i420() for n in range(12)], pictures)
             self.assertEqual(stream.redo(), ["hide 3"])
@@ -207,7 +215,10 @@ class LargeSteps(Case):
             while len(lines) < 60:
                 at, times = choose.randrange(1, count - 20), choose.choice((1, 1, 2, 9))
                 word = choose.choice(("delete", "delete", "hold", "insert", "move"))
-                rest = {"insert": f" {choose.randrange(9)} {choose.choice(('-', '1100', SMALL.read_bytes()[44:60].hex()))}", "move": f" {choose.randrange(count)}"}.get(word, "")
+                rest = {
+                    "insert": f" {choose.randrange(9)} {choose.choice(('-', '1100', SMALL.read_bytes()[44:60].hex()))}",
+                    "move": f" {choose.randrange(count)}",
+                }.get(word, "")
                 lines += times * [f"{word} {at}{rest}"]
                 count += times * {"delete": -1, "move": 0}.get(word, 1)
             one, other = (self.session(path).edits.contents() for _ in range(2))
@@ -253,7 +264,12 @@ class LargeSteps(Case):
         stream.undo()
         before = state(stream, 1)
         # Those after the refused one are sent with it.
-        for lines in (["delete 3", "delete 99", "delete 0", "hold 2", "move 0 5"], ["delete 3"] * 9 + ["hold 9"] + ["delete 0"] * 3, ["use 1", "delete 0"], ["delete 3", "delete 3", "move 0 99999999999999999999"]):
+        for lines in (
+            ["delete 3", "delete 99", "delete 0", "hold 2", "move 0 5"],
+            ["delete 3"] * 9 + ["hold 9"] + ["delete 0"] * 3,
+            ["use 1", "delete 0"],
+            ["delete 3", "delete 3", "move 0 99999999999999999999"],
+        ):
             with self.assertRaises(Refused):
                 stream.edits.run_step(lines)
             self.assertEqual((state(stream, 1), list(stream.edits), stream.edits.undone), (before, [], ["delete 0"]))
@@ -303,7 +319,10 @@ class LargeSteps(Case):
         for source, packets in enumerate(contents.streams):
             self.assertEqual(len(packets), len(stream.packets(source=source)))
             known = list(zip(map(contents.stamp, packets), contents.data(packets)))
-            self.assertEqual(known, [(contents.packet(n, source).stamp, contents.packet(n, source).data) for n in range(len(packets))])
+            self.assertEqual(
+                known,
+                [(contents.packet(n, source).stamp, contents.packet(n, source).data) for n in range(len(packets))],
+            )
 
     def test_random_steps_of_which_some_are_refused(self):
         choose, refused = random.Random(71), 0
@@ -314,8 +333,12 @@ class LargeSteps(Case):
                 at = choose.randrange(14)
                 lines += choose.choice((1, 1, 1, 4)) * [
                     choose.choice(
-                        (f"delete {at}", f"hold {at}", f"replace {at} {choose.choice(('-', '1100', '0102030405'))}", f"hide {at}", f"show {at}", f"move {at} {choose.randrange(12)}",
-                         f"copy {choose.randrange(2)} {choose.randrange(12)} {at}", f"blank {at} {choose.randrange(20)} 16", f"use {choose.randrange(2)}", "script trim 0 0 9")
+                        (f"delete {at}", f"hold {at}",
+                         f"replace {at} {choose.choice(('-', '1100', '0102030405'))}",
+                         f"hide {at}", f"show {at}", f"move {at} {choose.randrange(12)}",
+                         f"copy {choose.randrange(2)} {choose.randrange(12)} {at}",
+                         f"blank {at} {choose.randrange(20)} 16", f"use {choose.randrange(2)}",
+                         "script trim 0 0 9")
                     )
                 ]  # fmt: skip
             before = state(stream, 2), list(stream.edits)
@@ -334,7 +357,9 @@ class LargeSteps(Case):
         self.assertGreater(refused, 10)
         while stream.undo():
             pass
-        self.assertEqual([[stream.packet(n, source) for n in range(12)] for source in range(2)], [packets_of(SMALL), packets_of(ODD)])
+        self.assertEqual(
+            [[stream.packet(n, source) for n in range(12)] for source in range(2)], [packets_of(SMALL), packets_of(ODD)]
+        )
 
     def test_a_list_that_is_refused_in_the_middle_is_known_as_far_as_it_was_made(self):
         room = self.folder()
@@ -354,7 +379,9 @@ class LargeSteps(Case):
         stream.delete(5)
         contents = stream.edits.contents()
         before = list(contents.streams[0])
-        with mock.patch.object(stream._pipes, "exchange", side_effect=KeyboardInterrupt), self.assertRaises(KeyboardInterrupt):
+        with mock.patch.object(stream._pipes, "exchange", side_effect=KeyboardInterrupt), self.assertRaises(
+            KeyboardInterrupt
+        ):
             stream.edits.run_step(["hold 3", "delete 9"] * 30)
         self.assertEqual((list(contents.streams[0]), list(stream.edits)), (before, ["delete 5"]))
         with self.assertRaises(Ended):
@@ -399,10 +426,14 @@ class Packets(Case):
                 stream.use(0)
                 path = self.folder() / "now.ivf"
                 stream.save(path)
-                done = subprocess.run([programs.find("vp8list"), path, "--json"], capture_output=True, timeout=20 * SLOW, check=True)
+                done = subprocess.run(
+                    [programs.find("vp8list"), path, "--json"], capture_output=True, timeout=20 * SLOW, check=True
+                )
                 expected = [json.loads(line) for line in done.stdout.splitlines()]
                 self.assertEqual(stream.packets(), expected)
-                self.assertEqual(stream.packets(range(9, 2, -3)), [expected[n] for n in range(9, 2, -3) if n < len(expected)])
+                self.assertEqual(
+                    stream.packets(range(9, 2, -3)), [expected[n] for n in range(9, 2, -3) if n < len(expected)]
+                )
             stream.close()
 
     def test_a_stream_that_does_not_begin_with_a_key_frame(self):
@@ -498,7 +529,9 @@ class Durations(Case):
         self.room = self.folder()
         for turn in range(500):
             choose = random.Random(f"durations {turn}")
-            paths = [uneven(choose, self.room / f"{name}.ivf", clip, 8) for name, clip in (("one", SMALL), ("two", ODD))]
+            paths = [
+                uneven(choose, self.room / f"{name}.ivf", clip, 8) for name, clip in (("one", SMALL), ("two", ODD))
+            ]
             with Session(paths[0], sources=[paths[1]]) as stream:
                 for _ in range(8):
                     edit(choose, stream, 1)
@@ -568,16 +601,25 @@ try:
 except OSError as error:
     print("list", error.errno)
     print(error)
-print(session.count().packets, len(session.edits), session.edits.written, open({str(room / "list")!r}).read().split("\\n", 1)[1])
+print(session.count().packets, len(session.edits), session.edits.written,
+      open({str(room / "list")!r}).read().split("\\n", 1)[1])
 session.undo()
 session.delete(1)
 print(open({str(room / "list")!r}).read().split("\\n", 1)[1])
 """
         env = dict(os.environ, PYTHONPATH=str(TOP / "clients/python"))
-        done = subprocess.run([sys.executable, "-c", code], env=env, capture_output=True, text=True, timeout=20 * SLOW, check=False)
+        done = subprocess.run(
+            [sys.executable, "-c", code], env=env, capture_output=True, text=True, timeout=20 * SLOW, check=False
+        )
         lines = done.stdout.split("\n")
         self.assertEqual((done.stderr, lines[:2], lines[3:5]), ("", ["save 27", "list 27"], ["12 2 1 delete 0", ""]))
-        self.assertEqual(lines[2], f"{room / 'list'}: File too large: the last edit is made but not on the disk; the edit before it is safe. Make room: the next edit writes all")
+        self.assertEqual(
+            lines[2],
+            (
+                f"{room / 'list'}: File too large: the last edit is made but not on the disk; the edit before it is"
+                " safe. Free some space: the next edit writes all"
+            ),
+        )
         self.assertEqual(lines[5:], ["delete 0", "delete 1", "", ""])
         self.assertEqual((room / "old.ivf").read_bytes(), b"old")
         self.assertEqual(sorted(os.listdir(room)), ["list", "old.ivf"])
@@ -624,7 +666,9 @@ class Lists(Case):
             stream.delete(0)
             self.assertEqual(path.read_bytes().decode(), text + "delete 0\n")
             stream.undo()
-            self.assertEqual(path.read_bytes().decode(), "# the broken one\r\n\n  delete   3  \r\nframe 0\ncount\nuse 0\n")
+            self.assertEqual(
+                path.read_bytes().decode(), "# the broken one\r\n\n  delete   3  \r\nframe 0\ncount\nuse 0\n"
+            )
             stream.redo()
             self.assertEqual(path.read_bytes().decode(), text + "delete 0\n")
             stream.undo()
@@ -659,7 +703,11 @@ class Lists(Case):
             with open(path, "a") as file:
                 file.write("# a line of a person\n")
 
-        for change, said, name in ((replace, "replaced by another file", "list.1"), (os.unlink, "removed", "list"), (append, "changed by another program", "list.1")):
+        for change, said, name in (
+            (replace, "replaced by another file", "list.1"),
+            (os.unlink, "removed", "list"),
+            (append, "changed by another program", "list.1"),
+        ):
             room = self.folder()
             stream = self.session(edits=room / "list")
             heard = self.noticed(stream)
@@ -668,7 +716,9 @@ class Lists(Case):
             theirs = (room / "list").read_text() if name != "list" else ""
             stream.delete(4)
             stream.delete(0)
-            self.assertEqual((list_of(room / name), stream.edits.path), ("delete 3\ndelete 4\ndelete 0\n", str(room / name)))
+            self.assertEqual(
+                (list_of(room / name), stream.edits.path), ("delete 3\ndelete 4\ndelete 0\n", str(room / name))
+            )
             self.assertEqual(len(heard), 1)
             self.assertIn(said, heard[0])
             self.assertIn(str(room / name), heard[0])
@@ -692,7 +742,13 @@ class Lists(Case):
         stream.delete(3)
         with mock.patch.object(edit_files.EditFile, "write", side_effect=OSError(errno.ENOSPC, "full")):
             for turn in range(2):
-                with self.assertRaisesRegex(OSError, f"list: No space left on device: the last {'edit is' if not turn else '2 edits are'} made but not on the disk"):
+                with self.assertRaisesRegex(
+                    OSError,
+                    (
+                        f"list: No space left on device: the last {'edit is' if not turn else '2 edits are'} made but"
+                        " not on the disk"
+                    ),
+                ):
                     stream.delete(0)
         self.assertEqual((list_of(room / "list"), len(stream.edits), stream.edits.written), ("delete 3\n", 3, 1))
         # They are not lost with the program either.
@@ -713,7 +769,10 @@ class Lists(Case):
         stream.edits.run_step(["delete 2", "replace 1 -", "delete 2"], title="Repair\nall")
         stream.delete(range(3, 5))
         stream.hold(1)
-        self.assertEqual(list_of(path), "delete 11\n# step 3 Repair all\ndelete 2\nreplace 1 -\ndelete 2\n# step 2\ndelete 4\ndelete 3\nhold 1\n")
+        self.assertEqual(
+            list_of(path),
+            "delete 11\n# step 3 Repair all\ndelete 2\nreplace 1 -\ndelete 2\n# step 2\ndelete 4\ndelete 3\nhold 1\n",
+        )
         text = path.read_text()
         stream.close()
         again = self.session(edits=path)
@@ -733,7 +792,13 @@ class Lists(Case):
         with self.session(edits=room / "list") as stream:
             stream.delete(3)
         text = (room / "list").read_text()
-        with self.assertRaisesRegex(OtherStream, "another stream: of one with 12 packets of 1,185 bytes, and this one has 12 packets of 11,204 bytes.*--anyway"):
+        with self.assertRaisesRegex(
+            OtherStream,
+            (
+                "another stream: of one with 12 packets of 1,185 bytes, and this one has 12 packets of 11,204"
+                " bytes.*--anyway"
+            ),
+        ):
             Session(ODD, edits=room / "list")
         data = packets_of(SMALL)
         data[5] = data[5][:-1] + bytes([data[5][-1] ^ 1])
@@ -743,14 +808,18 @@ class Lists(Case):
             self.session(ODD).edits.run(room / "list")
         self.assertEqual((room / "list").read_text(), text)
         # The same packets with another name and other time stamps.
-        with self.session(write_packets(room / "copy.ivf", packets_of(SMALL), rate=1000, scale=33), edits=room / "list") as stream:
+        with self.session(
+            write_packets(room / "copy.ivf", packets_of(SMALL), rate=1000, scale=33), edits=room / "list"
+        ) as stream:
             self.assertEqual(list(stream.edits), ["delete 3"])
         with self.session(ODD, edits=room / "list", anyway=True) as stream:
             self.assertEqual(list(stream.edits), ["delete 3"])
 
     def test_a_list_names_its_sources(self):
         room = self.folder()
-        one, two = (write_packets(room / f"{name}.ivf", packets_of(path)) for name, path in (("one", SMALL), ("two", ODD)))
+        one, two = (
+            write_packets(room / f"{name}.ivf", packets_of(path)) for name, path in (("one", SMALL), ("two", ODD))
+        )
         with self.session(one, sources=[two], edits=room / "list") as stream:
             stream.delete(3)
             stream.copy(1, 0, 3)
@@ -759,7 +828,10 @@ class Lists(Case):
             stream.copy(1, 2, 0)
             wanted = state(stream, 2)
         named = [line for line in (room / "list").read_text().splitlines() if line.startswith("# source ")]
-        self.assertEqual([line.split()[2:5] + line.split()[-1:] for line in named], [["1:", str(len(packets_of(ODD))), "packets,", '"two.ivf"']])
+        self.assertEqual(
+            [line.split()[2:5] + line.split()[-1:] for line in named],
+            [["1:", str(len(packets_of(ODD))), "packets,", '"two.ivf"']],
+        )
         with self.session(one, edits=room / "list") as stream:
             self.assertEqual(state(stream, 2), wanted)
             stream.undo()
@@ -820,7 +892,9 @@ class Scripts(Case):
         head = script.trim(0, 0, 5).fade(-1, 0, 5, 256, 0).last
         tail = script.trim(0, 5, 5).last
         self.assertEqual(str(script.splice(head, tail)), "trim 0 0 5; fade 1 0 5 256 0; trim 0 5 5; splice 2 3")
-        self.assertEqual(str(Script().source(1).crop(-1, 0, 0, 2, 2).splice(-3, -1)), "source 1; crop 1 0 0 2 2; splice 0 2")
+        self.assertEqual(
+            str(Script().source(1).crop(-1, 0, 0, 2, 2).splice(-3, -1)), "source 1; crop 1 0 0 2 2; splice 0 2"
+        )
         self.assertEqual(str(Script()), "-")
         for node in (1, -2):
             with self.assertRaises(IndexError):

@@ -18,21 +18,22 @@ import test_containers
 import test_page
 from support import DATA, SLOW, SMALL, Case, command, packets_of, serve, start, write_packets
 from test_containers import clip, frames, media, needs_ffmpeg, setUpModule, sound_packets  # noqa: F401
+from wokureti.errors import Failed, Stopped
 from wokureti.page import opened
 from test_serve import TOKEN
-from wokureti.tools import containers, convert, cut_lists, exports, ivf, opus, programs, progress, webm
+from wokureti.base import programs, progress
+from wokureti.media import containers, ivf, opus, webm
+from wokureti.session import convert, exports
+from wokureti.tools import cut_lists
 
 MS = 10**6
 SCENES = DATA / "scene-cuts.ivf"
 REAL = programs.find("vp8serve")
-HERE = pathlib.Path(__file__).resolve().parent
-# The program that is tested, or one that stands for it where it has no --export yet.
-PROGRAM = REAL if exports.has_option(REAL, "--export") else str(HERE / "exporting.py")
-ENV = {"VP8SERVE": PROGRAM, "REAL_VP8SERVE": os.path.abspath(REAL)}
+# The program is asked, and not the library.
+ENV = {"VP8SERVE": REAL}
 
 
 def wokureti(*words):
-    """The command, with a program that exports."""
     with mock.patch.dict(os.environ, ENV):
         return command(*words)
 
@@ -43,7 +44,11 @@ class EndlessCase(Case):
     def endless(self):
         """A vp8serve whose exports never end, and the file that has the number of the process."""
         path = self.folder() / "vp8serve"
-        path.write_text(f'#!/bin/sh\ncase " $* " in *" --help "*) ;; *" --export "*) echo $$ > {shlex.quote(str(path))}.new; mv {shlex.quote(str(path))}.new {shlex.quote(str(path))}.pid; exec sleep 600 ;; esac\nexec {shlex.quote(os.path.abspath(REAL))} "$@"\n')
+        path.write_text(
+            f'#!/bin/sh\ncase " $* " in *" --help "*) ;; *" --export "*) echo $$ > {shlex.quote(str(path))}.new; mv'
+            f" {shlex.quote(str(path))}.new {shlex.quote(str(path))}.pid; exec sleep 600 ;; esac\nexec"
+            f' {shlex.quote(os.path.abspath(REAL))} "$@"\n'
+        )
         path.chmod(0o755)
         return path, path.with_name("vp8serve.pid")
 
@@ -58,71 +63,112 @@ class EndlessCase(Case):
 
 class Places(Case):
     def frames(self, stream=None):
-        return exports.Frames(self.session(stream or write_packets(self.folder() / "in.ivf", packets_of(SMALL), 25)).edits.contents())
+        return exports.Frames(
+            self.session(stream or write_packets(self.folder() / "in.ivf", packets_of(SMALL), 25)).edits.contents()
+        )
 
     def test_frames_and_times(self):
         # 12 frames of 40 ms.
-        found, cases = self.frames(), {"f0": (0, 0), "f5": (5, 5), "f99": (12, 12), "0": (0, 0), "1": (12, 12), "210ms": (5, 6), "0.2s": (5, 5), "40000us": (1, 1), "0.0": (0, 0), "0:00.2": (5, 5), "0.21": (5, 6), "0:0:0.239": (5, 6), "00:00:00.240": (6, 6), "0.47": (11, 12), "1:0.0": (12, 12)}
+        found, cases = self.frames(), {
+            "f0": (0, 0),
+            "f5": (5, 5),
+            "f99": (12, 12),
+            "0": (0, 0),
+            "1": (12, 12),
+            "210ms": (5, 6),
+            "0.2s": (5, 5),
+            "40000us": (1, 1),
+            "0.0": (0, 0),
+            "0:00.2": (5, 5),
+            "0.21": (5, 6),
+            "0:0:0.239": (5, 6),
+            "00:00:00.240": (6, 6),
+            "0.47": (11, 12),
+            "1:0.0": (12, 12),
+        }
         self.assertEqual({text: (found.place(text, False), found.place(text, True)) for text in cases}, cases)
         for text in ("-1", "x", "1:2:3:4", "1:x", "", "3m", "f", "f1.5", "1:00ms", "F3"):
-            with self.assertRaisesRegex(exports.Failed, "is no time and no frame"):
+            with self.assertRaisesRegex(Failed, "is neither a time nor a frame"):
                 found.place(text, False)
 
     def test_seconds_that_were_frames(self):
         room = self.folder()
-        status, _, errors = wokureti("cut", SMALL, room / "out.ivf", "--from", "0", "--to", "2", "--from", "0.1", "--to", "3")
+        status, _, errors = wokureti(
+            "cut", SMALL, room / "out.ivf", "--from", "0", "--to", "2", "--from", "0.1", "--to", "3"
+        )
         self.assertEqual((status, errors), (0, "wokureti: 2 is a time in seconds, as in ffmpeg; frame 2 is f2\n"))
         self.assertEqual(len(packets_of(room / "out.ivf")), 24)
-        self.assertEqual([exports.seconds_text(words) for words in (["0", None], ["00", "f3"], ["1.0", "0:02"])], [None, None, None])
+        self.assertEqual(
+            [exports.seconds_text(words) for words in (["0", None], ["00", "f3"], ["1.0", "0:02"])], [None, None, None]
+        )
 
     def test_times_of_a_rate_that_varies(self):
         packets = [(stamp, data) for stamp, data in zip((0, 40, 200, 240), packets_of(SMALL))]
         path = self.folder() / "in.ivf"
         path.write_bytes(b"".join(ivf.pieces(ivf.Head(7, 5, 1000, 1), 4, packets)))
         found = self.frames(path)
-        self.assertEqual([found.place(text, False) for text in ("0.039", "0.04", "0.199", "0.2", "0.24", "0.279", "0.28")], [0, 1, 1, 2, 3, 3, 4])
-        self.assertEqual([found.place(text, True) for text in ("0.039", "0.04", "0.199", "0.2", "0.24", "0.28")], [1, 1, 2, 2, 3, 4])
+        self.assertEqual(
+            [found.place(text, False) for text in ("0.039", "0.04", "0.199", "0.2", "0.24", "0.279", "0.28")],
+            [0, 1, 1, 2, 3, 3, 4],
+        )
+        self.assertEqual(
+            [found.place(text, True) for text in ("0.039", "0.04", "0.199", "0.2", "0.24", "0.28")], [1, 1, 2, 2, 3, 4]
+        )
 
     def test_scripts(self):
         found = self.frames()
         self.assertEqual(exports.cut_script(found, [("f3", "f8")]), "parts 0 3 5")
-        self.assertEqual(exports.cut_script(found, [(None, "0.08"), ("f5", None), ("f0", "f1")]), "parts 0 0 2 0 5 7 0 0 1")
+        self.assertEqual(
+            exports.cut_script(found, [(None, "0.08"), ("f5", None), ("f0", "f1")]), "parts 0 0 2 0 5 7 0 0 1"
+        )
         self.assertEqual(exports.cut_script(found, [("f1", "f2")] * 1000), "parts" + " 0 1 1" * 1000)
-        for parts, why in (([("f3", "f3")], "there is no frame from f3 to f3"), ([("20", None)], "from 20 to the end: the stream has 12 frames, 0:00:00.480"), ([], "there is no part")):
-            with self.assertRaisesRegex(exports.Failed, why):
+        for parts, why in (
+            ([("f3", "f3")], "there is no frame from f3 to f3"),
+            ([("20", None)], "from 20 to the end: the stream has 12 frames, 0:00:00.480"),
+            ([], "there is no part"),
+        ):
+            with self.assertRaisesRegex(Failed, why):
                 exports.cut_script(found, parts)
         with mock.patch.object(exports, "knows_parts", return_value=False):
             # What a program that has no parts is given.
             self.assertEqual(exports.known("parts 0 3 5", ""), "trim 0 3 5")
-            self.assertEqual(exports.known("source 1; parts 0 0 2 1 5 7 0 0 1", ""), "source 1; trim 0 0 2; trim 1 5 7; trim 0 0 1; splice 2 3; splice 5 4")
+            self.assertEqual(
+                exports.known("source 1; parts 0 0 2 1 5 7 0 0 1", ""),
+                "source 1; trim 0 0 2; trim 1 5 7; trim 0 0 1; splice 2 3; splice 5 4",
+            )
             self.assertEqual(exports.known("trim 0 0 1", ""), "trim 0 0 1")
-            with self.assertRaisesRegex(exports.Failed, "no script for 9 parts: install a newer vp8serve"):
+            with self.assertRaisesRegex(Failed, "no script for 9 parts: install a newer vp8serve"):
                 exports.known("parts" + " 0 1 1" * 9, "")
-        self.assertEqual([exports.join_script(count) for count in (1, 2, 3)], ["-", "source 1; parts 0 0 1048576 1 0 1048576", "source 1; source 2; parts 0 0 1048576 1 0 1048576 2 0 1048576"])
+        self.assertEqual(
+            [exports.join_script(count) for count in (1, 2, 3)],
+            [
+                "-",
+                "source 1; parts 0 0 1048576 1 0 1048576",
+                "source 1; source 2; parts 0 0 1048576 1 0 1048576 2 0 1048576",
+            ],
+        )
 
     def test_what_is_said(self):
         told = exports.Told(14_400 * MS, 361, 400, 39, 5000, 50000)
-        self.assertEqual(told.text(), "0:00:14.400, 361 frames, in 400 packets, 39 of them hidden: 5,000 bytes, 10.0 % of the file")
-        self.assertEqual(exports.Told(0, 0, 0, 0, 0, 0).text(), "0:00:00.000, 0 frames, in 0 packets, none of them hidden")
+        self.assertEqual(
+            told.text(), "0:00:14.400, 361 frames, in 400 packets, 39 of them hidden: 5,000 bytes, 10.0 % of the file"
+        )
+        self.assertEqual(
+            exports.Told(0, 0, 0, 0, 0, 0).text(), "0:00:00.000, 0 frames, in 0 packets, none of them hidden"
+        )
         self.assertEqual(exports.clock_text(3_723_045_600_000), "1:02:03.046")
 
-    def test_a_program_without_export(self):
-        room = self.folder()
-        old = room / "vp8serve"
-        old.write_text("#!/bin/sh\necho '      --save <FILE>'\n")
-        old.chmod(0o755)
-        with mock.patch.dict(os.environ, {"VP8SERVE": str(old)}):
-            status, out, errors = command("cut", SMALL, room / "out.ivf", "--from", "3")
-        self.assertEqual((status, out, os.listdir(room)), (2, b"", ["vp8serve"]))
-        self.assertIn("has no option --export. Install a newer vp8serve", errors)
 
-
-@unittest.skipUnless(exports.has_option(REAL, "--restamp"), "vp8serve has no --restamp")
 class Stamps(Case):
     def test_the_program_has_the_same_new_stamps(self):
         room = self.folder()
         stream = write_packets(room / "in.ivf", packets_of(SMALL), 25)
-        for lines in ((), ("delete 3", "delete 3"), ("move 9 2", "hold 6", "copy 1 4 4"), ("copy 1 7 0", "replace 4 -", "insert 3 99 -")):
+        for lines in (
+            (),
+            ("delete 3", "delete 3"),
+            ("move 9 2", "hold 6", "copy 1 4 4"),
+            ("copy 1 7 0", "replace 4 -", "insert 3 99 -"),
+        ):
             with self.session(stream, sources=[stream]) as session:
                 for line in lines:
                     session.request(line)
@@ -131,7 +177,9 @@ class Stamps(Case):
             self.assertEqual(ivf.read_packets(room / "client.ivf")[1], ivf.read_packets(room / "program.ivf")[1], lines)
 
     def test_a_repair_of_a_hole_or_of_an_order_takes_no_time(self):
-        """The list of `wokureti repair`, run by vp8serve: the new time stamps are those of the stream before the damage."""
+        """The list of `wokureti repair`, run by vp8serve: the new time stamps are those of the stream before the
+        damage.
+        """
         room, packets = self.folder(), list(enumerate(packets_of(SCENES)))
         whole = room / "whole.ivf"
         whole.write_bytes(b"".join(ivf.pieces(ivf.Head(16, 16, 30, 1), len(packets), packets)))
@@ -156,7 +204,11 @@ class Stamps(Case):
                     session.save(room / "client.ivf", restamp=True)
                 self.assertEqual(ivf.read_packets(room / "client.ivf")[1], mended, (name, second))
                 self.assertEqual([stamp for stamp, _ in mended], list(range(len(packets))), (name, second))
-                self.assertEqual([data for _, data in mended] == [data for _, data in packets], bool(second) or name in ("late", "twice"), (name, second))
+                self.assertEqual(
+                    [data for _, data in mended] == [data for _, data in packets],
+                    bool(second) or name in ("late", "twice"),
+                    (name, second),
+                )
 
 
 class Ivf(Case):
@@ -170,12 +222,22 @@ class Ivf(Case):
         room, whole = self.folder(), self.served(SMALL)
         status, out, errors = wokureti("cut", SMALL, room / "out.ivf", "--from", "f3", "--to", "f8")
         self.assertEqual((status, errors), (0, ""))
-        self.assertEqual(out.decode(), f"0:00:00.167, 5 frames, in 8 packets, 3 of them hidden: {sum(map(len, packets_of(SMALL)[:3])):,} bytes, {100 * sum(map(len, packets_of(SMALL)[:3])) / sum(map(len, packets_of(SMALL)[:8])):.1f} % of the file\n")
+        self.assertEqual(
+            out.decode(),
+            (
+                "0:00:00.167, 5 frames, in 8 packets, 3 of them hidden:"
+                f" {sum(map(len, packets_of(SMALL)[:3])):,} bytes,"
+                f" {100 * sum(map(len, packets_of(SMALL)[:3])) / sum(map(len, packets_of(SMALL)[:8])):.1f} % of the"
+                " file\n"
+            ),
+        )
         self.assertEqual(self.served(room / "out.ivf"), whole[3:8])
 
     def test_several_parts_and_a_join(self):
         room, whole = self.folder(), self.served(SMALL)
-        self.assertEqual(wokureti("cut", SMALL, room / "one.ivf", "--from", "f9", "--to", "f11", "--from", "f2", "--to", "f4")[0], 0)
+        self.assertEqual(
+            wokureti("cut", SMALL, room / "one.ivf", "--from", "f9", "--to", "f11", "--from", "f2", "--to", "f4")[0], 0
+        )
         self.assertEqual(self.served(room / "one.ivf"), whole[9:11] + whole[2:4])
         self.assertEqual(wokureti("join", room / "one.ivf", SMALL, room / "one.ivf", room / "two.ivf")[0], 0)
         self.assertEqual(self.served(room / "two.ivf"), [*whole[9:11], *whole[2:4], *whole, *whole[9:11], *whole[2:4]])
@@ -183,7 +245,9 @@ class Ivf(Case):
     def test_a_script_and_edits(self):
         room, whole = self.folder(), self.served(SMALL)
         (room / "edits").write_text("delete 11\n")
-        self.assertEqual(wokureti("export", SMALL, room / "out.ivf", "--edits", room / "edits", "--script", "trim 0 4 100")[0], 0)
+        self.assertEqual(
+            wokureti("export", SMALL, room / "out.ivf", "--edits", room / "edits", "--script", "trim 0 4 100")[0], 0
+        )
         self.assertEqual(self.served(room / "out.ivf"), whole[4:11])
 
     def test_what_cannot_be_exported(self):
@@ -193,10 +257,16 @@ class Ivf(Case):
         self.assertEqual((status, out, (room / "out.ivf").read_text()), (2, b"", "before"))
         self.assertRegex(errors, "frame 0.*node 1|node 1.*frame 0")
         for words, why in (
-            (("cut", SMALL, room / "out.ivf"), "say which part is kept: for example --from 0:03.3 --to 0:17.7, or frames, --from f83 --to f443"),
-            (("cut", SMALL, room / "out.ivf", "--from", "1", "--from", "2", "--to", "3"), "each part has a --from and a --to"),
+            (
+                ("cut", SMALL, room / "out.ivf"),
+                "say which part is kept: for example --from 0:03.3 --to 0:17.7, or frames, --from f83 --to f443",
+            ),
+            (
+                ("cut", SMALL, room / "out.ivf", "--from", "1", "--from", "2", "--to", "3"),
+                "each part has a --from and a --to",
+            ),
             (("cut", SMALL, SMALL, "--from", "1"), "the output is"),
-            (("cut", SMALL, room / "out.ivf", "--from", "soon"), "'soon' is no time and no frame"),
+            (("cut", SMALL, room / "out.ivf", "--from", "soon"), "'soon' is neither a time nor a frame"),
             (("export", SMALL, room / "out.ivf", "--script", "trim 9 0 1"), "refused Reference"),
             (("join", SMALL, room / "none.ivf", room / "out.ivf"), "none.ivf"),
             (("cut", SMALL, room / "out.mp4", "--from", "3"), "no .mp4 file is written. Name it .webm or .mkv"),
@@ -217,9 +287,16 @@ class CutLists(Case):
         text = '\ufeff,56.9568,First segment\n70.5,842.2,"Second, quoted"\r\n\n1234,,Last\n 0:01:02.5 , 63 \n'
         path = self.folder() / "list.csv"
         path.write_text(text)
-        self.assertEqual(cut_lists.read(path), [(None, "56.9568"), ("70.5", "842.2"), ("1234", None), ("0:01:02.5", "63")])
-        for text, why in (("", "no line"), ("70.5", "line 1 has no `,`"), ("1,2\nsoon,3,x", "line 2: 'soon' is no time"), ("-1,3", "line 1: '-1' is no time")):
-            with self.assertRaisesRegex(exports.Failed, re.escape(why)):
+        self.assertEqual(
+            cut_lists.read(path), [(None, "56.9568"), ("70.5", "842.2"), ("1234", None), ("0:01:02.5", "63")]
+        )
+        for text, why in (
+            ("", "no line"),
+            ("70.5", "line 1 has no `,`"),
+            ("1,2\nsoon,3,x", "line 2: 'soon' is not a time"),
+            ("-1,3", "line 1: '-1' is not a time"),
+        ):
+            with self.assertRaisesRegex(Failed, re.escape(why)):
                 cut_lists.parts_of(text)
 
     def test_a_list_names_the_same_frames_when_it_is_read_again(self):
@@ -237,11 +314,16 @@ class CutLists(Case):
                 count = len(frames.shown[0])
                 for delay in (0, 123_456_789):
                     with mock.patch.object(exports.Frames, "delay", return_value=delay):
-                        runs = [(choose.randint(1, count - first), 0, first) for first in (choose.randrange(count) for _ in range(8))]
+                        runs = [
+                            (choose.randint(1, count - first), 0, first)
+                            for first in (choose.randrange(count) for _ in range(8))
+                        ]
                         parts = cut_lists.parts_of(cut_lists.text_of(frames, runs))
                         found = [(frames.place(start, False), frames.place(end, True)) for start, end in parts]
-                        self.assertEqual(found, [(first, first + length) for length, _, first in runs], (rate, scale, delay))
-                with self.assertRaisesRegex(exports.Failed, "frames of source 1"):
+                        self.assertEqual(
+                            found, [(first, first + length) for length, _, first in runs], (rate, scale, delay)
+                        )
+                with self.assertRaisesRegex(Failed, "frames of source 1"):
                     cut_lists.text_of(frames, [(1, 0, 0), (1, 1, 0)])
 
     def test_a_cut_by_a_list(self):
@@ -256,9 +338,16 @@ class CutLists(Case):
             self.assertEqual((status, errors), (0, ""))
             self.assertEqual(len(said.splitlines()), 1)
             with self.session(out) as session:
-                self.assertEqual([bytes(frame.i420()) for frame in session.frames()], [frame for first, end in parts for frame in whole[first:end]])
+                self.assertEqual(
+                    [bytes(frame.i420()) for frame in session.frames()],
+                    [frame for first, end in parts for frame in whole[first:end]],
+                )
         before = out.read_bytes()
-        for words, why in ((("--cuts", cuts), "is there already: -y"), (("--cuts", cuts, "--from", "1", "-y"), "not both"), (("--cuts", room / "none.csv", "-y"), "none.csv")):
+        for words, why in (
+            (("--cuts", cuts), "is there already: -y"),
+            (("--cuts", cuts, "--from", "1", "-y"), "not both"),
+            (("--cuts", room / "none.csv", "-y"), "none.csv"),
+        ):
             status, said, errors = wokureti("cut", path, out, *words)
             self.assertEqual((status, said, why in errors, out.read_bytes()), (2, b"", True, before), errors)
         self.assertEqual(sorted(os.listdir(room)), ["in.ivf", "list.csv", "out.ivf"])
@@ -276,7 +365,7 @@ class Parts(progress.Watch):
     def part(self, done, total):
         self.parts.append((done, total))
         if len(self.parts) == self.last:
-            raise progress.Stopped
+            raise Stopped
 
 
 class HowFar(EndlessCase):
@@ -288,7 +377,12 @@ class HowFar(EndlessCase):
         with mock.patch.dict(os.environ, ENV), self.session(SMALL) as session:
             session.request("script trim 0 2 9")
             with mock.patch.object(exports, "PIECE", 300):
-                return exports.export(session.edits.contents(), list(session.edits), exports.Output(str(out), False, None, print, watch), str(self.folder()))
+                return exports.export(
+                    session.edits.contents(),
+                    list(session.edits),
+                    exports.Output(str(out), False, None, print, watch),
+                    str(self.folder()),
+                )
 
     def test_the_part_that_is_written(self):
         for name in ("out.ivf", "out.webm"):
@@ -304,14 +398,23 @@ class HowFar(EndlessCase):
         for name in ("out.ivf", "out.webm"):
             room = self.folder()
             (room / name).write_text("before")
-            with self.assertRaises(progress.Stopped):
+            with self.assertRaises(Stopped):
                 self.export(room / name, Parts(2))
             self.assertEqual((os.listdir(room), (room / name).read_text()), ([name], "before"))
 
     def test_it_is_interrupted(self):
         program, number = self.endless()
         room = self.folder()
-        process = start("cut", SMALL, room / "out.ivf", "--from", "f2", env={"VP8SERVE": str(program), "TMPDIR": str(room)}, stdout=subprocess.PIPE, stderr=subprocess.PIPE)
+        process = start(
+            "cut",
+            SMALL,
+            room / "out.ivf",
+            "--from",
+            "f2",
+            env={"VP8SERVE": str(program), "TMPDIR": str(room)},
+            stdout=subprocess.PIPE,
+            stderr=subprocess.PIPE,
+        )
         pid = self.read(number)
         process.send_signal(signal.SIGINT)
         out, errors = process.communicate(timeout=10 * SLOW)
@@ -323,7 +426,16 @@ class HowFar(EndlessCase):
         """How long vp8serve takes, which does not say how far it is."""
         program, number = self.endless()
         ours, theirs = pty.openpty()
-        process = start("cut", SMALL, self.folder() / "out.ivf", "--from", "f2", env={"VP8SERVE": str(program)}, stdout=subprocess.PIPE, stderr=theirs)
+        process = start(
+            "cut",
+            SMALL,
+            self.folder() / "out.ivf",
+            "--from",
+            "f2",
+            env={"VP8SERVE": str(program)},
+            stdout=subprocess.PIPE,
+            stderr=theirs,
+        )
         os.close(theirs)
         self.read(number)
         said = b""
@@ -335,7 +447,11 @@ class HowFar(EndlessCase):
 
     def test_stages_have_per_cent(self):
         written = []
-        with mock.patch.object(progress.sys, "stderr") as stream, mock.patch.object(progress, "TICK", 0.01), mock.patch.object(progress, "SOON", 0):
+        with (
+            mock.patch.object(progress.sys, "stderr") as stream,
+            mock.patch.object(progress, "TICK", 0.01),
+            mock.patch.object(progress, "SOON", 0),
+        ):
             stream.isatty.return_value = True
             stream.write = written.append
             with progress.Stages() as stages:
@@ -360,33 +476,49 @@ class OnThePage(test_page.PageCase, EndlessCase):
 
     def test_a_script_is_exported(self):
         self.serve(SMALL)
-        self.assertEqual((self.members("/session")["exports"], self.members("/session")["changing"]), (True, None))
+        self.assertIsNone(self.members("/session")["changing"])
         self.step("delete 11", "script trim 0 4 100")
-        status, headers, body = self.ask("/exported")
+        status, headers, body = self.ask("/file/export")
         self.assertEqual((status, headers["Content-Disposition"]), (200, 'attachment; filename="small-export.ivf"'))
-        self.assertRegex(headers["X-Exported"], r"0:00:00\.\d+, 7 frames, in 11 packets, 4 of them hidden: .* of the file")
+        self.assertRegex(
+            headers["X-Exported"], r"0:00:00\.\d+, 7 frames, in 11 packets, 4 of them hidden: .* of the file"
+        )
         path = self.folder() / "out.ivf"
         path.write_bytes(body)
         with self.session(SMALL) as one, self.session(path) as other:
-            self.assertEqual([frame.i420() for frame in other.frames()], [one.frame(number).i420() for number in range(4, 11)])
+            self.assertEqual(
+                [frame.i420() for frame in other.frames()], [one.frame(number).i420() for number in range(4, 11)]
+            )
 
     def test_a_list_of_cuts(self):
         self.serve(SMALL)
-        for script, parts in (("trim 0 2 3; trim 0 7 2; splice 1 2", "parts 0 2 3 0 7 2"), ("trim 0 5 1", "parts 0 5 1")):
+        for script, parts in (
+            ("trim 0 2 3; trim 0 7 2; splice 1 2", "parts 0 2 3 0 7 2"),
+            ("trim 0 5 1", "parts 0 5 1"),
+        ):
             self.step(f"script {script}")
-            status, headers, body = self.ask("/cuts.csv")
-            self.assertEqual((status, headers["Content-Type"], headers["Content-Disposition"]), (200, "text/csv; charset=utf-8", 'attachment; filename="small-cuts.csv"'))
+            status, headers, body = self.ask("/file/cuts.csv")
+            self.assertEqual(
+                (status, headers["Content-Type"], headers["Content-Disposition"]),
+                (200, "text/csv; charset=utf-8", 'attachment; filename="small-cuts.csv"'),
+            )
             revision = self.live.revision
-            status, _, answer = self.post_to("/cuts", text=body.decode())
-            self.assertIn((status, json.loads(answer)["script"]), ((200, exports.known(parts, programs.find("vp8serve"))), (200, script)))
+            status, _, answer = self.post_to("/task", kind="cuts", text=body.decode())
+            self.assertIn(
+                (status, json.loads(answer)["script"]),
+                ((200, exports.known(parts, programs.find("vp8serve"))), (200, script)),
+            )
             self.assertEqual(self.live.revision, revision)
         self.step("script -")
-        self.assertEqual(self.ask("/cuts.csv")[2].decode().count("\n"), 1)
+        self.assertEqual(self.ask("/file/cuts.csv")[2].decode().count("\n"), 1)
         for text in ("soon", "1000,2000", ""):
-            self.assertEqual(self.post_to("/cuts", text=text)[0], 409, text)
+            self.assertEqual(self.post_to("/task", kind="cuts", text=text)[0], 409, text)
         # A program without the node `parts` has trims and splices, and too few nodes for nine parts.
-        self.assertEqual(self.post_to("/cuts", text="0,0.01\n" * 9)[0], 200 if exports.knows_parts(programs.find("vp8serve")) else 409)
-        self.assertEqual((self.post_to("/cuts", text=3)[0], self.ask("/cuts.csv?x=1")[0]), (400, 400))
+        self.assertEqual(
+            self.post_to("/task", kind="cuts", text="0,0.01\n" * 9)[0],
+            200 if exports.knows_parts(programs.find("vp8serve")) else 409,
+        )
+        self.assertEqual((self.post_to("/task", kind="cuts", text=3)[0], self.ask("/file/cuts.csv?x=1")[0]), (400, 400))
 
     def test_an_export_that_nobody_waits_for_ends(self):
         program, number = self.endless()
@@ -394,10 +526,12 @@ class OnThePage(test_page.PageCase, EndlessCase):
             self.serve(SMALL)
         self.step("script trim 0 2 5")
         with socket.create_connection(("127.0.0.1", self.server.port), timeout=10 * SLOW) as sock:
-            sock.sendall(self.head(f"GET /{TOKEN}/exported?name=7 HTTP/1.1"))
+            sock.sendall(self.head(f"GET /{TOKEN}/file/export?name=7 HTTP/1.1"))
             pid = self.read(number)
             [(name, found)] = self.members("/progress")["exports"].items()
-            self.assertEqual((name, found["what"], found["done"], found["total"]), ("7", "vp8serve makes the packets", None, None))
+            self.assertEqual(
+                (name, found["what"], found["done"], found["total"]), ("7", "vp8serve makes the packets", None, None)
+            )
             self.assertGreater(self.members("/progress")["exports"]["7"]["seconds"], -1)
             # Others are answered meanwhile.
             self.picture("/frames/0.y4m")
@@ -418,8 +552,10 @@ class OnThePage(test_page.PageCase, EndlessCase):
                 yield piece
 
         with mock.patch.object(exports, "watched", watched), mock.patch.object(exports, "PIECE", 300):
-            _, _, body = self.ask("/exported")
-        self.assertEqual([(one["done"], one["total"]) for one in seen[:3]], [(None, None), (300, len(body)), (600, len(body))])
+            _, _, body = self.ask("/file/export")
+        self.assertEqual(
+            [(one["done"], one["total"]) for one in seen[:3]], [(None, None), (300, len(body)), (600, len(body))]
+        )
         self.assertEqual({one["what"] for one in seen}, {"writing small-export.ivf"})
         self.assertEqual(self.members("/progress")["exports"], {})
 
@@ -427,7 +563,7 @@ class OnThePage(test_page.PageCase, EndlessCase):
         self.serve(SMALL)
         self.step("script trim 0 0 5; fade 1 0 5 0 256; splice 2 1")
         self.assertEqual(self.members("/session")["changing"], [2, "fade 1 0 5 0 256"])
-        status, _, body = self.ask("/exported")
+        status, _, body = self.ask("/file/export")
         self.assertEqual(status, 409)
         self.assertRegex(json.loads(body)["error"], r"frame \d.*node \d")
         self.assertNotIn(self.live.room.name.encode(), body)
@@ -448,9 +584,16 @@ class OnThePage(test_page.PageCase, EndlessCase):
             return real(path, out, watch)
 
         # As with earlier programs, which read no WebM files.
-        with mock.patch.object(webm, "is_read", return_value=False), mock.patch.object(containers, "read_by_core", return_value=False), mock.patch.object(containers, "read", read):
-            self.assertEqual(self.post_to("/sources", file=str(other))[0], 200)
-        self.assertEqual([(found["what"], found["done"], found["total"]) for found in heard], [(f"taking the packets out of {other}", 300, 1000)])
+        with (
+            mock.patch.object(webm, "is_read", return_value=False),
+            mock.patch.object(containers, "read_by_core", return_value=False),
+            mock.patch.object(containers, "read", read),
+        ):
+            self.assertEqual(self.post_to("/streams", file=str(other), **{"as": "source"})[0], 200)
+        self.assertEqual(
+            [(found["what"], found["done"], found["total"]) for found in heard],
+            [(f"taking the packets out of {other}", 300, 1000)],
+        )
         self.assertIsNone(self.members("/progress")["opening"])
 
     @needs_ffmpeg
@@ -461,13 +604,12 @@ class OnThePage(test_page.PageCase, EndlessCase):
         self.assertEqual(self.members("/session")["rate"], [25, 1])
         self.assertEqual(self.members("/session")["saves"][0]["next"], str(room / "talk-edited.webm"))
         self.step("delete 60")
-        status, headers, body = self.ask("/download")
+        status, headers, body = self.ask("/file/packets")
         self.assertEqual((status, headers["Content-Type"], body[:4]), (200, "video/webm", b"\x1a\x45\xdf\xa3"))
         self.change("save")
         self.assertEqual((room / "talk-edited.webm").read_bytes(), body)
         self.assertEqual([saved["saved"] for saved in self.members("/session")["saves"]], [True])
         self.assertEqual(len(media(room / "talk-edited.webm", self.folder())[0].sounds), 1)
-
 
     @needs_ffmpeg
     def test_frames_have_the_times_of_their_blocks(self):
@@ -475,11 +617,11 @@ class OnThePage(test_page.PageCase, EndlessCase):
         self.serve(convert.readable(clip("varied.webm"), str(room), is_quiet=True))
         self.assertTrue(self.members("/session")["varies"])
         stamps = [stamp for stamp, _ in ivf.read_packets(media(clip("varied.webm"), room)[1])[1]]
-        self.assertEqual(self.members("/times")["times"], [stamp - stamps[0] for stamp in stamps])
+        self.assertEqual(self.task("times")["times"], [stamp - stamps[0] for stamp in stamps])
         self.step("script trim 0 0 2")
         self.assertFalse(self.members("/session")["varies"])
         self.step("script trim 0 2 30")
-        self.assertEqual(self.members("/times")["times"], [stamp - stamps[2] for stamp in stamps[2:32]])
+        self.assertEqual(self.task("times")["times"], [stamp - stamps[2] for stamp in stamps[2:32]])
 
     @needs_ffmpeg
     def test_the_sound_of_playback_is_that_of_the_frames(self):
@@ -489,9 +631,13 @@ class OnThePage(test_page.PageCase, EndlessCase):
         starts = [stamp for stamp, data in ivf.read_packets(packets)[1] if ivf.is_shown(data)]
         ours = sound_packets(before.sounds[0])
         self.assertTrue(self.members("/session")["sounds"])
-        for script, first, count in (("-", 0, 100), ("trim 0 33 40", 33, 40), ("trim 0 60 5; source 1; splice 1 2", 60, 5)):
+        for script, first, count in (
+            ("-", 0, 100),
+            ("trim 0 33 40", 33, 40),
+            ("trim 0 60 5; source 1; splice 1 2", 60, 5),
+        ):
             self.step(f"script {script}")
-            status, headers, body = self.ask("/sound.webm?revision=9")
+            status, headers, body = self.ask("/file/sound.webm?revision=9")
             self.assertEqual((status, headers["Content-Type"], headers["Accept-Ranges"]), (200, "audio/webm", "bytes"))
             (room / "sound.webm").write_bytes(body)
             track = containers.read_sounds(room / "sound.webm", room / "sound.webm")[0]
@@ -502,17 +648,22 @@ class OnThePage(test_page.PageCase, EndlessCase):
             self.assertLessEqual(abs(before.sounds[0].times[place] / MS + 6.5 - starts[first]), 11.5)
             # As long as the frames, to a packet; SMALL has 12 frames and no sound.
             self.assertLessEqual(abs(20 * len(theirs) - 40 * count - (12 * 1000 / 30 if "source" in script else 0)), 40)
-            for text, status, wanted in (("bytes=0-99", 206, body[:100]), ("bytes=1000-", 206, body[1000:]), ("bytes=-7", 206, body[-7:]), (f"bytes={len(body)}-", 416, None)):
-                found = self.ask("/sound.webm", headers={"Range": text})
+            for text, status, wanted in (
+                ("bytes=0-99", 206, body[:100]),
+                ("bytes=1000-", 206, body[1000:]),
+                ("bytes=-7", 206, body[-7:]),
+                (f"bytes={len(body)}-", 416, None),
+            ):
+                found = self.ask("/file/sound.webm", headers={"Range": text})
                 self.assertEqual((found[0], found[2] if wanted is not None else None), (status, wanted), text)
         # The file before is gone.
         self.assertEqual([path.name for path in pathlib.Path(self.live.room.name).glob("sound*")], ["sound3.webm"])
         self.serve(SMALL)
-        self.assertEqual((self.members("/session")["sounds"], self.ask("/sound.webm")[0]), (False, 404))
+        self.assertEqual((self.members("/session")["sounds"], self.ask("/file/sound.webm")[0]), (False, 404))
 
     def test_frames_of_a_rate_have_no_times(self):
         self.serve(SMALL)
-        self.assertEqual((self.members("/session")["varies"], self.members("/times")["times"]), (False, None))
+        self.assertEqual((self.members("/session")["varies"], self.task("times")["times"]), (False, None))
 
 
 class Scripts(Case):
@@ -560,15 +711,22 @@ class WithSound(Case):
         self.assertLessEqual(abs(20 * len(theirs) - 1600), 20 + 7)
 
     def test_times_are_those_of_a_player(self):
-        """The picture begins half a second after the sound, with which the file begins: a frame is shown at the time stamp of its packet."""
+        """The picture begins half a second after the sound, with which the file begins: a frame is shown at the time
+        stamp of its packet.
+        """
         room, whole = self.folder(), frames(clip("late.webm"))
         found, path = media(clip("late.webm"), room)
         stamps = [stamp for stamp, data in ivf.read_packets(path)[1] if ivf.is_shown(data)]
-        self.assertTrue(490 <= stamps[0] <= 540 and abs(found.sounds[0].times[0] / MS + 6.5) < 1, (stamps[0], found.sounds[0].times[0]))
+        self.assertTrue(
+            490 <= stamps[0] <= 540 and abs(found.sounds[0].times[0] / MS + 6.5) < 1,
+            (stamps[0], found.sounds[0].times[0]),
+        )
         for start, stop in ((0.95, 1.3), (0.2, 0.7), (3.3, 3.6)):
             first = max((place for place, stamp in enumerate(stamps) if stamp <= 1000 * start), default=0)
             end = next(place for place, stamp in enumerate(stamps) if stamp >= 1000 * stop)
-            status, _, errors = wokureti("cut", clip("late.webm"), room / f"{start}.webm", "--from", start, "--to", stop)
+            status, _, errors = wokureti(
+                "cut", clip("late.webm"), room / f"{start}.webm", "--from", start, "--to", stop
+            )
             self.assertEqual((status, frames(room / f"{start}.webm")), (0, whole[first:end]), errors)
 
     def test_parts_that_are_joined_keep_picture_and_sound_together(self):
@@ -580,7 +738,9 @@ class WithSound(Case):
         self.assertEqual(frames(room / "out.webm"), [one for start, stop in parts for one in whole[start:stop]])
         before, packets = media(source, room)
         starts = [stamp for stamp, data in ivf.read_packets(packets)[1] if ivf.is_shown(data)]
-        ours, theirs = (sound_packets(track) for track in (before.sounds[0], media(room / "out.webm", room)[0].sounds[0]))
+        ours, theirs = (
+            sound_packets(track) for track in (before.sounds[0], media(room / "out.webm", room)[0].sounds[0])
+        )
         clock, time = 0, -6.5
         for start, stop in parts:
             end = clock + 40 * (stop - start)
@@ -598,7 +758,9 @@ class WithSound(Case):
         self.assertEqual(frames(room / "out.webm"), frames(clip("talk.webm")) + frames(clip("late.webm")))
         found, path = media(room / "out.webm", room)
         self.assertEqual((found.rate, found.tags.get("title"), len(found.sounds)), ((25, 1), "A talk", 1))
-        status, _, errors = wokureti("join", clip("talk.webm"), clip("vorbis.webm"), room / "out.webm", "--sound", "copy", "-y")
+        status, _, errors = wokureti(
+            "join", clip("talk.webm"), clip("vorbis.webm"), room / "out.webm", "--sound", "copy", "-y"
+        )
         self.assertEqual(status, 2)
         self.assertIn("sound track 0 cannot be copied: the recordings have sound of different codecs", errors)
 

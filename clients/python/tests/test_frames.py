@@ -8,8 +8,11 @@ import unittest
 from unittest import mock
 
 from support import SMALL, Case, packets_of
-from wokureti.tools import colours, files, ivf
-from wokureti.session.frames import frame_of, size_of
+from wokureti.errors import NotIvf
+from wokureti.base import files
+from wokureti.media import colours, ivf
+from wokureti.media.y4m import size_of
+from wokureti.session.frames import frame_of
 
 # Y, Cb and Cr of colour bars of 100 %, for 16 to 235: ITU-R BT.601 and BT.709. Red, green and blue are 0 or 255.
 BARS = {
@@ -149,9 +152,16 @@ class Ivf(Case):
     def test_files_that_are_none(self):
         room = self.folder()
         good = SMALL.read_bytes()
-        for text in (b"", good[:31], b"RIFF" + good[4:], good[:8] + b"VP90" + good[12:], good[:6] + b"\x1f\0" + good[8:], good[:6] + b"\xff\xff" + good[8:]):
+        for text in (
+            b"",
+            good[:31],
+            b"RIFF" + good[4:],
+            good[:8] + b"VP90" + good[12:],
+            good[:6] + b"\x1f\0" + good[8:],
+            good[:6] + b"\xff\xff" + good[8:],
+        ):
             (room / "a").write_bytes(text)
-            with self.assertRaises(ivf.NotIvf):
+            with self.assertRaises(NotIvf):
                 ivf.read_packets(room / "a")
 
     def test_a_longer_header_and_a_rest(self):

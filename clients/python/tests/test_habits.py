@@ -1,4 +1,6 @@
-"""A session as Python's users expect it: exceptions in other processes, files that are closed, streams that are no paths, indexes, and frames as other libraries have them."""
+"""A session as Python's users expect it: exceptions in other processes, files that are closed, streams that are no
+paths, indexes, and frames as other libraries have them.
+"""
 
 import copy
 import gc
@@ -9,10 +11,12 @@ import pickle
 import tempfile
 import unittest
 from concurrent.futures import ProcessPoolExecutor
+from fractions import Fraction
 
-from support import CLIP, SLOW, SMALL, Case, frames_of
+from support import CLIP, SLOW, SMALL, Case, frames_of, packets_of
 from wokureti import Ended, Frame, NotVideo, Refused, Session, Unexported
-from wokureti.session.errors import OtherStream
+from wokureti.errors import OtherStream
+from wokureti.media import ivf
 from wokureti.session.frames import frame_of
 
 try:
@@ -36,7 +40,8 @@ class Exceptions(Case):
 
     def test_they_can_be_pickled(self):
         for error in (
-            Ended(1, "cannot read x"), Ended(None, ""), NotVideo(1, "x is no stream"), Refused("refused source 2 packet 60 TokenPartition 1", "why"), Refused("refused Place"),
+            Ended(1, "cannot read x"), Ended(None, ""), NotVideo(1, "x is no stream"),
+            Refused("refused source 2 packet 60 TokenPartition 1", "why"), Refused("refused Place"),
             Unexported("frame 12 is changed by node 2"), OtherStream("list", (1, 2), (3, 4), 1, "b.ivf"),
         ):  # fmt: skip
             for other in (pickle.loads(pickle.dumps(error)), copy.copy(error)):
@@ -123,6 +128,71 @@ class Indexes(Case):
         self.assertEqual((len(self.session("-")), self.session("-").width), (0, 0))
 
 
+class FrameTimes(Case):
+    """Files of which packet n is shown at n, n * 2 + 7 and so on: what a frame says is what the test wrote."""
+
+    def file(self, name, stamps, rate, scale):
+        path = self.folder() / name
+        with open(path, "wb") as file:
+            file.writelines(ivf.pieces(ivf.Head(16, 16, rate, scale), 12, list(zip(stamps, packets_of(SMALL)))))
+        return path
+
+    def session_of(self, engine):
+        even, late = self.file("even.ivf", range(12), 24000, 1001), self.file(
+            "late.ivf", [7, 9, 14, 15, 16, 20, 21, 22, 23, 24, 30, 31], 1000, 1
+        )
+        return self.session(even, sources=[late], engine=engine)
+
+    @staticmethod
+    def of(frame):
+        return frame.pts, frame.duration, frame.time_base, frame.time
+
+    def test_times_are_those_of_the_packet(self):
+        for engine in ("library", "program"):
+            session = self.session_of(engine)
+            self.assertEqual(self.of(session[5]), (5, 1, Fraction(1001, 24000), 5 * 1001 / 24000))
+            session.use(1)
+            session.script("source 1; trim 1 2 8; fade 2 0 4 0 256")
+            self.assertEqual(
+                [self.of(frame) for frame in session[0:3]],
+                [
+                    (14, 1, Fraction(1, 1000), 0.014),
+                    (15, 1, Fraction(1, 1000), 0.015),
+                    (16, 4, Fraction(1, 1000), 0.016),
+                ],
+            )
+            session.delete(2)
+            self.assertEqual(self.of(session.frame(0)), (15, 1, Fraction(1, 1000), 0.015))
+            # A copy keeps its time stamp, and lasts as long as in its file: 41 of these units.
+            session.copy(0, 3, 1)
+            session.script("source 1")
+            self.assertEqual(self.of(next(session.frames([1]))), (3, 41, Fraction(1, 1000), 0.003))
+            self.assertEqual(session.count().packets, 12)
+
+    def test_an_edit_or_the_end_leaves_what_was_read(self):
+        for engine in ("library", "program"):
+            session = self.session_of(engine)
+            read, unread = session[3], session[4]
+            self.assertEqual(read.pts, 3)
+            session.delete(11)
+            self.assertEqual((read.time, self.of(unread)), (3 * 1001 / 24000, (None,) * 4))
+            self.assertEqual(session[4].pts, 4)
+            asked, last = session[5], session[6]
+            session.use(1)
+            self.assertEqual(asked.pts, 5)
+            session.close()
+            self.assertEqual((asked.duration, last.pts), (1, None))
+            self.assertEqual(self.of(frame_of(0, 1, 1, bytes(3))), (None,) * 4)
+
+    @unittest.skipIf(numpy is None, "no numpy")
+    def test_they_are_pickled(self):
+        frame = self.session_of("library")[7]
+        other = pickle.loads(pickle.dumps(frame))
+        self.assertEqual(
+            (other, self.of(other), other.number), (frame, (7, 1, Fraction(1001, 24000), 7 * 1001 / 24000), 7)
+        )
+
+
 class Pictures(Case):
     def test_equality_and_text(self):
         session = self.session(SMALL)
@@ -160,7 +230,9 @@ class Pictures(Case):
     def test_images(self):
         frame = self.session(SMALL)[2]
         image = frame.to_image()
-        self.assertEqual((image.size, image.mode, image.tobytes()), ((frame.width, frame.height), "RGB", frame.rgb().tobytes()))
+        self.assertEqual(
+            (image.size, image.mode, image.tobytes()), ((frame.width, frame.height), "RGB", frame.rgb().tobytes())
+        )
 
 
 if __name__ == "__main__":

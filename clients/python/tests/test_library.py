@@ -12,8 +12,8 @@ import unittest.mock
 import test_session
 from support import CLIP, DATA, ODD, SMALL, TOP, Case, packets_of, write_packets
 from wokureti import Ended, NotVideo, Refused, Session
+from wokureti.base import programs
 from wokureti.session import library
-from wokureti.tools import programs
 
 
 @unittest.skipIf(library.find() is None, "libwokureti.so.0 is not built: ./build.py --library makes it")
@@ -32,7 +32,17 @@ class Matched(Library, test_session.Matched):
 
 class Alike(Library):
     def test_frames_and_replies_are_those_of_the_program(self):
-        lines = ["delete 3", "hold 5", "blank 2 176 144", "move 1 4", "copy 0 2 7", "script trim 0 1 20", "replace 9 1100", "script -", "use 1"]
+        lines = [
+            "delete 3",
+            "hold 5",
+            "blank 2 176 144",
+            "move 1 4",
+            "copy 0 2 7",
+            "script trim 0 1 20",
+            "replace 9 1100",
+            "script -",
+            "use 1",
+        ]
         ours, its = self.session(), Case.session(self, SMALL)
         for line in lines:
             for number in (0, 7, 3):
@@ -74,14 +84,30 @@ class Alike(Library):
                 calls.clear()
                 found = self.shown(ours, number)
                 self.assertEqual(found, self.shown(its, number))
-                self.assertEqual(calls, ["wk_frame"] if isinstance(found, bytes) else ["wk_frame", "wk_request", "wk_text"])
+                self.assertEqual(
+                    calls, ["wk_frame"] if isinstance(found, bytes) else ["wk_frame", "wk_request", "wk_text"]
+                )
                 # The packet that is refused is read again for the reply.
                 again += "packet" in str(found)
             self.assertEqual(ours.decoded(), its.decoded() + again)
 
     def test_lines_that_ask_for_a_frame(self):
         ours, its = self.session(), Case.session(self, SMALL, engine="program")
-        for line in ("frame 3", "  frame   3  ", "frame 003", "frame 3\r", "frame 18446744073709551615", "frame 18446744073709551616", "frame 18446744073709551619", "frame 000000000000000000003", "frame -1", "frame +1", "frame", "frame 1 2", "frame 1x"):
+        for line in (
+            "frame 3",
+            "  frame   3  ",
+            "frame 003",
+            "frame 3\r",
+            "frame 18446744073709551615",
+            "frame 18446744073709551616",
+            "frame 18446744073709551619",
+            "frame 000000000000000000003",
+            "frame -1",
+            "frame +1",
+            "frame",
+            "frame 1 2",
+            "frame 1x",
+        ):
             self.assertEqual(*(self.replied(session, line) for session in (ours, its)), line)
         self.assertEqual(*(session.pictures([0, 3, 3]) for session in (ours, its)))
 
@@ -125,7 +151,9 @@ class Alike(Library):
     def test_files_of_each_source_are_those_of_the_program(self):
         folder, rates = self.folder(), self.folder() / "rates.ivf"
         write_packets(rates, packets_of(SMALL), 24)
-        ours, its = (Case.session(self, SMALL, sources=[ODD, rates], engine=engine) for engine in ("library", "program"))
+        ours, its = (
+            Case.session(self, SMALL, sources=[ODD, rates], engine=engine) for engine in ("library", "program")
+        )
         for session in (ours, its):
             for line in ("hold 3", "copy 2 4 1", "use 1", "delete 2", "blank 0 16 16", "use 2", "move 1 5", "hide 2"):
                 session.request(line)
@@ -134,14 +162,16 @@ class Alike(Library):
                 for restamp in (False, True):
                     for name, session in (("ours", ours), ("its", its)):
                         session.save(folder / name, pad, source, restamp)
-                    self.assertEqual((folder / "ours").read_bytes(), (folder / "its").read_bytes(), (source, pad, restamp))
+                    self.assertEqual(
+                        (folder / "ours").read_bytes(), (folder / "its").read_bytes(), (source, pad, restamp)
+                    )
 
     def test_a_limit_in_bytes_is_that_of_the_program(self):
-        if not hasattr(library.load(), "wk_open_bytes"):
-            self.skipTest("the library has no wk_open_bytes: it is an earlier one")
         for path in (SMALL, ODD, CLIP):
             for size in (1, 1 << 20, 3 << 20, 9 << 20):
-                ours, its = (Case.session(self, path, engine=engine, cache_bytes=size) for engine in ("library", "program"))
+                ours, its = (
+                    Case.session(self, path, engine=engine, cache_bytes=size) for engine in ("library", "program")
+                )
                 for session in (ours, its):
                     for number in (11, 3, 9, 0, 5):
                         session.frame(number)
@@ -149,7 +179,15 @@ class Alike(Library):
 
     def test_reasons_are_those_of_the_program(self):
         ours, its = self.session(explain=True), Case.session(self, SMALL, explain=True)
-        for line in ("delete 99999", "blank 0 0 16", "script trim 0", "frame 123456", "nonsense 1", "insert 0 0 zz", "use 3"):
+        for line in (
+            "delete 99999",
+            "blank 0 0 16",
+            "script trim 0",
+            "frame 123456",
+            "nonsense 1",
+            "insert 0 0 zz",
+            "use 3",
+        ):
             found = []
             for session in (ours, its):
                 session.request("frame 3")
@@ -164,23 +202,35 @@ class Alike(Library):
         start = lines.index("    from wokureti import Session")
         end = next(place for place in range(start + 2, len(lines)) if not lines[place])
         room = self.folder()
-        (room / "clip.ivf").write_bytes(CLIP.read_bytes())
+        (room / "examples").mkdir()
+        (room / "examples/mandelbrot.ivf").write_bytes(CLIP.read_bytes())
         code = "\n".join([*(line[4:] for line in lines[start:end]), "print(session.engine)"])
         env = {**os.environ, "PYTHONPATH": str(TOP / "clients/python"), "WOKURETI_ENGINE": "library"}
-        done = subprocess.run([sys.executable, "-c", code], cwd=room, env=env, capture_output=True, text=True, timeout=60, check=False)
+        done = subprocess.run(
+            [sys.executable, "-c", code], cwd=room, env=env, capture_output=True, text=True, timeout=60, check=False
+        )
         self.assertEqual((done.returncode, done.stdout, done.stderr), (0, "320 180 30\nlibrary\n", ""))
         with Session(CLIP) as whole, Session(room / "cut.ivf") as cut:
             self.assertEqual([cut.picture(n) for n in range(30)], [whole.picture(n) for n in range(8, 38)])
 
     def test_what_is_asked_where_nothing_is_said(self):
         found = {}
-        for name, variables, program in (("nothing", {}, None), ("a program", {"VP8SERVE": programs.find("vp8serve")}, None), ("program=", {}, "x"), ("the variable", {"WOKURETI_ENGINE": "program"}, None)):
+        for name, variables, program in (
+            ("nothing", {}, None),
+            ("a program", {"VP8SERVE": programs.find("vp8serve")}, None),
+            ("program=", {}, "x"),
+            ("the variable", {"WOKURETI_ENGINE": "program"}, None),
+        ):
             named = {key: value for key, value in os.environ.items() if key not in ("VP8SERVE", "WOKURETI_ENGINE")}
             with unittest.mock.patch.dict(os.environ, {**named, **variables}, clear=True):
                 found[name] = library.engine_of(None, program)
-        self.assertEqual(found, {"nothing": "library", "a program": "program", "program=": "program", "the variable": "program"})
+        self.assertEqual(
+            found, {"nothing": "library", "a program": "program", "program=": "program", "the variable": "program"}
+        )
         # A library of another version is not taken.
-        with unittest.mock.patch.object(library.versions, "version", return_value="0.1.0"), unittest.mock.patch.dict(os.environ, {"WOKURETI_ENGINE": "", "VP8SERVE": ""}):
+        with unittest.mock.patch.object(library.versions, "version", return_value="0.1.0"), unittest.mock.patch.dict(
+            os.environ, {"WOKURETI_ENGINE": "", "VP8SERVE": ""}
+        ):
             self.assertEqual(library.engine_of(None, None), "program")
 
     def test_threads_with_a_small_stack(self):
@@ -201,7 +251,7 @@ class Broken(Library):
     def test_a_file_that_is_none(self):
         path = self.folder() / "none.ivf"
         path.write_bytes(b"no file of packets, but longer than a header\n")
-        with self.assertRaisesRegex(NotVideo, "none.ivf is no stream of VP8: it looks like a text"):
+        with self.assertRaisesRegex(NotVideo, "none.ivf is not a stream of VP8: it looks like a text"):
             Session(SMALL, sources=[path], engine="library")
 
     def test_tables_that_are_none(self):
@@ -251,7 +301,14 @@ class Broken(Library):
 
     def test_python_ends_with_a_session_open(self):
         code = f"from wokureti import Session\ns = Session({str(SMALL)!r}, engine='library')\nprint(s.count().frames)"
-        done = subprocess.run([sys.executable, "-c", code], cwd=TOP / "clients/python", capture_output=True, text=True, timeout=60, check=False)
+        done = subprocess.run(
+            [sys.executable, "-c", code],
+            cwd=TOP / "clients/python",
+            capture_output=True,
+            text=True,
+            timeout=60,
+            check=False,
+        )
         self.assertEqual((done.returncode, done.stderr), (0, ""))
 
     def test_a_forked_child_has_no_session(self):

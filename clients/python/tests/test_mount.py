@@ -15,10 +15,23 @@ import unittest
 import zlib
 from unittest import mock
 
-from support import DATA, SLOW, SMALL, Case, children_of, command, crash, packets_of, serve, start, whole_text, write_packets
+from support import (
+    DATA,
+    SLOW,
+    SMALL,
+    Case,
+    children_of,
+    command,
+    crash,
+    packets_of,
+    serve,
+    start,
+    whole_text,
+    write_packets,
+)
+from wokureti.errors import Changed, Unreadable
+from wokureti.media import ivf, png
 from wokureti.server import folders, mount
-from wokureti.tools import ivf, png
-from wokureti.server.live import Changed
 from wokureti.page.opened import Opened
 
 SCENES = DATA / "scene-cuts.ivf"
@@ -76,9 +89,21 @@ class Files(Case):
 
     def test_what_is_there(self):
         folder = self.opened()
-        self.assertEqual(folder.names(), ["clip.y4m", "clip.ivf", "clip.webm", "frames", "edits.txt", "findings.txt", "packets.jsonl"])
+        self.assertEqual(
+            folder.names(),
+            ["clip.y4m", "clip.ivf", "clip.webm", "frames", "edits.txt", "findings.txt", "packets.jsonl"],
+        )
         self.assertEqual(list(folder.pictures())[-2:], ["000010.png", "000011.png"])
-        for name in ("clip.mp4", "frames/000012.png", "frames/1.png", "frames/00000a.png", "frames/0000001.png", "edits.err", "frames/", "x/000001.png"):
+        for name in (
+            "clip.mp4",
+            "frames/000012.png",
+            "frames/1.png",
+            "frames/00000a.png",
+            "frames/0000001.png",
+            "edits.err",
+            "frames/",
+            "x/000001.png",
+        ):
             with self.assertRaises(KeyError):
                 folder.open(name)
 
@@ -91,7 +116,10 @@ class Files(Case):
             serve(SCENES, lines, "--save", room / "saved.ivf")
             self.assertEqual(packets_of(room / "clip.ivf"), packets_of(room / "saved.ivf"))
             self.assertEqual(self.whole("edits.txt").decode().splitlines(), list(lines))
-            self.assertEqual([json.loads(line)["bytes"] for line in self.whole("packets.jsonl").splitlines()], list(map(len, packets_of(room / "saved.ivf"))))
+            self.assertEqual(
+                [json.loads(line)["bytes"] for line in self.whole("packets.jsonl").splitlines()],
+                list(map(len, packets_of(room / "saved.ivf"))),
+            )
             self.assertEqual(self.whole("clip.webm")[:4], b"\x1a\x45\xdf\xa3")
             self.assertIn("frames, damage: ", self.whole("findings.txt").decode())
             picture = self.whole("frames/000005.png")
@@ -117,9 +145,13 @@ class Files(Case):
         head = whole.index(b"\n") + 1
         self.assertEqual(file.size, len(whole))
         self.assertEqual(folder.read(revision, file, head + 9 * size, size), whole[head + 9 * size : head + 10 * size])
-        for name, at, count in (("clip.y4m", head + 10 * size, 1), ("clip.y4m", head + 9 * size, size + 1), ("frames/000010.png", 0, 100)):
+        for name, at, count in (
+            ("clip.y4m", head + 10 * size, 1),
+            ("clip.y4m", head + 9 * size, size + 1),
+            ("frames/000010.png", 0, 100),
+        ):
             one = folder.open(name)
-            with self.assertRaisesRegex(folders.Unreadable, "packet 10 ShortPacket"):
+            with self.assertRaisesRegex(Unreadable, "packet 10 ShortPacket"):
                 folder.read(*one, at, count)
         self.assertIn("frames 10 to ", self.whole("findings.txt").decode().splitlines()[0])
         self.assertIn("refused packet 10 ShortPacket", self.whole("findings.txt").decode())
@@ -201,7 +233,14 @@ class Files(Case):
         (room / "fusepy.py").write_text("raise ImportError")
         (room / "fuse.py").write_text("# python3-fuse, which is another module\n")
         env = {**os.environ, "PYTHONPATH": f"{room}:{mount.__file__.rsplit('/', 3)[0]}"}
-        done = subprocess.run([sys.executable, "-m", "wokureti", "mount", SMALL, room], env=env, capture_output=True, text=True, timeout=20 * SLOW, check=False)
+        done = subprocess.run(
+            [sys.executable, "-m", "wokureti", "mount", SMALL, room],
+            env=env,
+            capture_output=True,
+            text=True,
+            timeout=20 * SLOW,
+            check=False,
+        )
         self.assertEqual((done.returncode, done.stdout), (2, ""))
         self.assertIn("install python3-fusepy and fuse3", done.stderr)
 
@@ -230,7 +269,8 @@ class Mounted(Case):
         for stream in (process.stdout, process.stderr):
             stream.close()
         if not self.is_unmounted(folder):
-            # fusermount3 leaves the folder of a program that was killed 3 of 120 times if others are mounted and unmounted at the same moment, never alone.
+            # fusermount3 leaves the folder of a program that was killed 3 of 120 times if others are mounted and
+            # unmounted at the same moment, never alone.
             mount.clear(folder)
         self.assertTrue(self.is_unmounted(folder), "it is still mounted")
 
@@ -246,7 +286,9 @@ class Mounted(Case):
         self.assertEqual((folder / "clip.y4m").read_bytes(), whole_text(SCENES))
         self.assertEqual(packets_of(folder / "clip.ivf"), packets_of(SCENES))
         self.assertEqual((folder / "clip.y4m").stat().st_size, len(whole_text(SCENES)))
-        self.assertEqual(samples_of_png((folder / "frames/000003.png").read_bytes())[:2], ivf.key_size(packets_of(SCENES)[0]))
+        self.assertEqual(
+            samples_of_png((folder / "frames/000003.png").read_bytes())[:2], ivf.key_size(packets_of(SCENES)[0])
+        )
         for name in ("new.txt", "frames/x"):
             with self.assertRaises(OSError):
                 (folder / name).write_text("text")
@@ -304,7 +346,11 @@ class Mounted(Case):
             time.sleep(turn // 3 * 0.004)
             number = (signal.SIGTERM, signal.SIGHUP, signal.SIGINT)[turn % 3]
             process.send_signal(number)
-            self.assertEqual((process.wait(20 * SLOW), is_mounted(folder), list(folder.iterdir())), (0, False, []), (turn, process.stderr.read()))
+            self.assertEqual(
+                (process.wait(20 * SLOW), is_mounted(folder), list(folder.iterdir())),
+                (0, False, []),
+                (turn, process.stderr.read()),
+            )
 
     def test_it_is_unmounted_while_a_file_is_open(self):
         folder, process = self.mounted(SCENES)
@@ -348,7 +394,11 @@ class Mounted(Case):
     def test_folders_that_do_not_fit(self):
         room = self.folder()
         (room / "file").write_text("")
-        for folder, why in ((room, "is not empty"), (room / "none", "none: No such file"), (room / "file", "is no folder")):
+        for folder, why in (
+            (room, "is not empty"),
+            (room / "none", "none: No such file"),
+            (room / "file", "is not a folder"),
+        ):
             status, _, errors = command("mount", SMALL, folder)
             self.assertEqual(status, 2)
             self.assertIn(why, errors)

@@ -17,29 +17,53 @@ import threading
 import time
 import unittest
 import urllib.parse
-from array import array
 from unittest import mock
 
-from support import DATA, ENGINE, ODD, SLOW, SMALL, Case, children_of, command, crash, frames_of, knows, list_of, packets_of, serve, start, write_packets
+from support import (
+    DATA,
+    ENGINE,
+    ODD,
+    SLOW,
+    SMALL,
+    TOP,
+    Case,
+    children_of,
+    command,
+    crash,
+    frames_of,
+    list_of,
+    packets_of,
+    serve,
+    start,
+    write_packets,
+)
+from test_asked import random_script
 from test_serve import TOKEN, ServerCase
 from wokureti import Refused, Script, Session, system
-from wokureti.page import checking, views
-from wokureti.tools import ivf, programs, times
+from wokureti.base import programs
+from wokureti.media import ivf, times
+from wokureti.server.web import Server
+from wokureti.page import checking
 from wokureti.page.opened import Opened
 from wokureti.page.pages import KINDS, PageRoutes, files_of_page
-from wokureti.server.web import Server
 
 BROKEN = b"\x10\x00"
 # Three clips of one size, with key packets at 0, 4, 16 and 32.
 ROOM = tempfile.TemporaryDirectory()
 SCENES = write_packets(
     pathlib.Path(ROOM.name) / "scenes.ivf",
-    [data for name in ("scene-cuts", "error-resilient", "independent-partitions") for data in packets_of(DATA / f"{name}.ivf")],
+    [
+        data
+        for name in ("scene-cuts", "error-resilient", "independent-partitions")
+        for data in packets_of(DATA / f"{name}.ivf")
+    ],
 )
 
 
 class PageCase(ServerCase):
     """A server with a page, in this process."""
+
+    speaker = None
 
     def setUp(self):
         super().setUp()
@@ -68,12 +92,42 @@ class PageCase(ServerCase):
             self.assertLess(time.monotonic(), limit)
             time.sleep(0.02)
 
+    def engine(self, name, *given):
+        """What a call of the page's engine over this server returns, as it runs in Node; an error has a status."""
+        if shutil.which("node") is None:
+            self.skipTest("node is not there")
+        if self.speaker is None or self.speaker[0] is not self.server:
+            words = [
+                "node",
+                TOP / "clients/python/tests/engine.mjs",
+                f"{self.server.origin}/{TOKEN}/",
+                TOP / "clients/python/wokureti/page",
+            ]
+            process = subprocess.Popen(list(map(str, words)), stdin=subprocess.PIPE, stdout=subprocess.PIPE, text=True)
+            self.speaker = (self.server, process)
+            self.addCleanup(lambda: (process.communicate(timeout=10 * SLOW), process.kill()))
+        process = self.speaker[1]
+        process.stdin.write(json.dumps([name, *given]) + "\n")
+        process.stdin.flush()
+        found = json.loads(process.stdout.readline())
+        return found["result"] if "result" in found else found
+
+    def look(self, what, **query):
+        """What the engine answers of the current stream."""
+        self.engine("state")
+        usual = {
+            "timeline": {"first": 0, "per": 1, "count": 1024},
+            "origins": {"from": 0, "count": 256},
+            "numbers": {"count": 1},
+        }
+        return self.engine("look", what, {"source": 0, **usual.get(what, {}), **query})
+
     def post_to(self, path, **body):
         headers = {"Origin": self.server.origin, "Content-Type": "application/json"}
         return self.ask(path, "POST", headers, json.dumps(body))
 
     def step(self, *lines):
-        status, _, body = self.post_to("/edits", lines=list(lines))
+        status, _, body = self.post_to("/edits", lines=list(lines), contents=self.live.contents().name)
         self.assertEqual(status, 200, body)
         return json.loads(body)
 
@@ -83,14 +137,28 @@ class PageCase(ServerCase):
         self.assertEqual(status, 200, body)
         return body.partition(b"\nFRAME\n")[2]
 
+    def frame(self, number, **of):
+        """The same of a frame of another kind."""
+        status, _, body = self.post_to("/frames", frames=[number], **of)
+        self.assertEqual(status, 200, body)
+        return body.partition(b"\nFRAME\n")[2]
+
+    def task(self, kind, **query):
+        """The answer to long work."""
+        status, _, body = self.post_to("/task", kind=kind, **query)
+        self.assertEqual(status, 200, body)
+        return json.loads(body)
+
+    def found(self, first=0):
+        """What is known of the check of the current stream."""
+        return json.loads(json.dumps(self.live.checked().members(first)))
+
     def checked(self):
         """The findings of the current stream, once the check is over."""
         limit = time.monotonic() + 20 * SLOW
         while True:
-            found = self.members("/check")
+            found = self.found()
             if found["over"]:
-                if "is an earlier one" in (found["failed"] or ""):
-                    self.skipTest("this vp8serve is an earlier one, without check FIRST COUNT")
                 self.assertIsNone(found["failed"])
                 return found
             self.assertLess(time.monotonic(), limit)
@@ -105,7 +173,13 @@ class PageCase(ServerCase):
 
 def check_of(path):
     """What vp8list --check says of a file."""
-    done = subprocess.run([programs.find("vp8list"), str(path), "--check", "--json"], capture_output=True, text=True, check=False, timeout=20 * SLOW)
+    done = subprocess.run(
+        [programs.find("vp8list"), str(path), "--check", "--json"],
+        capture_output=True,
+        text=True,
+        check=False,
+        timeout=20 * SLOW,
+    )
     return [json.loads(line) for line in done.stdout.splitlines()]
 
 
@@ -121,7 +195,17 @@ class Files(PageCase):
             self.assertEqual(headers["Content-Security-Policy"], "default-src 'self'")
             self.assertEqual(headers["X-Content-Type-Options"], "nosniff")
         self.assertEqual(self.ask("/page/")[2], files["index.html"][1])
-        for path in ("/page", "/page/x.js", "/page/../edits", "/page/main.js/", "/page//main.js", "/page/__init__.py", "/page/.", "/page/%2e%2e/routes.py", "/main.js"):
+        for path in (
+            "/page",
+            "/page/x.js",
+            "/page/../edits",
+            "/page/main.js/",
+            "/page//main.js",
+            "/page/__init__.py",
+            "/page/.",
+            "/page/%2e%2e/routes.py",
+            "/main.js",
+        ):
             self.assertEqual(self.ask(path)[0], 404, path)
         self.assertEqual(self.ask("/page/main.js?x=1")[0], 400)
 
@@ -144,14 +228,22 @@ class Files(PageCase):
         live = Live({"stream": SMALL})
         self.addCleanup(live.close)
         self.server.routes = Routes(live, self.server, TOKEN)
-        for path in ("/page/", "/page/main.js", "/session", "/timeline", "/check", "/stream.ivf", "/before/frames/0.y4m"):
+        for path in (
+            "/page/",
+            "/page/main.js",
+            "/session",
+            "/answer?line=list%200%201",
+            "/progress",
+            "/streams",
+            "/file/packets",
+            "/file/cuts.csv",
+        ):
             self.assertEqual(self.ask(path)[0], 404, path)
 
 
 class Views(PageCase):
     def kinds(self, source=0, **query):
-        text = "".join(f"&{name}={value}" for name, value in query.items())
-        return self.members(f"/timeline?source={source}{text}")
+        return self.look("timeline", source=source, **query)
 
     def assertTimeline(self):
         """Each entry is what vp8list says of the packet."""
@@ -160,7 +252,9 @@ class Views(PageCase):
         found = self.kinds()
         letters = "".join(letter_of(fact) for fact in facts)
         forged = [place for place, letter in enumerate(found["kinds"]) if letter == "f"]
-        self.assertEqual("".join("f" if place in forged else letter for place, letter in enumerate(letters)), found["kinds"])
+        self.assertEqual(
+            "".join("f" if place in forged else letter for place, letter in enumerate(letters)), found["kinds"]
+        )
         self.assertEqual(found["bytes"], [fact["bytes"] for fact in facts])
         frames, shown = [], 0
         for fact in facts:
@@ -173,7 +267,9 @@ class Views(PageCase):
             columns = self.kinds(per=per)
             parts = [found["kinds"][place : place + per] for place in range(0, len(facts), per)]
             self.assertEqual(columns["kinds"], "".join(max(part, key=order.index) for part in parts))
-            self.assertEqual(columns["bytes"], [max(found["bytes"][place : place + per]) for place in range(0, len(facts), per)])
+            self.assertEqual(
+                columns["bytes"], [max(found["bytes"][place : place + per]) for place in range(0, len(facts), per)]
+            )
             self.assertEqual(columns["frames"], frames[::per])
             self.assertEqual(columns["edits"], sorted({place // per for place in found["edits"]}))
         return found
@@ -204,18 +300,33 @@ class Views(PageCase):
         for _ in range(25):
             count = self.members("/session")["packets"]
             at = choose.randrange(count + 1)
-            line = choose.choice([f"delete {at}", f"hold {at}", f"replace {at} -", f"replace {at} 1000", f"copy 1 {choose.randrange(12)} {at}", f"move {at} {choose.randrange(count)}", f"blank {at} 16 16", "undo", "redo"])
+            line = choose.choice(
+                [
+                    f"delete {at}",
+                    f"hold {at}",
+                    f"replace {at} -",
+                    f"replace {at} 1000",
+                    f"copy 1 {choose.randrange(12)} {at}",
+                    f"move {at} {choose.randrange(count)}",
+                    f"blank {at} 16 16",
+                    "undo",
+                    "redo",
+                ]
+            )
             self.assertIn(self.post(line)[0], (200, 409))
             self.assertTimeline()
 
     def test_damage_is_in_the_timeline_once_it_is_known(self):
         packets = packets_of(SCENES)
-        place = next(number for number, data in enumerate(packets) if number > 3 and not ivf.is_key(data) and len(data) > 60)
+        place = next(
+            number for number, data in enumerate(packets) if number > 3 and not ivf.is_key(data) and len(data) > 60
+        )
         packets[place] = packets[place][: len(packets[place]) // 2]
         self.serve(write_packets(self.folder() / "a.ivf", packets))
         found = self.checked()
         inside = [finding["packet"] for finding in found["findings"] if finding["kind"] == "past_end"]
         self.assertTrue(inside)
+        self.engine("event", "check", {**found, "revision": 1, "inside": inside})
         kinds = self.kinds()["kinds"]
         self.assertEqual([number for number, kind in enumerate(kinds) if kind == "p"], sorted(set(inside)))
 
@@ -223,15 +334,37 @@ class Views(PageCase):
         room = self.folder()
         self.serve(SMALL, edits=room / "list", save=room / "out.ivf", sources=[ODD])
         found = self.members("/session")
-        self.assertEqual([found[name] for name in ("revision", "packets", "frames", "sources", "source", "script", "edits", "undone", "saved", "listed")], [1, 12, 12, [12, 12], 0, "-", [], [], True, True])
-        self.assertEqual((found["names"], found["saves"][0]["next"], found["list"]), (["small.ivf", "odd-size.ivf"], str(room / "out.ivf"), str(room / "list")))
+        self.assertEqual(
+            [
+                found[name]
+                for name in (
+                    "revision",
+                    "packets",
+                    "frames",
+                    "sources",
+                    "source",
+                    "script",
+                    "edits",
+                    "undone",
+                    "saved",
+                    "listed",
+                )
+            ],
+            [1, 12, 12, [12, 12], 0, "-", [], [], True, True],
+        )
+        self.assertEqual(
+            (found["names"], found["saves"][0]["next"], found["list"]),
+            (["small.ivf", "odd-size.ivf"], str(room / "out.ivf"), str(room / "list")),
+        )
         self.step("delete 3", "delete 3")
         self.change("delete 0")
         self.change(f"replace 0 {'00' * 1000}")
         self.change("undo")
         self.change("script trim 0 0 4")
         found = self.members("/session")
-        self.assertEqual((found["packets"], found["frames"], found["script"], found["saved"]), (9, 4, "trim 0 0 4", False))
+        self.assertEqual(
+            (found["packets"], found["frames"], found["script"], found["saved"]), (9, 4, "trim 0 0 4", False)
+        )
         self.assertEqual(found["edits"], ["delete 3", "delete 3", "delete 0", "script trim 0 0 4"])
         first, *rest = found["steps"]
         self.assertEqual([step == first for step in rest], [True, False, False])
@@ -242,7 +375,7 @@ class Views(PageCase):
             if lines:
                 self.step(*lines)
             session = self.members("/session")
-            found = self.members("/origins?count=4000")
+            found = self.look("origins", count=4000)
             self.assertEqual(len(found["packets"]), session["frames"])
             with self.live.lock:
                 numbers = {(0, fact["packet"]): fact["frame"] for fact in self.live.session.packets(source=0)}
@@ -254,67 +387,100 @@ class Views(PageCase):
                         other.request(line)
                 for frame, origin in enumerate(zip(found["sources"], found["packets"])):
                     if frame % 7 == 0:
-                        self.assertEqual(self.picture(f"/frames/{frame}.y4m"), other.frame(numbers[origin]).i420(), (lines, frame))
+                        self.assertEqual(
+                            self.picture(f"/frames/{frame}.y4m"), other.frame(numbers[origin]).i420(), (lines, frame)
+                        )
             for frame in range(0, session["frames"], 5):
-                place = self.members(f"/place?packet={found['packets'][frame]}")
+                place = self.look("place", packet=found["packets"][frame])
                 self.assertEqual(found["packets"][place["frame"]], found["packets"][frame])
                 self.assertLessEqual(place["frame"], frame)
-        self.assertEqual(self.members("/origins?from=100000&count=5")["packets"], [])
-        self.assertIsNone(self.members("/place?packet=3&source=1")["frame"])
+        self.assertEqual(self.look("origins", **{"from": 100000, "count": 5})["packets"], [])
+        self.assertIsNone(self.look("place", packet=3, source=1)["frame"])
+
+    def test_the_frames_of_random_scripts(self):
+        """The page has them from the script, and the session says the same."""
+        choose, seen = random.Random(96), 0
+        self.serve(SMALL, sources=[SCENES])
+        self.step("delete 3", "hold 5", "insert 7 0 -")
+        # Frames that follow each other, of which the first ones fade.
+        scripts = ["trim 0 0 5; fade 1 2 3 256 0; trim 0 5 4; splice 2 3"]
+        for script in scripts + [
+            random_script(choose, 2, ("source", "trim", "splice", "parts", "fade", "crop")) for _ in range(30)
+        ]:
+            if self.post(f"script {script}")[0] != 200:
+                continue
+            found = self.look("origins", count=4096)
+            with self.live.lock:
+                wanted = self.live.session.origins(0, 4096)
+            self.assertEqual(
+                list(zip(found["sources"], found["packets"])),
+                [(one["source"], one["packet"]) for one in wanted],
+                script,
+            )
+            joins = [
+                frame
+                for frame, (one, other) in enumerate(zip(wanted, wanted[1:]), 1)
+                if (other["source"], other["source_frame"]) != (one["source"], one["source_frame"] + 1)
+            ]
+            self.assertEqual(
+                [self.engine("look", "cut", {"frame": frame - 1, "step": 1})["frame"] for frame in joins], joins, script
+            )
+            self.assertIsNone(
+                self.engine("look", "cut", {"frame": joins[-1] if joins else 0, "step": 1})["frame"], script
+            )
+            seen += bool(joins)
+        self.assertGreater(seen, 5)
 
     def test_packets_that_no_frame_shows(self):
         self.serve(SCENES, sources=[SMALL])
         with self.session(SCENES) as one, self.session(SMALL) as other:
             wanted = [[frame.i420() for frame in session.frames(range(12))] for session in (one, other)]
         # Without a script no frame shows a packet of source 1.
-        place = self.members("/place?packet=3&source=1")
+        place = self.look("place", packet=3, source=1)
         self.assertEqual((place["frame"], place["own"], place["before"]), (None, 3, 3))
         for packet in (0, 3, 11):
-            self.assertEqual(self.picture(f"/packets/{packet}.y4m?source=1"), wanted[1][packet])
+            self.assertEqual(self.frame(packet, packets=1), wanted[1][packet])
         # With a script none shows packet 9 of source 0.
         self.change("script trim 0 0 5")
-        self.assertEqual((self.members("/place?packet=9")["frame"], self.members("/place?packet=4")["frame"]), (None, 4))
-        self.assertEqual(self.picture("/packets/9.y4m"), wanted[0][9])
+        self.assertEqual((self.look("place", packet=9)["frame"], self.look("place", packet=4)["frame"]), (None, 4))
+        self.assertEqual(self.frame(9, packets=0), wanted[0][9])
         # They are those of the edited packets.
         self.step("delete 2", "use 1", "delete 0", "copy 0 0 0", "use 0")
-        self.assertEqual(self.picture("/packets/8.y4m"), wanted[0][9])
-        self.assertEqual(self.members("/place?packet=8")["before"], 9)
-        self.assertEqual(self.picture("/packets/0.y4m?source=1"), wanted[0][0])
+        self.assertEqual(self.frame(8, packets=0), wanted[0][9])
+        self.assertEqual(self.look("place", packet=8)["before"], 9)
+        self.assertEqual(self.frame(0, packets=1), wanted[0][0])
         self.assertEqual(self.members("/session")["edits"][-1], "use 0")
-        for path in (f"/packets/{len(packets_of(SCENES))}.y4m", "/packets/0.y4m?source=2", "/packets/x.y4m", "/packets/0.png"):
-            self.assertEqual(self.ask(path)[0], 404, path)
-        status, _, body = self.post_to("/preview", lines=["delete 0"], packet=7)
-        self.assertEqual((status, body.partition(b"\nFRAME\n")[2] == self.picture("/packets/8.y4m")), (200, True))
+        for number, source in ((len(packets_of(SCENES)), 0), (0, 2)):
+            self.assertEqual(self.post_to("/frames", frames=[number], packets=source)[0], 404, number)
+        self.assertEqual(self.frame(7, packets=0, lines=["delete 0"]), self.frame(8, packets=0))
 
     def test_the_frames_before_the_edits(self):
         self.serve(SCENES)
         with self.session(SCENES) as other:
             wanted = [frame.i420() for frame in other.frames(range(40))]
         self.step("delete 4", "hold 10", "delete 11", "insert 20 0 -", "insert 20 0 -")
-        before = self.members("/origins?count=40")["before"]
+        before = self.look("origins", count=40)["before"]
         self.assertEqual(before[:26], [0, 1, 2, 3, *range(5, 21), 20, 20, 21, 22, 23, 24])
         for frame in (0, 10, 20, 39):
-            self.assertEqual(self.picture(f"/before/frames/{frame}.y4m"), wanted[frame])
-        self.assertEqual(self.ask("/before/frames/100000.y4m")[0], 404)
-        self.assertEqual(self.ask("/before/frames/0.png")[0], 404)
-        self.assertEqual(self.ask("/before/frames/0.y4m?source=1")[0], 404)
+            self.assertEqual(self.frame(frame, before=0), wanted[frame])
+        self.assertEqual(self.post_to("/frames", frames=[100000], before=0)[0], 404)
+        self.assertEqual(self.post_to("/frames", frames=[0], before=1)[0], 404)
 
     def test_the_edited_stream(self):
         room = self.folder()
         self.serve(SCENES, save=room / "out.ivf")
         self.step("delete 4", "hold 9", "replace 12 -", "move 20 3")
-        status, headers, body = self.ask("/stream.ivf")
+        status, headers, body = self.ask("/file/packets")
         self.assertEqual((status, headers["Content-Disposition"]), (200, 'attachment; filename="scenes-edited.ivf"'))
         self.change("save")
         self.assertEqual(body, (room / "out.ivf").read_bytes())
         # Frames follow each other without a gap, and times do not go back: each packet of the clip is shown.
         packets = ivf.read_packets(room / "out.ivf")[1]
         self.assertEqual([stamp for stamp, _ in packets], list(range(len(packets))))
-        self.assertEqual(self.ask("/download")[2], body)
         self.live.keeps_stamps = True
         replies = serve(SCENES, ["delete 4", "hold 9", "replace 12 -", "move 20 3"], "--save", room / "other.ivf")
         self.assertTrue(all(reply.startswith("ok") for reply in replies))
-        self.assertEqual(self.ask("/stream.ivf")[2], (room / "other.ivf").read_bytes())
+        self.assertEqual(self.ask("/file/packets")[2], (room / "other.ivf").read_bytes())
         self.change("save")
         self.assertEqual((room / "out.ivf").read_bytes(), (room / "other.ivf").read_bytes())
 
@@ -332,41 +498,66 @@ def letter_of(fact):
     return "k" if fact["kind"] == "key" else "i"
 
 
-class Timelines(Case):
-    def test_a_timeline_that_takes_over_another_is_the_same(self):
+class Told(PageCase):
+    def test_what_is_new_is_told_and_no_more(self):
+        """A page that has followed all edits, and one that has seen none of them, have the same packets."""
         choose = random.Random(58)
-        pool, count = mock.Mock(), 60
-        for _ in range(300):
-            pool.kinds = bytearray(choose.choice(b"\0\0\0\1\2\3\4\7") for _ in range(count))
-            pool.sizes = array("I", (choose.randrange(100) for _ in range(count)))
-            pool.keys, pool.shown = bytearray(choose.randrange(2) for _ in range(count)), bytearray(choose.randrange(4) > 0 for _ in range(count))
-            own = range(5, 30)
-            old = views.Timeline(pool, array("I", own), own)
-            for _ in range(6):
-                stream = array("I", old.stream)
-                for _ in range(choose.choice([1, 1, 1, 3])):
-                    at = choose.randrange(len(stream))
-                    choose.choice([lambda: stream.pop(at), lambda: stream.insert(at, choose.randrange(count)), lambda: stream.insert(at, stream.pop()), lambda: stream.insert(len(stream), stream.pop(at))])()
-                found, wanted = views.Timeline(pool, stream, own, old), views.Timeline(pool, stream, own)
-                for name in ("kinds", "sizes", "keys", "frames", "edited"):
-                    self.assertEqual(getattr(found, name), getattr(wanted, name), name)
-                old = found
+        self.serve(SCENES, sources=[SMALL])
+        known = ""
+        for _ in range(12):
+            found = self.members(f"/session?known={known}")["told"]
+            if found is None:
+                # Each edit was refused.
+                continue
+            self.assertEqual(found["files"] is None, bool(known))
+            known = found["name"]
+            self.assertIsNone(self.members(f"/session?known={known}")["told"])
+            self.look("timeline")
+            for _ in range(choose.choice([1, 3])):
+                count = self.members("/session")["packets"]
+                self.post(
+                    choose.choice(
+                        [
+                            f"delete {choose.randrange(count)}",
+                            f"hold {choose.randrange(1, count)}",
+                            f"move {choose.randrange(count)} 0",
+                            f"copy 1 3 {choose.randrange(count)}",
+                            f"replace {choose.randrange(count)} 1000",
+                            "use 1",
+                            "use 0",
+                            "undo",
+                            "redo",
+                            "script trim 0 2 9",
+                        ]
+                    )
+                )
+            looks = ("timeline", "origins", "place")
+            mine = [self.look(what, source=source, packet=5) for what in looks for source in (0, 1)]
+            before, self.speaker = self.speaker, None
+            self.assertEqual([self.look(what, source=source, packet=5) for what in looks for source in (0, 1)], mine)
+            self.speaker = before
+        # Views that were forgotten, and those of another program, are told whole.
+        for old in ("nonsense", "12345678-1"):
+            self.assertIsNotNone(self.members(f"/session?known={old}")["told"]["files"])
 
     def test_marks_of_edits(self):
-        own = range(0, 10)
-        for stream, marked in (
-            ([0, 1, 2, 3, 4, 5, 6, 7, 8, 9], []),
-            ([0, 1, 2, 3, 4], []),
-            ([0, 1, 3, 4, 5, 6, 7, 8, 9], [2]),
-            ([1, 2, 3, 4, 5, 6, 7, 8, 9], [0]),
-            ([0, 1, 20, 2, 3, 4, 5, 6, 7, 8, 9], [2]),
-            ([0, 1, 20, 3, 4, 5, 6, 7, 8, 9], [2]),
-            ([0, 1, 20, 21, 4, 5, 6, 7, 8, 9], [2, 3]),
-            ([0, 1, 20, 21, 5, 6, 7, 8, 9], [2, 3, 4]),
-            ([0, 2, 1, 3, 4, 5, 6, 7, 8, 9], [1, 2, 3]),
+        self.serve(SMALL)
+        for lines, marked in (
+            ((), []),
+            (("delete 11", "delete 10"), []),
+            (("delete 2",), [2]),
+            (("delete 0",), [0]),
+            (("insert 2 0 -",), [2]),
+            (("replace 2 -",), [2]),
+            (("replace 2 -", "replace 3 -"), [2, 3]),
+            (("replace 2 -", "replace 3 -", "delete 4"), [2, 3, 4]),
+            (("move 1 2",), [1, 2, 3]),
         ):
-            found = views.edited(array("I", stream), own, 0, len(stream), None)
-            self.assertEqual([place for place, mark in enumerate(found) if mark], marked, stream)
+            if lines:
+                self.step(*lines)
+            self.assertEqual(self.look("timeline")["edits"], marked, lines)
+            if lines:
+                self.change("undo")
 
 
 class Going(PageCase):
@@ -374,20 +565,40 @@ class Going(PageCase):
         self.serve(SCENES, sources=[SMALL])
         keys = [place for place, data in enumerate(packets_of(SCENES)) if ivf.is_key(data)]
         for packet in (0, 1, keys[1], keys[-1], len(packets_of(SCENES)) - 1):
-            after, before = (self.members(f"/key?packet={packet}&step={step}")["packet"] for step in (1, -1))
+            after, before = (self.look("key", packet=packet, step=step)["packet"] for step in (1, -1))
             self.assertEqual(after, next((key for key in keys if key > packet), None), packet)
             self.assertEqual(before, next((key for key in reversed(keys) if key < packet), None), packet)
-        self.assertEqual(self.members("/key?packet=0&source=1")["packet"], next((place for place, data in enumerate(packets_of(SMALL)) if place and ivf.is_key(data)), None))
+        self.assertEqual(
+            self.look("key", packet=0, source=1)["packet"],
+            next((place for place, data in enumerate(packets_of(SMALL)) if place and ivf.is_key(data)), None),
+        )
         # Those of columns, and the one before these: a packet, its number, its frame.
-        for first, count, wanted in ((0, 1024, keys), (17, 1024, [key for key in keys if key >= 16]), (5, 3, [4]), (4, 1, [0, 4]), (len(packets_of(SCENES)), 1, keys[-1:])):
-            self.assertEqual(self.members(f"/timeline?first={first}&count={count}")["keys"], [[key, key, key] for key in wanted], first)
+        for first, count, wanted in (
+            (0, 1024, keys),
+            (17, 1024, [key for key in keys if key >= 16]),
+            (5, 3, [4]),
+            (4, 1, [0, 4]),
+            (len(packets_of(SCENES)), 1, keys[-1:]),
+        ):
+            self.assertEqual(
+                self.look("timeline", first=first, count=count)["keys"], [[key, key, key] for key in wanted], first
+            )
         self.step("delete 0", "delete 0")
         # A number stays that of the packet.
-        self.assertEqual(self.members("/timeline?count=16")["keys"], [[2, 4, 2], [14, 16, 14]])
+        self.assertEqual(self.look("timeline", count=16)["keys"], [[2, 4, 2], [14, 16, 14]])
         self.change("undo")
         self.change("script trim 0 0 10; trim 0 20 5; splice 1 2; source 1; splice 3 4")
-        for frame, before, after in ((0, None, 10), (9, 0, 10), (10, 0, 15), (12, 10, 15), (15, 10, None), (26, 15, None)):
-            self.assertEqual([self.members(f"/cut?frame={frame}&step={step}")["frame"] for step in (-1, 1)], [before, after], frame)
+        for frame, before, after in (
+            (0, None, 10),
+            (9, 0, 10),
+            (10, 0, 15),
+            (12, 10, 15),
+            (15, 10, None),
+            (26, 15, None),
+        ):
+            self.assertEqual(
+                [self.look("cut", frame=frame, step=step)["frame"] for step in (-1, 1)], [before, after], frame
+            )
 
     def test_key_packets_of_columns_of_several_packets(self):
         packets = [bytes(random.Random(place).randbytes(9)) for place in range(3000)]
@@ -395,43 +606,67 @@ class Going(PageCase):
         is_key = [random.Random(place).random() < 0.2 for place in range(len(packets))]
         self.serve(write_packets(self.folder() / "long.ivf", [key if one else inter for one in is_key]))
         for first, per, count in ((0, 2, 1024), (1000, 4, 100), (2990, 8, 1024), (0, 1 << 20, 1024)):
-            found = self.members(f"/timeline?first={first}&per={per}&count={count}")["keys"]
+            found = self.look("timeline", first=first, per=per, count=count)["keys"]
             before = [place for place in range(first) if is_key[place]][-1:]
-            blocks = [range(start, min(len(is_key), first + per * count, start + 16 * per)) for start in range(first, min(len(is_key), first + per * count), 16 * per)]
+            blocks = [
+                range(start, min(len(is_key), first + per * count, start + 16 * per))
+                for start in range(first, min(len(is_key), first + per * count), 16 * per)
+            ]
             last = [[place for place in block if is_key[place]][-1:] for block in blocks]
-            self.assertEqual([packet for packet, _, _ in found], [*before, *(place for one in last for place in one)], (first, per))
+            self.assertEqual(
+                [packet for packet, _, _ in found], [*before, *(place for one in last for place in one)], (first, per)
+            )
 
     def test_the_frames_of_packets(self):
         self.serve(SCENES, sources=[SMALL])
         count = len(packets_of(SCENES))
-        ask = lambda first, end, source=0: [self.members(f"/range?source={source}&first={first}&end={end}")[name] for name in ("first", "end")]  # noqa: E731
-        self.assertEqual([ask(3, 9), ask(0, count), ask(5, 5), ask(0, 3, 1)], [[3, 9], [0, count], [None, None], [None, None]])
+        ask = lambda first, end, source=0: [
+            self.look("range", source=source, first=first, end=end)[name] for name in ("first", "end")
+        ]  # noqa: E731
+        self.assertEqual(
+            [ask(3, 9), ask(0, count), ask(5, 5), ask(0, 3, 1)], [[3, 9], [0, count], [None, None], [None, None]]
+        )
         self.change("script trim 0 5 10; source 1; splice 2 1")
-        self.assertEqual([ask(5, 9), ask(4, 9), ask(14, 16), ask(0, 12, 1), ask(7, 8)], [[12, 16], [12, 16], [21, 22], [0, 12], [14, 15]])
-        for query in (f"first=0&end={count + 1}", "first=5&end=4", "source=2&first=0&end=1"):
-            self.assertEqual(self.ask(f"/range?{query}")[0], 404, query)
+        self.assertEqual(
+            [ask(5, 9), ask(4, 9), ask(14, 16), ask(0, 12, 1), ask(7, 8)],
+            [[12, 16], [12, 16], [21, 22], [0, 12], [14, 15]],
+        )
 
     def test_frames_that_are_served_together(self):
         self.serve(SCENES)
         with self.session(SCENES) as stream:
             wanted = [stream.frame(number).i420() for number in range(8)]
         for first, last in ((0, 0), (0, 7), (3, 5)):
-            status, headers, body = self.ask(f"/frames/{first}-{last}.y4m")
+            status, headers, body = self.post_to("/frames", frames=list(range(first, last + 1)))
             head, *frames = body.split(b"FRAME\n")
-            self.assertEqual((status, headers["ETag"], len(body)), (200, f'"{self.live.instance}-1"', int(headers["Content-Length"])))
+            self.assertEqual(
+                (status, headers["ETag"], len(body)), (200, f'"{self.live.instance}-1"', int(headers["Content-Length"]))
+            )
             self.assertEqual(body[len(head) :], b"".join(b"FRAME\n" + samples for samples in wanted[first : last + 1]))
             self.assertEqual(head, self.ask("/frames/0.y4m")[2].partition(b"FRAME\n")[0])
         self.step("replace 5 1000")
         count = self.members("/session")["frames"]
-        for path, status in (("3-5", 409), ("0-4", 200), (f"{count - 1}-{count}", 404), ("5-3", 400), ("0-8", 400), ("0-x", 404), ("-1-2", 404)):
-            self.assertEqual(self.ask(f"/frames/{path}.y4m")[0], status, path)
+        for numbers, status in (
+            ([3, 4, 5], 409),
+            ([0, 4], 200),
+            ([count - 1, count], 404),
+            ([], 400),
+            (list(range(9)), 400),
+            (["0"], 400),
+            ([-1], 400),
+            ([True], 400),
+            (3, 400),
+        ):
+            self.assertEqual(self.post_to("/frames", frames=numbers)[0], status, numbers)
 
     def test_findings_have_the_key_packet_before_them(self):
         self.serve(self.broken(18))
         found = self.checked()
         self.assertEqual(len(found["groups"]), len(found["findings"]))
         for finding, group in zip(found["findings"], found["groups"]):
-            self.assertEqual(group, None if finding["packet"] is None else 16 if 16 <= finding["packet"] < 32 else group)
+            self.assertEqual(
+                group, None if finding["packet"] is None else 16 if 16 <= finding["packet"] < 32 else group
+            )
 
 
 class Steps(PageCase):
@@ -452,10 +687,18 @@ class Steps(PageCase):
         self.change("delete 2")
         self.change("undo")
         before = (self.members("/session"), (room / "list").read_text(), self.picture("/frames/5.y4m"))
-        for lines in (["delete 3", "hold 4", "delete 99"], ["use 1", "delete 0"], ["script trim 0 0 2", "script trim 9 9 9"], ["nonsense", "delete 0"], ["delete 3", "replace 0 zz"]):
+        for lines in (
+            ["delete 3", "hold 4", "delete 99"],
+            ["use 1", "delete 0"],
+            ["script trim 0 0 2", "script trim 9 9 9"],
+            ["nonsense", "delete 0"],
+            ["delete 3", "replace 0 zz"],
+        ):
             status, _, body = self.post_to("/edits", lines=lines)
             self.assertIn(status, (400, 409), body)
-            self.assertEqual((self.members("/session"), (room / "list").read_text(), self.picture("/frames/5.y4m")), before, lines)
+            self.assertEqual(
+                (self.members("/session"), (room / "list").read_text(), self.picture("/frames/5.y4m")), before, lines
+            )
         # What was undone can still be made again, and the comments are there.
         self.assertEqual(self.change("redo")["reply"], ["delete 2"])
         self.assertTrue((room / "list").read_text().startswith("# a comment\ndelete 1\n"))
@@ -478,7 +721,19 @@ class Steps(PageCase):
 
     def test_bodies(self):
         self.serve()
-        for body in ({"lines": []}, {"lines": "delete 0"}, {"lines": [1]}, {"lines": ["undo"]}, {"lines": ["frame 0"]}, {"lines": ["delete 0\ndelete 0"]}, {"lines": ["delete 0"], "line": "delete 0"}, {"lines": ["delete 0"], "x": 1}, {"lines": ["delete 0"], "revision": True}, {"lines": ["delete 0"], "revision": -1}, {}):
+        for body in (
+            {"lines": []},
+            {"lines": "delete 0"},
+            {"lines": [1]},
+            {"lines": ["undo"]},
+            {"lines": ["frame 0"]},
+            {"lines": ["delete 0\ndelete 0"]},
+            {"lines": ["delete 0"], "line": "delete 0"},
+            {"lines": ["delete 0"], "x": 1},
+            {"lines": ["delete 0"], "revision": True},
+            {"lines": ["delete 0"], "revision": -1},
+            {},
+        ):
             self.assertEqual(self.post_to("/edits", **body)[0], 400, str(body)[:60])
         self.assertEqual(self.post_to("/edits", lines=["delete 0"], revision=9)[0], 412)
         self.assertEqual(self.members("/session")["revision"], 1)
@@ -486,7 +741,11 @@ class Steps(PageCase):
     def test_refusals_as_answers(self):
         self.serve(SCENES)
         self.step("replace 5 1000")
-        for path, status in (("/frames/5.y4m", 409), ("/frames/99.y4m", 404), ("/before/frames/99.y4m", 404), ("/place?source=9", 404)):
+        for path, status in (
+            ("/frames/5.y4m", 409),
+            ("/frames/99.y4m", 404),
+            ("/answer?line=list%200%201&source=9", 404),
+        ):
             plain = self.ask(path)
             self.assertEqual((plain[0], plain[1]["X-Refused"]), (status, None), path)
             found = self.ask(f"{path}{'&' if '?' in path else '?'}refusals=answers")
@@ -500,10 +759,19 @@ class Steps(PageCase):
 
     def test_a_change_needs_the_origin(self):
         self.serve()
-        for path in ("/edits", "/preview"):
-            for headers, status in (({}, 403), ({"Origin": "http://evil.example"}, 403), ({"Origin": self.server.origin, "Content-Type": "text/plain"}, 415)):
-                self.assertEqual(self.ask(path, "POST", {"Content-Type": "application/json", **headers}, '{"lines": ["delete 0"]}')[0], status)
-        for path in ("/session", "/timeline", "/check", "/stream.ivf", "/page/"):
+        for path in ("/edits", "/frames", "/task", "/streams"):
+            for headers, status in (
+                ({}, 403),
+                ({"Origin": "http://evil.example"}, 403),
+                ({"Origin": self.server.origin, "Content-Type": "text/plain"}, 415),
+            ):
+                self.assertEqual(
+                    self.ask(path, "POST", {"Content-Type": "application/json", **headers}, '{"lines": ["delete 0"]}')[
+                        0
+                    ],
+                    status,
+                )
+        for path in ("/session", "/answer", "/progress", "/file/packets", "/page/"):
             self.assertEqual(self.post_to(path, lines=["delete 0"])[0], 405, path)
         self.assertEqual(self.members("/session")["revision"], 1)
 
@@ -511,7 +779,9 @@ class Steps(PageCase):
         self.serve(SCENES)
         with self.live.lock:
             found = []
-            thread = threading.Thread(target=lambda: found.append((self.members("/progress"), self.members("/session"), self.members("/timeline"), self.members("/origins"))))
+            thread = threading.Thread(
+                target=lambda: found.append((self.members("/progress"), self.members("/session?known=")))
+            )
             thread.start()
             thread.join(10 * SLOW)
             self.assertFalse(thread.is_alive())
@@ -521,7 +791,8 @@ class Steps(PageCase):
         self.serve(SCENES, edits=self.folder() / "list")
         self.step("delete 3", "script trim 0 2 30")
         self.change("hold 9")
-        before = {path: self.picture(path) for path in ("/frames/0.y4m", "/frames/5-8.y4m", "/frames/20.y4m")}
+        before = {path: self.picture(path) for path in ("/frames/0.y4m", "/frames/20.y4m")}
+        together, opened = self.post_to("/frames", frames=[5, 6, 7, 8])[2], self.frame(5, before=0)
         tag = self.ask("/frames/0.y4m")[1]["ETag"]
         edits, begun, ended = self.live.session.edits, threading.Event(), threading.Event()
         real = edits.run_step
@@ -541,6 +812,9 @@ class Steps(PageCase):
                         # The frames before the step, and they say so.
                         self.assertEqual(self.picture(path), wanted, path)
                         self.assertEqual(self.ask(path)[1]["ETag"], tag)
+                    self.assertEqual(
+                        (self.post_to("/frames", frames=[5, 6, 7, 8])[2], self.frame(5, before=0)), (together, opened)
+                    )
                 self.assertEqual(self.ask("/frames/30.y4m")[0], 404)
                 self.assertTrue(thread.is_alive())
             finally:
@@ -567,11 +841,33 @@ class Steps(PageCase):
 
     def test_numbers(self):
         self.serve()
-        for path in ("/timeline?per=0", "/timeline?count=0", "/timeline?count=5000", f"/timeline?per={1 << 21}", "/timeline?first=x", "/timeline?x=1", "/origins?from=-1", "/place?packet=x", "/check?from=x", "/session?x=1", "/progress?x=1", "/repairs?packet=x", "/stream.ivf?x=1", "/repair_all?x=1"):
+        for path in ("/session?x=1", "/progress?x=1", "/streams?x=1", "/file/packets?x=1", "/frames/0.y4m?x=1"):
             self.assertEqual(self.ask(path)[0], 400, path)
-        self.assertEqual(self.members(f"/timeline?first={10**17}")["kinds"], "")
-        for path in ("/timeline?source=1", "/place?source=1", "/before/frames/x.y4m", "/before/frames/-1.y4m", f"/before/frames/{'9' * 40}.y4m", "/before/frames", "/before/frames/0.y4m/x"):
+        self.assertEqual(self.look("timeline", first=10**15)["kinds"], "")
+        for path in (
+            "/frames/x.y4m",
+            "/frames/-1.y4m",
+            f"/frames/{'9' * 40}.y4m",
+            "/frames/0-3.y4m",
+            "/file",
+            "/file/",
+            "/file/x",
+            "/file/packets/x",
+            "/file/../edits",
+        ):
             self.assertEqual(self.ask(path)[0], 404, path)
+        for body in (
+            {},
+            {"kind": "x"},
+            {"kind": 3},
+            {"kind": "costs", "x": 1},
+            {"kind": "facts", "numbers": 3},
+            {"kind": "facts", "numbers": [3]},
+            {"kind": "facts", "numbers": [[0, -1]]},
+            {"kind": "facts", "numbers": [[0, 1 << 24]]},
+            {"kind": "check", "lines": "x"},
+        ):
+            self.assertEqual(self.post_to("/task", **body)[0], 400, body)
 
 
 class Saving(PageCase):
@@ -594,7 +890,14 @@ class Saving(PageCase):
         self.live.close()
         self.opened(room)
         found = self.members("/session")
-        self.assertEqual((found["edits"], found["saved"], found["saves"][0]), (["delete 3"], False, {"edited": True, "saved": False, "file": None, "next": str(room / "clip-edited.ivf")}))
+        self.assertEqual(
+            (found["edits"], found["saved"], found["saves"][0]),
+            (
+                ["delete 3"],
+                False,
+                {"edited": True, "saved": False, "file": None, "next": str(room / "clip-edited.ivf")},
+            ),
+        )
         self.save()
         self.assertTrue(self.members("/session")["saved"])
         # Saved is what is in the file.
@@ -626,9 +929,16 @@ class Saving(PageCase):
         room = self.folder()
         self.opened(room)
         self.step("delete 3")
-        with mock.patch("wokureti.tools.files.whole", side_effect=OSError(28, "No space left on device")):
+        with mock.patch("wokureti.base.files.whole", side_effect=OSError(28, "No space left on device")):
             status, _, body = self.post_to("/edits", line="save")
-        self.assertEqual((status, "clip-edited.ivf: No space left on device: not saved, and nothing was written" in json.loads(body)["error"]), (500, True))
+        self.assertEqual(
+            (
+                status,
+                "clip-edited.ivf: No space left on device: not saved, and nothing was written"
+                in json.loads(body)["error"],
+            ),
+            (500, True),
+        )
         self.assertEqual(sorted(path.name for path in room.iterdir()), ["clip.edits"])
         self.assertEqual(self.members("/session")["revision"], 2)
 
@@ -642,7 +952,16 @@ class Saving(PageCase):
 
         # Packets that are held keep the time stamps, and so does an edit at the end.
         self.assertEqual([saved("delete 3"), saved("move 20 3"), saved("copy 0 3 9")], [True] * 3)
-        self.assertEqual([saved(), saved("hold 4", "delete 3"), saved("replace 3 -"), saved("delete 47"), saved("delete 3", keeps_stamps=True)], [False] * 5)
+        self.assertEqual(
+            [
+                saved(),
+                saved("hold 4", "delete 3"),
+                saved("replace 3 -"),
+                saved("delete 47"),
+                saved("delete 3", keeps_stamps=True),
+            ],
+            [False] * 5,
+        )
 
     def test_a_script_is_not_in_the_packets(self):
         room = self.folder()
@@ -664,7 +983,12 @@ class Saving(PageCase):
         self.assertEqual(self.save(source=1), str(room / "second-edited.ivf"))
         self.assertEqual(packets_of(room / "second-edited.ivf"), packets_of(SMALL)[:3] + packets_of(SMALL)[4:])
         self.assertTrue(self.members("/session")["saved"])
-        for body, status in (({"line": "save", "source": 2}, 404), ({"line": "undo", "source": 0}, 400), ({"line": "save", "source": -1}, 400), ({"lines": ["delete 0"], "source": 0}, 400)):
+        for body, status in (
+            ({"line": "save", "source": 2}, 404),
+            ({"line": "undo", "source": 0}, 400),
+            ({"line": "save", "source": -1}, 400),
+            ({"lines": ["delete 0"], "source": 0}, 400),
+        ):
             self.assertEqual(self.post_to("/edits", **body)[0], status, body)
 
     def test_edits_that_are_not_on_the_disk_are_marked(self):
@@ -674,7 +998,9 @@ class Saving(PageCase):
         with mock.patch("wokureti.session.edit_files.EditFile.write", side_effect=OSError(28, "full")):
             self.assertEqual(self.post_to("/edits", lines=["delete 0", "delete 0"])[0], 500)
         found = self.members("/session")
-        self.assertEqual((found["edits"], found["unwritten"], found["revision"]), (["delete 3", "delete 0", "delete 0"], 2, 3))
+        self.assertEqual(
+            (found["edits"], found["unwritten"], found["revision"]), (["delete 3", "delete 0", "delete 0"], 2, 3)
+        )
         self.change("delete 1")
         self.assertEqual(self.members("/session")["unwritten"], 0)
         self.assertEqual(list_of(room / "clip.edits"), "delete 3\n# step 2\ndelete 0\ndelete 0\ndelete 1\n")
@@ -682,14 +1008,18 @@ class Saving(PageCase):
 
 class Pasting(PageCase):
     def remember(self, first, count, source=0):
-        found = self.members(f"/numbers?source={source}&first={first}&count={count}")
+        found = self.look("numbers", source=source, first=first, count=count)
         return {"contents": found["contents"], "numbers": found["numbers"]}
 
-    def paste(self, board, at, source=0, move=False, status=200, **more):
-        body = {**board, "at": at, "source": source, "move": move, "revision": self.members("/session")["revision"], **more}
-        found, _, text = self.post_to("/paste", **body)
-        self.assertEqual(found, status, text)
-        return json.loads(text)
+    def paste(self, board, at, source=0, move=False, **more):
+        """What the engine answers to a paste, without the state after it."""
+        self.engine("state")
+        page = {"source": source, "packet": 0, "tiles": []}
+        found = self.engine(
+            "paste",
+            {**board, "at": at, "source": source, "move": move, "revision": self.live.revision, "page": page, **more},
+        )
+        return {name: value for name, value in found.items() if name not in ("session", "place", "tiles", "reply")}
 
     def stream(self, source=0):
         with self.live.lock:
@@ -701,7 +1031,9 @@ class Pasting(PageCase):
         self.serve(SCENES)
         board = self.remember(30, 3)
         self.change("delete 2")
-        self.assertEqual(self.paste(board, 10), {"revision": 3, "changes": 3, "first": 10, "count": 3, "deleted": 0, "made": 3})
+        self.assertEqual(
+            self.paste(board, 10), {"revision": 3, "changes": 3, "first": 10, "count": 3, "deleted": 0, "made": 3}
+        )
         self.assertEqual(self.stream(), [*packets[:2], *packets[3:11], *packets[30:33], *packets[11:]])
         self.assertEqual(self.members("/session")["edits"][1:], ["copy 0 29 10", "copy 0 31 11", "copy 0 33 12"])
         # One step, and it can be pasted again.
@@ -757,15 +1089,23 @@ class Pasting(PageCase):
         self.serve(SCENES, sources=[SMALL])
         count = len(packets_of(SCENES))
         board = self.remember(3, 2)
-        for path in (f"first={count}&count=1", "first=0&count=0", f"first=0&count={count + 1}", "source=2&first=0&count=1"):
-            self.assertEqual(self.ask(f"/numbers?{path}")[0], 404, path)
-        self.paste(board, count + 1, status=404)
-        self.paste(board, 0, source=2, status=404)
-        self.paste(board, 0, revision=9, status=412)
-        for numbers in ([[1]], [[1, "2"]], [[-1, 1]], [[0, 1 << 31]], [1], [[True, 1]]):
-            self.paste({**board, "numbers": numbers}, 0, status=400)
-        self.paste({**board, "numbers": [[1 << 30, 1]]}, 0, status=409)
-        self.assertEqual(self.members("/session")["revision"], 1)
+        self.assertEqual(self.paste(board, count + 1)["status"], 409)
+        self.assertEqual(self.paste(board, 0, revision=9)["status"], 412)
+        self.assertIn("at most 1048576 packets", self.paste({**board, "numbers": [[0, 1 << 21]]}, 0)["error"])
+        for number in (count + 12, 1 << 29):
+            self.assertIn("gone", self.paste({**board, "numbers": [[number, 1]]}, 0)["error"])
+        for line, status in (
+            ("insert 0 #0", 200),
+            ("insert 0 #x", 409),
+            ("insert 0 #-1", 409),
+            ("insert 0 #", 409),
+            ("replace 0 #0", 409),
+            ("delete #0", 409),
+        ):
+            self.assertEqual(self.post_to("/edits", lines=[line], contents=board["contents"])[0], status, line)
+        self.change("undo")
+        self.assertEqual(self.stream()[:3], packets_of(SCENES)[:3])
+        self.assertEqual(self.members("/session")["revision"], 3)
 
     def test_copies_of_packets_that_the_program_forgot(self):
         self.serve(SCENES, edits=self.folder() / "list")
@@ -774,7 +1114,7 @@ class Pasting(PageCase):
         with mock.patch("sys.stderr"):
             crash(self.live.session)
             self.assertEqual(self.ask("/frames/2.y4m")[0], 200)
-        self.assertIn("gone", self.paste(made, 0, status=409)["error"])
+        self.assertIn("gone", self.paste(made, 0)["error"])
         self.paste(own, 0)
         self.assertEqual(self.stream()[0], packets_of(SCENES)[20])
 
@@ -787,9 +1127,12 @@ class Checks(PageCase):
         wanted = check_of(path)
         found = self.checked()
         self.assertEqual(found["findings"], wanted)
-        self.assertEqual((found["damage"], found["notes"]), (sum(one["severity"] == "damage" for one in wanted), sum(one["severity"] == "note" for one in wanted)))
+        self.assertEqual(
+            (found["damage"], found["notes"]),
+            (sum(one["severity"] == "damage" for one in wanted), sum(one["severity"] == "note" for one in wanted)),
+        )
         self.assertGreater(found["damage"], 0)
-        self.assertEqual(self.members("/check?from=1")["findings"], wanted[1:])
+        self.assertEqual(self.found(1)["findings"], wanted[1:])
         self.change("replace 5 -")
         self.change("save")
         other = self.checked()
@@ -816,24 +1159,29 @@ class Checks(PageCase):
         self.serve("-")
         found = self.members("/session")
         self.assertEqual((found["packets"], found["frames"]), (0, 0))
-        self.assertEqual(self.members("/timeline")["kinds"], "")
+        self.assertEqual(self.look("timeline")["kinds"], "")
         self.assertEqual(self.checked()["damage"], 0)
         self.step("blank 0 16 16", "hold 1")
-        self.assertEqual(self.members("/timeline")["kinds"], "ff")
-        self.assertEqual(self.members("/origins")["before"], [None, None])
+        self.assertEqual(self.look("timeline")["kinds"], "ff")
+        self.assertEqual(self.look("origins")["before"], [None, None])
 
     def test_a_check_that_is_stopped_by_edits(self):
         self.serve(SCENES)
         for _ in range(10):
-            self.members("/check")
+            self.found()
             self.step("delete 1")
         self.change("undo")
         self.assertTrue(self.checked()["over"])
 
     def repairs(self, kind):
         finding = next(finding for finding in self.checked()["findings"] if finding["kind"] == kind)
-        numbers = "".join(f"&{name}={finding[name]}" for name in ("packet", "before", "stamp") if isinstance(finding.get(name), int))
-        return self.members(f"/repairs?kind={kind}{numbers}")["repairs"]
+        numbers = {name: finding[name] for name in ("packet", "before", "stamp") if isinstance(finding.get(name), int)}
+        return self.mended(kind=kind, **numbers)
+
+    def mended(self, **finding):
+        """The repairs of a finding."""
+        self.engine("state")
+        return self.engine("task", "repairs", {"finding": finding})["repairs"]
 
     def test_repairs_of_a_refused_packet(self):
         path = self.broken()
@@ -844,7 +1192,7 @@ class Checks(PageCase):
         for repair in repairs:
             if repair["lines"]:
                 self.step(*repair["lines"])
-                texts[repair["name"]] = self.ask("/stream.ivf")[2]
+                texts[repair["name"]] = self.ask("/file/packets")[2]
                 findings = self.checked()["findings"]
                 self.assertNotIn("refused", [finding["kind"] for finding in findings], repair)
                 if repair["name"] in ("second", "hold_all"):
@@ -878,7 +1226,9 @@ class Checks(PageCase):
         repairs = self.repairs("refused")
         self.assertEqual([repair["name"] for repair in repairs], ["remove", "keep"])
         self.step(*repairs[0]["lines"])
-        self.assertEqual([finding["kind"] for finding in self.checked()["findings"] if finding["severity"] == "damage"], [])
+        self.assertEqual(
+            [finding["kind"] for finding in self.checked()["findings"] if finding["severity"] == "damage"], []
+        )
 
     def test_repairs_of_a_hole(self):
         _, packets = ivf.read_packets(SCENES)
@@ -889,15 +1239,18 @@ class Checks(PageCase):
         repairs = self.repairs("breaks_step")
         self.assertEqual([repair["name"] for repair in repairs], ["second", "drop", "keep"])
         # Three packets, and the one before the hole, which lasted as long as the hole.
-        self.assertEqual([line.split(" ")[:2] for line in repairs[1]["lines"]], [["insert", "7"], ["insert", "8"], ["insert", "9"], ["insert", "6"], ["delete", "7"]])
+        self.assertEqual(
+            [line.split(" ")[:2] for line in repairs[1]["lines"]],
+            [["insert", "7"], ["insert", "8"], ["insert", "9"], ["insert", "6"], ["delete", "7"]],
+        )
         room = self.folder()
         self.step(*repairs[1]["lines"])
-        (room / "out.ivf").write_bytes(self.ask("/stream.ivf")[2])
+        (room / "out.ivf").write_bytes(self.ask("/file/packets")[2])
         self.assertEqual([stamp for stamp, _ in ivf.read_packets(room / "out.ivf")[1]], list(range(len(packets))))
         self.change("undo")
         self.assertEqual(repairs[0]["lines"], ["copy 1 7 7", "copy 1 8 8", "copy 1 9 9", "copy 1 6 6", "delete 7"])
         self.step(*repairs[0]["lines"])
-        (room / "out.ivf").write_bytes(self.ask("/stream.ivf")[2])
+        (room / "out.ivf").write_bytes(self.ask("/file/packets")[2])
         self.assertEqual(ivf.read_packets(room / "out.ivf")[1], packets)
 
     def test_repairs_of_a_double_and_of_an_order(self):
@@ -910,7 +1263,7 @@ class Checks(PageCase):
             repairs = self.repairs("comes_twice" if len(others) > len(packets) else "breaks_step")
             self.step(*repairs[0]["lines"])
             room = self.folder()
-            (room / "out.ivf").write_bytes(self.ask("/stream.ivf")[2])
+            (room / "out.ivf").write_bytes(self.ask("/file/packets")[2])
             self.assertEqual(ivf.read_packets(room / "out.ivf")[1], packets)
 
     def test_repairs_of_a_file_that_is_cut_off(self):
@@ -921,7 +1274,7 @@ class Checks(PageCase):
         self.assertEqual([repair["name"] for repair in repairs], ["second", "keep"])
         self.step(*repairs[0]["lines"])
         room = self.folder()
-        (room / "out.ivf").write_bytes(self.ask("/stream.ivf")[2])
+        (room / "out.ivf").write_bytes(self.ask("/file/packets")[2])
         self.assertEqual(packets_of(room / "out.ivf"), packets_of(SCENES))
 
     def test_all_repairs_are_those_of_the_command(self):
@@ -931,15 +1284,15 @@ class Checks(PageCase):
         write_packets(path, packets)
         for second in ((), (SCENES,), (ODD,)):
             self.serve(path, sources=second)
-            found = self.members("/repair_all")
+            found = self.task("repair_all")
             self.assertTrue(found["lines"])
-            before = self.ask("/stream.ivf")[2]
+            before = self.ask("/file/packets")[2]
             self.step(*found["lines"])
             room = self.folder()
             words = ["--second", second[0]] if second == (SCENES,) else []
             status, out, errors = command("repair", path, room / "out.ivf", "--no-scan", "-y", *words)
             self.assertEqual((status, errors), (1, ""))
-            (room / "mine.ivf").write_bytes(self.ask("/stream.ivf")[2])
+            (room / "mine.ivf").write_bytes(self.ask("/file/packets")[2])
             self.assertEqual(packets_of(room / "mine.ivf"), packets_of(room / "out.ivf"))
             if second == (SCENES,):
                 # No packet of the second recording is sent as HEX.
@@ -947,21 +1300,32 @@ class Checks(PageCase):
                 self.assertLess(max(map(len, found["lines"])), 60)
             self.assertEqual(out.decode().splitlines()[: len(found["said"])], found["said"])
             self.change("undo")
-            self.assertEqual(self.ask("/stream.ivf")[2], before)
+            self.assertEqual(self.ask("/file/packets")[2], before)
         self.serve("-")
-        self.assertEqual(self.ask("/repair_all")[0], 409)
+        self.assertEqual(self.post_to("/task", kind="repair_all")[0], 409)
 
     def test_repairs_of_what_is_not_there(self):
         self.serve(self.broken())
-        self.assertEqual(self.ask("/repairs?kind=refused&packet=999")[0], 404)
-        for query in ("kind=refused&packet=x", "kind=stamp_skips&packet=5", "x=1"):
-            self.assertEqual(self.ask(f"/repairs?{query}")[0], 400, query)
-        for query in ("kind=nonsense&packet=5", "kind=no_rate", "kind=refused"):
-            self.assertEqual([repair["name"] for repair in self.members(f"/repairs?{query}")["repairs"]], ["keep"])
+        for finding in (
+            {"kind": "nonsense", "packet": 5},
+            {"kind": "no_rate"},
+            {"kind": "refused"},
+            {"kind": "refused", "packet": 999},
+        ):
+            self.assertEqual([repair["name"] for repair in self.mended(**finding)], ["keep"])
+        name = self.live.contents().name
+        for body, status in (
+            ({"numbers": [[0, 3]]}, 412),
+            ({"numbers": [[0, 3]], "contents": "nonsense"}, 412),
+            ({"numbers": [[1 << 20, 1]], "contents": name}, 412),
+            ({"numbers": [[0, 3]], "contents": name}, 200),
+        ):
+            self.assertEqual(self.post_to("/task", kind="facts", **body)[0], status, body)
+
 
 class Previews(PageCase):
-    def preview(self, **body):
-        return self.post_to("/preview", **body)
+    def preview(self, frame, **body):
+        return self.post_to("/frames", frames=[frame], **body)
 
     def test_a_preview_changes_nothing(self):
         room = self.folder()
@@ -976,47 +1340,60 @@ class Previews(PageCase):
                     wanted = other.frame(8).i420()
                 except Refused as refused:
                     wanted = refused.reply
-            status, _, body = self.preview(lines=lines, frame=8)
+            status, _, body = self.preview(8, lines=lines)
             if isinstance(wanted, str):
                 self.assertEqual((status, json.loads(body)["reply"]), (409, wanted))
             else:
                 self.assertEqual((status, body.partition(b"\nFRAME\n")[2] == wanted), (200, True), lines)
-            self.assertEqual((self.members("/session"), (room / "list").read_text(), self.picture("/frames/8.y4m")), before)
+            self.assertEqual(
+                (self.members("/session"), (room / "list").read_text(), self.picture("/frames/8.y4m")), before
+            )
         # It follows the edits that are made, and those that are undone.
         self.change("undo")
         with self.session(SCENES) as other:
             other.hold(6)
             wanted = other.frame(9).i420()
-        self.assertEqual(self.preview(lines=["hold 6"], frame=9)[2].partition(b"\nFRAME\n")[2], wanted)
-        self.assertEqual(self.preview(lines=["delete 99999"], frame=0)[0], 409)
-        self.assertEqual(self.preview(lines=["hold 6"], frame=99999)[0], 404)
-        self.assertEqual(self.preview(lines=["hold 6"], frame=9)[2].partition(b"\nFRAME\n")[2], wanted)
+        self.assertEqual(self.preview(9, lines=["hold 6"])[2].partition(b"\nFRAME\n")[2], wanted)
+        self.assertEqual(self.preview(0, lines=["delete 99999"])[0], 409)
+        self.assertEqual(self.preview(99999, lines=["hold 6"])[0], 404)
+        self.assertEqual(self.preview(9, lines=["hold 6"])[2].partition(b"\nFRAME\n")[2], wanted)
 
-    @unittest.skipUnless(knows("check 0 0"), "this vp8serve is an earlier one, without check FIRST COUNT")
     def test_findings_of_a_preview(self):
         self.serve(self.broken(), sources=[SCENES])
         for lines, kinds in ((["copy 1 5 5", "delete 6"], set()), ([], {"refused"})):
-            status, _, body = self.preview(lines=lines, findings=5)
-            self.assertEqual(status, 200, body)
-            damage = [finding for finding in json.loads(body)["findings"] if finding["severity"] == "damage"]
+            damage = [
+                finding
+                for finding in self.task("check", lines=lines, packet=5)["findings"]
+                if finding["severity"] == "damage"
+            ]
             self.assertEqual({finding["kind"] for finding in damage}, kinds)
             self.assertTrue(all(finding["packet"] == 5 for finding in damage))
 
     def test_bodies(self):
         self.serve()
-        for body in ({}, {"lines": []}, {"lines": ["delete 0"]}, {"frame": 0, "lines": ["undo"]}, {"frame": -1, "lines": []}, {"frame": "0", "lines": []}, {"frame": True, "lines": []}, {"frame": 0, "lines": [], "x": 1}):
-            self.assertEqual(self.preview(**body)[0], 400, body)
-        self.assertEqual(self.preview(lines=[], frame=0, revision=7)[0], 412)
+        for frame, body in (
+            (0, {"lines": ["undo"]}),
+            (-1, {"lines": []}),
+            ("0", {"lines": []}),
+            (True, {"lines": []}),
+            (0, {"lines": [], "x": 1}),
+            (0, {"lines": "delete 0"}),
+        ):
+            self.assertEqual(self.preview(frame, **body)[0], 400, body)
+        self.assertEqual(self.post_to("/frames", lines=[])[0], 400)
+        self.assertEqual(self.preview(0, lines=[], revision=7)[0], 412)
 
 
 class Macroblocks(PageCase):
     def listed(self, option, packet):
         """What vp8list says of a packet of the edited stream, as a file."""
-        status, _, body = self.ask("/stream.ivf")
+        status, _, body = self.ask("/file/packets")
         self.assertEqual(status, 200)
         path = self.folder() / "edited.ivf"
         path.write_bytes(body)
-        done = subprocess.run([programs.find("vp8list"), path, option, str(packet), "--json"], stdout=subprocess.PIPE, check=True)
+        done = subprocess.run(
+            [programs.find("vp8list"), path, option, str(packet), "--json"], stdout=subprocess.PIPE, check=True
+        )
         return [json.loads(line) for line in done.stdout.splitlines()]
 
     def answer(self, word, packet, source=0):
@@ -1041,7 +1418,9 @@ class Macroblocks(PageCase):
     def test_another_source(self):
         self.serve(SMALL, sources=[SCENES])
         found = self.answer("macroblocks", 18, 1)
-        done = subprocess.run([programs.find("vp8list"), SCENES, "--macroblocks", "18", "--json"], stdout=subprocess.PIPE, check=True)
+        done = subprocess.run(
+            [programs.find("vp8list"), SCENES, "--macroblocks", "18", "--json"], stdout=subprocess.PIPE, check=True
+        )
         self.assertEqual(found, [json.loads(line) for line in done.stdout.splitlines()])
 
     def test_packets_without_macroblocks(self):
@@ -1057,9 +1436,25 @@ class Macroblocks(PageCase):
     def test_requests(self):
         self.serve(SMALL)
         count = len(packets_of(SMALL))
-        for path, status in ((f"header%20{count}", 409), ("header%200&source=1", 404), ("header%20x", 409), ("", 400), ("header%200&frame=0", 400), ("list%200%20x", 409)):
+        for path, status in (
+            (f"header%20{count}", 409),
+            ("header%200&source=1", 404),
+            ("header%20x", 409),
+            ("", 400),
+            ("header%200&frame=0", 400),
+            ("list%200%20x", 409),
+        ):
             self.assertEqual(self.ask(f"/answer?line={path}")[0], status, path)
-        for line in ("delete%200", "frame%200", "script%20-", "use%201", "check%200%209", "undo", "header%200%0Adelete%200", "stats"):
+        for line in (
+            "delete%200",
+            "frame%200",
+            "script%20-",
+            "use%201",
+            "check%200%209",
+            "undo",
+            "header%200%0Adelete%200",
+            "stats",
+        ):
             self.assertIn(self.ask(f"/answer?line={line}")[0], (400, 409), line)
         self.assertEqual((self.members("/session")["revision"], self.members("/session")["edits"]), (1, []))
 
@@ -1087,7 +1482,7 @@ class Killed(PageCase):
     def test_the_page_goes_on(self):
         self.serve(SCENES, edits=self.folder() / "list")
         self.step("delete 3", "replace 5 1000")
-        before = {path: self.members(path) for path in ("/timeline", "/origins", "/place?packet=4")}
+        before = {what: self.look(what, packet=4) for what in ("timeline", "origins", "place")}
         kinds = self.members("/session")
         with mock.patch("sys.stderr"):
             crash(self.live.session)
@@ -1095,9 +1490,9 @@ class Killed(PageCase):
         self.await_list()
         found = self.members("/session")
         self.assertEqual({**kinds, "restarts": 1, "changes": kinds["changes"] + 1}, found)
-        for path, members in before.items():
+        for what, members in before.items():
             # Numbers are those of another program.
-            found = self.members(path)
+            found = self.look(what, packet=4)
             self.assertNotEqual(found.pop("contents", ""), members.pop("contents", None))
             self.assertEqual(found, members)
         self.change("undo")
@@ -1105,12 +1500,11 @@ class Killed(PageCase):
 
     def test_the_programs_of_previews_and_of_the_frames_before(self):
         self.serve(SCENES)
-        body = {"lines": ["hold 3"], "frame": 5}
-        wanted = (self.post_to("/preview", **body)[2], self.picture("/before/frames/5.y4m"))
+        wanted = (self.frame(5, lines=["hold 3"]), self.frame(5, before=0))
         with mock.patch("sys.stderr"):
             for live in (self.live.preview.live, self.live.originals[0]):
                 crash(live.session)
-            self.assertEqual((self.post_to("/preview", **body)[2], self.picture("/before/frames/5.y4m")), wanted)
+            self.assertEqual((self.frame(5, lines=["hold 3"]), self.frame(5, before=0)), wanted)
 
     def test_events_say_that_it_was_saved(self):
         self.serve(save=self.folder() / "out.ivf")
@@ -1122,10 +1516,20 @@ class Killed(PageCase):
             told = lambda: [file.readline() for _ in range(3)]  # noqa: E731
             self.assertEqual(told(), [b"event: edit\n", b'data: {"revision": 1, "changes": 1}\n', b"\n"])
             # A page that knows as many changes as an answer or an event has reads nothing again.
-            for line, wanted in (("delete 3", (b"edit", 2, 2)), ("save", (b"saved", 2, 3)), ("undo", (b"edit", 3, 4)), ("save", (b"saved", 3, 5))):
+            for line, wanted in (
+                ("delete 3", (b"edit", 2, 2)),
+                ("save", (b"saved", 2, 3)),
+                ("undo", (b"edit", 3, 4)),
+                ("save", (b"saved", 3, 5)),
+            ):
                 answer = self.change(line)
-                self.assertEqual(told(), [b"event: %b\n" % wanted[0], b'data: {"revision": %d, "changes": %d}\n' % wanted[1:], b"\n"])
-                self.assertEqual((answer["revision"], answer["changes"], self.members("/session")["changes"]), (*wanted[1:], wanted[2]))
+                self.assertEqual(
+                    told(), [b"event: %b\n" % wanted[0], b'data: {"revision": %d, "changes": %d}\n' % wanted[1:], b"\n"]
+                )
+                self.assertEqual(
+                    (answer["revision"], answer["changes"], self.members("/session")["changes"]),
+                    (*wanted[1:], wanted[2]),
+                )
             self.assertEqual(self.change("undo")["changes"], 5)
             with mock.patch("sys.stderr"):
                 crash(self.live.session)
@@ -1136,41 +1540,39 @@ class Killed(PageCase):
 
     def test_the_answer_to_a_change_has_what_the_page_shows(self):
         self.serve(SCENES, sources=[SMALL], save=self.folder() / "out.ivf")
-        page = {"source": 0, "packet": 25, "tiles": [[1, 0], [2, 0]]}
-        board = {**self.members("/numbers?first=3&count=2"), "source": 0, "at": 9, "move": False}
-        board.pop("revision")
-        for body, path in (
-            ({"lines": ["delete 25"], "title": "x"}, "/edits"),
-            ({"lines": ["delete 0"] * 20}, "/edits"),
-            ({"line": "undo"}, "/edits"),
-            ({"line": "redo"}, "/edits"),
-            ({"lines": ["use 1", "delete 0"]}, "/edits"),
-            ({"line": "save", "source": 0}, "/edits"),
-            ({"lines": ["use 0"]}, "/edits"),
-            (board, "/paste"),
-            ({"lines": ["script trim 0 2 3"]}, "/edits"),
-            ({"lines": ["delete 0"] * (len(packets_of(SCENES)) - 18)}, "/edits"),
+        board = {**self.look("numbers", first=3, count=2), "source": 0, "at": 9, "move": False}
+        for lines in (
+            ["delete 25"],
+            ["delete 0"] * 20,
+            "undo",
+            "redo",
+            ["use 1", "delete 0"],
+            "save",
+            ["use 0"],
+            board,
+            ["script trim 0 2 3"],
+            ["delete 0"] * (len(packets_of(SCENES)) - 18),
         ):
-            if path == "/paste":
-                body["revision"] = self.live.revision
-            for one in ({**page, "source": 1, "packet": 2}, page):
-                with self.subTest(body=str(body)[:40], source=one["source"]):
-                    if one is page and "lines" in body:
+            for page in (
+                {"source": 1, "packet": 2, "tiles": [[1, 0], [2, 0]]},
+                {"source": 0, "packet": 25, "tiles": [[1, 0], [2, 0]]},
+            ):
+                with self.subTest(lines=str(lines)[:40], source=page["source"]):
+                    if page["source"] == 0 and isinstance(lines, list):
                         self.change("undo")
-                    if path == "/paste":
-                        body["revision"] = self.live.revision
-                    status, _, text = self.post_to(path, **body, page=one)
-                    self.assertEqual(status, 200, text)
-                    answer, source = json.loads(text), one["source"]
+                    self.engine("state")
+                    if lines == "save":
+                        answer = self.engine("save", 0, page)
+                    elif lines is board:
+                        answer = self.engine("paste", {**board, "revision": self.live.revision, "page": page})
+                    else:
+                        answer = self.engine("ask", lines, {"revision": self.live.revision, "title": "x", "page": page})
+                    source = page["source"]
                     self.assertEqual(answer["session"], self.members("/session"))
-                    packet = max(0, min(one["packet"], answer["session"]["sources"][source] - 1))
-                    self.assertEqual(answer["place"], self.members(f"/place?packet={packet}&source={source}"))
-                    self.assertEqual(answer["tiles"], [self.members(f"/timeline?source={source}&first=0&per={per}&count=1024") for per in (1, 2)])
-        revision = self.live.revision
-        for wrong in ({}, {**page, "x": 1}, {**page, "packet": -1}, {**page, "packet": True}, {**page, "tiles": [[0, 0]]}, {**page, "tiles": [[1]]}, {**page, "tiles": [[1, 0]] * 9}, {**page, "tiles": 3}):
-            self.assertEqual(self.post_to("/edits", lines=["hold 0"], page=wrong)[0], 400, wrong)
-        self.assertEqual(self.post_to("/edits", lines=["hold 0"], page=7)[0], 400)
-        self.assertEqual(self.live.revision, revision)
+                    packet = max(0, min(page["packet"], answer["session"]["sources"][source] - 1))
+                    self.assertEqual(answer["place"], self.look("place", packet=packet, source=source))
+                    self.assertEqual(answer["tiles"], [self.look("timeline", source=source, per=per) for per in (1, 2)])
+        self.assertEqual(self.post_to("/edits", lines=["hold 0"], known=7)[0], 400)
 
     def test_events_have_what_the_check_found(self):
         path = self.broken(9)
@@ -1199,8 +1601,11 @@ class Killed(PageCase):
                 with mock.patch.object(checking, "MOST_TOLD", most):
                     for edit in ("delete 0", "undo"):
                         name, findings, data = told()
-                        whole = self.members("/check")
-                        self.assertEqual((name, findings, data["damage"], data["revision"]), ("edit", whole["findings"], whole["damage"], self.live.revision))
+                        whole = self.found()
+                        self.assertEqual(
+                            (name, findings, data["damage"], data["revision"]),
+                            ("edit", whole["findings"], whole["damage"], self.live.revision),
+                        )
                         self.assertTrue(findings)
                         self.change(edit)
             file.close()
@@ -1246,23 +1651,28 @@ class MoreSources(PageCase):
         return room
 
     def add(self, path):
-        status, _, body = self.post_to("/sources", file=str(path))
+        status, _, body = self.post_to("/streams", file=str(path), **{"as": "source"})
         return status, json.loads(body)
 
     def test_one_is_added(self):
         room = self.opened("delete 3", "hold 5")
-        self.assertEqual(self.members("/files")["files"], [str(room / name) for name in ("broken.ivf", "one.ivf", "two.ivf")])
-        before, revision = self.ask("/stream.ivf")[2], self.members("/session")["revision"]
+        self.assertEqual(
+            self.members("/streams")["files"], [str(room / name) for name in ("broken.ivf", "one.ivf", "two.ivf")]
+        )
+        before, revision = self.ask("/file/packets")[2], self.members("/session")["revision"]
         status, found = self.add(room / "two.ivf")
         self.assertEqual((status, found["source"]), (200, 1))
         self.await_list()
         session = self.members("/session")
-        self.assertEqual((session["names"], session["sources"], session["edits"]), (["one.ivf", "two.ivf"], [12, len(packets_of(ODD))], ["delete 3", "hold 5"]))
+        self.assertEqual(
+            (session["names"], session["sources"], session["edits"]),
+            (["one.ivf", "two.ivf"], [12, len(packets_of(ODD))], ["delete 3", "hold 5"]),
+        )
         self.assertGreater(session["revision"], revision)
-        self.assertEqual(self.ask("/stream.ivf")[2], before)
+        self.assertEqual(self.ask("/file/packets")[2], before)
         self.step("copy 1 0 12", "script source 1")
         self.assertEqual(self.picture("/frames/0.y4m"), frames_of(ODD, [0])[0])
-        self.assertEqual(self.picture("/before/frames/1.y4m?source=1"), frames_of(ODD, [1])[0])
+        self.assertEqual(self.frame(1, before=1), frames_of(ODD, [1])[0])
         self.assertEqual(self.members("/session")["saves"][1]["next"], str(room / "two-edited.ivf"))
         self.change("undo")
         self.change("undo")
@@ -1271,12 +1681,18 @@ class MoreSources(PageCase):
 
     def test_streams_below_the_folder(self):
         room = self.opened()
-        for name in ("sub/deep/three.ivf", "sub/.hidden/four.ivf", ".away/five.ivf", "a/b/c/d/six.ivf", "a/b/c/d/e/seven.ivf"):
+        for name in (
+            "sub/deep/three.ivf",
+            "sub/.hidden/four.ivf",
+            ".away/five.ivf",
+            "a/b/c/d/six.ivf",
+            "a/b/c/d/e/seven.ivf",
+        ):
             (room / name).parent.mkdir(parents=True, exist_ok=True)
             shutil.copy(ODD, room / name)
         os.symlink("/", room / "sub/all")
         found = [room / name for name in ("broken.ivf", "one.ivf", "two.ivf", "a/b/c/d/six.ivf", "sub/deep/three.ivf")]
-        self.assertEqual(self.members("/files")["files"], list(map(str, found)))
+        self.assertEqual(self.members("/streams")["files"], list(map(str, found)))
         status, answer = self.add(found[-1])
         self.assertEqual((status, answer["source"]), (200, 1))
         self.assertEqual(self.add(room / "sub/.hidden/four.ivf")[0], 404)
@@ -1284,7 +1700,7 @@ class MoreSources(PageCase):
     def same(self, path, name=None, digest=None):
         data = path.read_bytes()
         asked = {"name": name or path.name, "size": len(data), "sha256": digest or hashlib.sha256(data).hexdigest()}
-        return self.members(f"/same?{urllib.parse.urlencode(asked)}")["files"]
+        return self.members(f"/streams?{urllib.parse.urlencode(asked)}")["files"]
 
     def test_a_file_that_is_dropped_is_found_by_its_name_and_its_bytes(self):
         room = self.opened()
@@ -1299,11 +1715,17 @@ class MoreSources(PageCase):
         self.assertEqual(self.same(ODD, "two.ivf"), [str(room / "two.ivf"), str(room / "sub/two.ivf")])
         self.assertEqual(self.same(room / "other/two.ivf"), [str(room / "other/two.ivf")])
         self.assertEqual(self.same(ODD, "\N{SNOWMAN} & a.ivf"), [str(room / "sub/\N{SNOWMAN} & a.ivf")])
-        for path, name in ((ODD, "one.ivf"), (ODD, "sub/two.ivf"), (ODD, ""), (SMALL, "notes.txt"), (pathlib.Path("/etc/passwd"), None)):
+        for path, name in (
+            (ODD, "one.ivf"),
+            (ODD, "sub/two.ivf"),
+            (ODD, ""),
+            (SMALL, "notes.txt"),
+            (pathlib.Path("/etc/passwd"), None),
+        ):
             self.assertEqual(self.same(path, name), [], (path, name))
         self.assertEqual(self.same(ODD, "two.ivf", "0" * 64), [])
-        self.assertEqual(self.ask("/same?name=two.ivf&size=x&sha256=0")[0], 400)
-        self.assertEqual(self.members("/same")["files"], [])
+        self.assertEqual(self.ask("/streams?name=two.ivf&size=x&sha256=0")[0], 400)
+        self.assertEqual(self.members("/streams?name=two.ivf")["files"], [])
         # One that cannot be read is none.
         (room / "two.ivf").unlink()
         os.mkfifo(room / "two.ivf")
@@ -1318,7 +1740,15 @@ class MoreSources(PageCase):
 
     def test_what_cannot_be_added(self):
         room = self.opened("delete 3")
-        for path in ("/etc/passwd", room / "notes.txt", room / ".hidden.ivf", room / "folder.ivf", f"{room}/../one.ivf", "two.ivf", ""):
+        for path in (
+            "/etc/passwd",
+            room / "notes.txt",
+            room / ".hidden.ivf",
+            room / "folder.ivf",
+            f"{room}/../one.ivf",
+            "two.ivf",
+            "",
+        ):
             self.assertEqual(self.add(path)[0], 404, path)
         status, found = self.add(room / "broken.ivf")
         self.assertEqual((status, "broken.ivf was not added" in found["error"]), (409, True))
@@ -1330,7 +1760,7 @@ class MoreSources(PageCase):
             self.assertEqual(self.add(room / "two.ivf")[0], 200)
         status, found = self.add(room / "two.ivf")
         self.assertEqual((status, "at most 8 streams" in found["error"]), (409, True))
-        self.assertEqual(self.post_to("/sources", file=3)[0], 400)
+        self.assertEqual(self.post_to("/streams", file=3)[0], 400)
 
 
 class Overwritten(PageCase):
@@ -1352,7 +1782,10 @@ class Overwritten(PageCase):
         for _ in range(4):
             self.change("undo")
         self.assertEqual(self.members("/edits")["edits"], [])
-        self.assertEqual([self.live.session.ask(f"packet {n}").split()[2] for n in range(12)], [data.hex() for data in packets_of(SMALL)])
+        self.assertEqual(
+            [self.live.session.ask(f"packet {n}").split()[2] for n in range(12)],
+            [data.hex() for data in packets_of(SMALL)],
+        )
         self.assertEqual(self.ask("/frames/11.i420")[2], before)
         for _ in range(4):
             self.change("redo")
@@ -1409,7 +1842,9 @@ class TheCommand(Case):
     def test_a_list_names_its_sources(self):
         room = self.folder()
         (room / "in").mkdir()
-        clip, other = write_packets(room / "in/a.ivf", packets_of(SMALL)), write_packets(room / "in/b \"ü.ivf", packets_of(ODD))
+        clip, other = write_packets(room / "in/a.ivf", packets_of(SMALL)), write_packets(
+            room / 'in/b "ü.ivf', packets_of(ODD)
+        )
         process, host, token = self.open(clip, "--source", other)
         self.assertEqual(self.ask(host, f"/{token}/edits", "script source 1; splice 0 1")[0], 200)
         self.end(process)
@@ -1418,7 +1853,10 @@ class TheCommand(Case):
         clip, other = room / "moved/a.ivf", room / "moved" / other.name
         process, host, token = self.open(clip)
         found = json.loads(self.ask(host, f"/{token}/session")[1])
-        self.assertEqual((found["names"], found["sources"], found["script"]), (["a.ivf", other.name], [12, len(packets_of(ODD))], "source 1; splice 0 1"))
+        self.assertEqual(
+            (found["names"], found["sources"], found["script"]),
+            (["a.ivf", other.name], [12, len(packets_of(ODD))], "source 1; splice 0 1"),
+        )
         self.end(process)
         # One that is missing is named, and so is another one in its place.
         os.rename(other, room / "elsewhere.ivf")
@@ -1434,7 +1872,9 @@ class TheCommand(Case):
         # A list as an earlier version wrote it.
         (room / "moved/a.edits").write_text("script source 1; splice 0 1\n")
         status, _, errors = command("open", clip, "--no-browser")
-        self.assertEqual((status, "name it with --source" in errors, "not of this stream" in errors), (2, True, False), errors)
+        self.assertEqual(
+            (status, "name it with --source" in errors, "not of this stream" in errors), (2, True, False), errors
+        )
 
     def test_it_saves_to_a_new_file(self):
         room = self.folder()
@@ -1460,20 +1900,29 @@ class TheCommand(Case):
             other.save(room / "plain.ivf")
             other.save(room / "padded.ivf", pad=True)
         self.assertEqual((room / "out.ivf").read_bytes(), (room / "padded.ivf").read_bytes())
-        process, host, token = self.open(clip, "--edits", room / "list", "--save", room / "out.ivf", "--no-pad", "--keep-stamps")
+        process, host, token = self.open(
+            clip, "--edits", room / "list", "--save", room / "out.ivf", "--no-pad", "--keep-stamps"
+        )
         self.ask(host, f"/{token}/edits", "save")
         self.end(process)
         self.assertEqual((room / "out.ivf").read_bytes(), (room / "plain.ivf").read_bytes())
 
     def test_another_stream_on_a_page_of_its_own(self):
         room = self.folder()
-        clip, other = (write_packets(room / f"{name}.ivf", packets_of(path)) for name, path in (("clip", SMALL), ("other", ODD)))
+        clip, other = (
+            write_packets(room / f"{name}.ivf", packets_of(path)) for name, path in (("clip", SMALL), ("other", ODD))
+        )
         (room / "broken.ivf").write_text("no stream")
         process, host, token = self.open(clip)
 
         def page_of(path):
             one = http.client.HTTPConnection(host, timeout=20 * SLOW)
-            one.request("POST", f"/{token}/pages", json.dumps({"file": str(path)}), {"Origin": f"http://{host}", "Content-Type": "application/json"})
+            one.request(
+                "POST",
+                f"/{token}/streams",
+                json.dumps({"file": str(path), "as": "page"}),
+                {"Origin": f"http://{host}", "Content-Type": "application/json"},
+            )
             response = one.getresponse()
             body = response.read()
             one.close()
@@ -1486,7 +1935,11 @@ class TheCommand(Case):
         self.assertEqual(json.loads(self.ask(theirs, f"/{word}/session")[1])["names"], ["other.ivf"])
         self.assertEqual(self.ask(theirs, f"/{word}/edits", "delete 3")[0], 200)
         # One that is open has its list already, and one that is none says so.
-        for path, status, said in ((other, 409, "another session"), (room / "broken.ivf", 409, "broken.ivf"), ("/etc/passwd", 404, "no such stream")):
+        for path, status, said in (
+            (other, 409, "another session"),
+            (room / "broken.ivf", 409, "broken.ivf"),
+            ("/etc/passwd", 404, "no such stream"),
+        ):
             found = page_of(path)
             self.assertEqual((found[0], said in found[1]["error"]), (status, True), found)
         children = children_of(process.pid)
@@ -1502,7 +1955,9 @@ class TheCommand(Case):
         os.link(other, room / "link.ivf")
         for name in ("open", "serve"):
             for save in (clip, room / "link.ivf"):
-                status, out, errors = command(name, clip, "--source", other, "--save", save, *(["--no-browser"] * (name == "open")))
+                status, out, errors = command(
+                    name, clip, "--source", other, "--save", save, *(["--no-browser"] * (name == "open"))
+                )
                 self.assertEqual((status, out), (2, b""))
                 self.assertIn("which is only read here: name another file", errors)
         self.assertEqual(packets_of(clip), packets_of(SMALL))
@@ -1521,14 +1976,21 @@ class TheCommand(Case):
             self.assertEqual(again, address)
             self.end(process)
             kept = {path.name: path.stat() for path in (room / "state/wokureti/pages").iterdir()}
-            self.assertEqual(([found.st_mode & 0o777 for found in kept.values()], (room / "state/wokureti").stat().st_mode & 0o777), ([0o600, 0o600], 0o700))
+            self.assertEqual(
+                ([found.st_mode & 0o777 for found in kept.values()], (room / "state/wokureti").stat().st_mode & 0o777),
+                ([0o600, 0o600], 0o700),
+            )
             self.end(process_of_other)
             # A port that another program has by now, a file that others may read, and one that is older than a day.
             with socket.create_server(("127.0.0.1", int(address[0].rpartition(":")[2]))):
                 process, *another = self.open(clip)
                 self.assertNotEqual(another, address)
                 self.end(process)
-            for change in (lambda path: path.chmod(0o640), lambda path: os.utime(path, (time.time() - 25 * 3600,) * 2), lambda path: path.write_text("{}")):
+            for change in (
+                lambda path: path.chmod(0o640),
+                lambda path: os.utime(path, (time.time() - 25 * 3600,) * 2),
+                lambda path: path.write_text("{}"),
+            ):
                 for path in (room / "state/wokureti/pages").iterdir():
                     change(path)
                 process, *found = self.open(clip)
@@ -1543,12 +2005,20 @@ class TheCommand(Case):
         self.ask(host, f"/{token}/edits", "delete 3")
         self.assertEqual((room / "clip.edits").stat().st_mode & 0o777, 0o600)
         # A forwarded port has another Host: the refusal names the address.
-        said = f"this address is not http://{host}/, where the server is: open that. With ssh, forward the same port, and open that: ssh -L {host.rpartition(':')[2]}:{host} MACHINE"
-        for headers, kind, text in (({}, "application/json", json.dumps({"error": said})), ({"Sec-Fetch-Dest": "document"}, "text/plain; charset=utf-8", f"Wokureti: {said}")):
+        said = (
+            f"this address is not http://{host}/, where the server is: open that. With ssh, forward the same port, and"
+            f" open that: ssh -L {host.rpartition(':')[2]}:{host} MACHINE"
+        )
+        for headers, kind, text in (
+            ({}, "application/json", json.dumps({"error": said})),
+            ({"Sec-Fetch-Dest": "document"}, "text/plain; charset=utf-8", f"Wokureti: {said}"),
+        ):
             one = http.client.HTTPConnection(host, timeout=10 * SLOW)
             one.request("GET", f"/{token}/page/", headers={"Host": "127.0.0.1:1", **headers})
             response = one.getresponse()
-            self.assertEqual((response.status, response.headers["Content-Type"], response.read().decode()), (421, kind, f"{text}\n"))
+            self.assertEqual(
+                (response.status, response.headers["Content-Type"], response.read().decode()), (421, kind, f"{text}\n")
+            )
             one.close()
         self.end(process)
 
@@ -1578,20 +2048,27 @@ class TheCommand(Case):
         one.close()
 
     def test_names_beside(self):
-        from wokureti.page.opening import stem_of
         from wokureti.server.saves import claimed, free_name
+        from wokureti.page.opening import stem_of
 
         room = self.folder()
-        self.assertEqual([stem_of(path) for path in (f"{room}/clip.webm", "-", "/dev/fd/5")], [f"{room}/clip", "stream", "5"])
+        self.assertEqual(
+            [stem_of(path) for path in (f"{room}/clip.webm", "-", "/dev/fd/5")], [f"{room}/clip", "stream", "5"]
+        )
         (room / "a-edited.ivf").write_text("")
         os.symlink(room / "gone", room / "a-edited-2.ivf")
-        self.assertEqual((free_name(f"{room}/a"), claimed(f"{room}/a"), claimed(f"{room}/a")), (f"{room}/a-edited-3.ivf", f"{room}/a-edited-3.ivf", f"{room}/a-edited-4.ivf"))
+        self.assertEqual(
+            (free_name(f"{room}/a"), claimed(f"{room}/a"), claimed(f"{room}/a")),
+            (f"{room}/a-edited-3.ivf", f"{room}/a-edited-3.ivf", f"{room}/a-edited-4.ivf"),
+        )
 
     def test_a_folder_that_cannot_be_written(self):
         from wokureti.page import opening
 
         room = self.folder()
-        with mock.patch.object(system, "is_writable", return_value=False), mock.patch.dict(os.environ, {"XDG_STATE_HOME": str(room / "state")}):
+        with mock.patch.object(system, "is_writable", return_value=False), mock.patch.dict(
+            os.environ, {"XDG_STATE_HOME": str(room / "state")}
+        ):
             one, other = (opening.stem_of(f"/media/{name}/clip.ivf") for name in ("one", "other"))
         self.assertEqual([os.path.dirname(stem) for stem in (one, other)], [str(room / "state/wokureti")] * 2)
         self.assertNotEqual(one, other)
@@ -1611,7 +2088,13 @@ class TheCommand(Case):
         browser = room / "browser"
         browser.write_text('#!/bin/sh\necho "$@" > "$0.words"\n')
         browser.chmod(0o755)
-        process = start("open", clip, stdout=subprocess.PIPE, stderr=subprocess.PIPE, env={"DISPLAY": ":99", "BROWSER": str(browser), "TMPDIR": str(room)})
+        process = start(
+            "open",
+            clip,
+            stdout=subprocess.PIPE,
+            stderr=subprocess.PIPE,
+            env={"DISPLAY": ":99", "BROWSER": str(browser), "TMPDIR": str(room)},
+        )
         self.addCleanup(process.kill)
         url = process.stdout.readline().decode().strip()
         limit = time.monotonic() + 10 * SLOW
@@ -1625,7 +2108,13 @@ class TheCommand(Case):
         self.assertEqual((door.stat().st_mode & 0o777, f"url={url}" in door.read_text()), (0o600, True))
         # The door is of no site; the page opens from there, and nothing else does.
         site = {"Sec-Fetch-Site": "cross-site", "Sec-Fetch-Mode": "navigate", "Sec-Fetch-Dest": "document"}
-        for path, headers, status in (("page/", site, 200), ("page/main.js", site, 403), ("session", site, 403), ("page/", {**site, "Sec-Fetch-Dest": "iframe"}, 403), ("page/", {**site, "Sec-Fetch-Mode": "no-cors"}, 403)):
+        for path, headers, status in (
+            ("page/", site, 200),
+            ("page/main.js", site, 403),
+            ("session", site, 403),
+            ("page/", {**site, "Sec-Fetch-Dest": "iframe"}, 403),
+            ("page/", {**site, "Sec-Fetch-Mode": "no-cors"}, 403),
+        ):
             one = http.client.HTTPConnection(url.split("/")[2], timeout=10 * SLOW)
             one.request("GET", f"/{token}/{path}", headers=headers)
             self.assertEqual(one.getresponse().status, status, path)
@@ -1645,7 +2134,9 @@ class TheCommand(Case):
         room = self.folder()
         clip = write_packets(room / "clip.ivf", packets_of(SMALL))
         for turn in range(4):
-            both = [start("open", clip, "--no-browser", stdout=subprocess.PIPE, stderr=subprocess.PIPE) for _ in range(2)]
+            both = [
+                start("open", clip, "--no-browser", stdout=subprocess.PIPE, stderr=subprocess.PIPE) for _ in range(2)
+            ]
             for process in both:
                 self.addCleanup(process.kill)
             found = {process: process.stdout.readline().decode().strip() for process in both}
@@ -1677,13 +2168,21 @@ class Scripts(PageCase):
             script = Script()
             for _ in range(choose.randrange(1, 6)):
                 node, last = choose.randrange(script.last + 1), script.last
-                choose.choice([lambda: script.source(choose.randrange(2)), lambda: script.trim(node, choose.randrange(8), choose.randrange(1, 9)), lambda: script.splice(node, last)])()
+                choose.choice(
+                    [
+                        lambda: script.source(choose.randrange(2)),
+                        lambda: script.trim(node, choose.randrange(8), choose.randrange(1, 9)),
+                        lambda: script.splice(node, last),
+                    ]
+                )()
             self.change(f"script {script}")
-            session, found = self.members("/session"), self.members("/origins?count=4000")
+            session, found = self.members("/session"), self.look("origins", count=4000)
             self.assertEqual(session["frames"], self.members("/")["frames"], str(script))
             self.assertEqual(len(found["packets"]), min(4000, session["frames"]))
             for frame in choose.sample(range(session["frames"]), min(6, session["frames"])):
-                self.assertEqual(self.picture(f"/frames/{frame}.y4m"), wanted[found["packets"][frame]], (str(script), frame))
+                self.assertEqual(
+                    self.picture(f"/frames/{frame}.y4m"), wanted[found["packets"][frame]], (str(script), frame)
+                )
 
 
 if __name__ == "__main__":

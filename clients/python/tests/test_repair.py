@@ -12,7 +12,9 @@ from unittest import mock
 
 from support import DATA, ODD, SLOW, SMALL, TOP, Case, command, packets_of, serve, start_python, write_packets
 from wokureti import commands
-from wokureti.tools import ivf, programs, repair, salvage
+from wokureti.base import programs
+from wokureti.media import ivf, salvage
+from wokureti.tools import repair
 from wokureti.tools.differences import edits_between
 
 CHECKS = TOP / "crates/gate_checks/data"
@@ -54,7 +56,9 @@ class RepairCase(Case):
         packets = ivf.read_packets(out)[1]
         # The same with a list of edits, which makes the same packets.
         if salvage.plain(data) is not None:
-            self.assertEqual(command("repair", self.room / "in.ivf", out, "-y", "--edits", edits, *words)[:2], (status, text))
+            self.assertEqual(
+                command("repair", self.room / "in.ivf", out, "-y", "--edits", edits, *words)[:2], (status, text)
+            )
             serve(self.room / "in.ivf", edits.read_text().splitlines(), "--save", self.room / "edited.ivf")
             self.assertEqual(ivf.read_packets(self.room / "edited.ivf")[1], packets)
         lines = text.decode().splitlines()
@@ -87,7 +91,13 @@ class Refused(RepairCase):
         place = key + 3
         self.packets[place] = (place, BROKEN)
         status, lines, packets = self.run_it(text_of(self.packets))
-        self.assertEqual(lines, [f"packets {place} to {end - 1}: refused ShortPacket, {end - place - 1} packets lost: the picture before is held"])
+        self.assertEqual(
+            lines,
+            [
+                f"packets {place} to {end - 1}: refused ShortPacket, {end - place - 1} packets lost: the picture before"
+                " is held"
+            ],
+        )
         self.assertEqual((status, packets[:place], packets[end:]), (1, self.packets[:place], self.packets[end:]))
         self.assertEqual([stamp for stamp, _ in packets], list(range(100)))
         self.assertEqual(len({data for _, data in packets[place:end]}), 1)
@@ -104,21 +114,32 @@ class Refused(RepairCase):
         data[3] = 0
         self.packets[key] = (key, bytes(data))
         status, lines, packets = self.run_it(text_of(self.packets))
-        self.assertEqual((status, lines), (1, [f"packets {key} to {end - 1}: refused StartCode, {end - key - 1} packets lost: the picture before is held"]))
+        self.assertEqual(
+            (status, lines),
+            (
+                1,
+                [
+                    f"packets {key} to {end - 1}: refused StartCode, {end - key - 1} packets lost: the picture before"
+                    " is held"
+                ],
+            ),
+        )
         self.assertEqual((packets[:key], packets[end:]), (self.packets[:key], self.packets[end:]))
 
     def test_the_beginning(self):
         key = self.keys[1]
         status, lines, packets = self.run_it(text_of(self.packets[3:]))
-        self.assertEqual((status, lines, packets), (1, [f"packets 0 to {key - 4}: no key frame before: removed"], self.packets[key:]))
+        self.assertEqual(
+            (status, lines, packets), (1, [f"packets 0 to {key - 4}: no key frame before: removed"], self.packets[key:])
+        )
 
     def test_left_as_they_are(self):
         self.packets[50] = (50, BROKEN)
         status, lines, packets = self.run_it(text_of(self.packets), "--no-hold")
-        self.assertEqual((status, lines, packets), (2, ["packet 50: refused ShortPacket: not mended"], self.packets))
+        self.assertEqual((status, lines, packets), (2, ["packet 50: refused ShortPacket: not repaired"], self.packets))
         status, lines, packets = self.run_it((CHECKS / "inside.ivf").read_bytes())
         self.assertEqual((status, packets), (2, ivf.read_packets(CHECKS / "inside.ivf")[1]))
-        self.assertIn("not mended", lines[0])
+        self.assertIn("not repaired", lines[0])
 
     def test_a_lost_packet(self):
         status, lines, packets = self.run_it((CHECKS / "lost.ivf").read_bytes())
@@ -130,16 +151,22 @@ class Order(RepairCase):
     def test_packets_that_are_there_twice(self):
         packets = self.packets[:31] + self.packets[30:50] + [self.packets[45]] + self.packets[50:]
         status, lines, found = self.run_it(text_of(packets))
-        self.assertEqual((status, lines, found), (1, ["packet 31: packet 30 again: removed", "packet 51: packet 46 again: removed"], self.packets))
+        self.assertEqual(
+            (status, lines, found),
+            (1, ["packet 31: packet 30 again: removed", "packet 51: packet 46 again: removed"], self.packets),
+        )
         status, lines, found = self.run_it(text_of(packets), "--no-double", "--no-sort", "--no-hold")
-        self.assertEqual((found, [line for line in lines if "not mended" not in line]), (packets, []))
+        self.assertEqual((found, [line for line in lines if "not repaired" not in line]), (packets, []))
 
     def test_packets_out_of_order(self):
         packets = list(self.packets)
         packets.insert(20, packets.pop(23))
         packets.insert(70, packets.pop(66))
         status, lines, found = self.run_it(text_of(packets))
-        self.assertEqual((status, lines, found), (1, ["packet 20: time stamp 23: moved to 23", "packet 70: time stamp 66: moved to 66"], self.packets))
+        self.assertEqual(
+            (status, lines, found),
+            (1, ["packet 20: time stamp 23: moved to 23", "packet 70: time stamp 66: moved to 66"], self.packets),
+        )
         self.assertEqual(self.run_it(text_of(packets), "--no-sort", "--no-hold")[2], packets)
 
     def test_time_stamps_that_say_nothing(self):
@@ -147,7 +174,10 @@ class Order(RepairCase):
         packets = list(self.packets)
         packets[20] = (5, packets[20][1])
         lines = ["packet 20: time stamp 5 is another packet's too: it stays"]
-        lines += ["packet 20: time stamp 5 follows 19: not mended", "packet 21: time stamp 21 follows 5: not mended"]
+        lines += [
+            "packet 20: time stamp 5 follows 19: not repaired",
+            "packet 21: time stamp 21 follows 5: not repaired",
+        ]
         self.assertEqual(self.run_it(text_of(packets)), (2, lines, packets))
         hold = serve_hold(32, 32)
         packets = self.packets[:50] + 5 * [(49, hold)] + 3 * [(49, b"")] + self.packets[50:]
@@ -157,11 +187,13 @@ class Order(RepairCase):
         later = [(stamp + 1000, data) for stamp, data in self.packets]
         joined = later + self.packets
         status, lines, found = self.run_it(text_of(joined))
-        self.assertEqual((status, lines, found), (0, ["the time stamps go back far: the packets stay in their order"], joined))
+        self.assertEqual(
+            (status, lines, found), (0, ["the time stamps go back far: the packets stay in their order"], joined)
+        )
 
 
 def serve_hold(width, height):
-    from wokureti.tools import runs
+    from wokureti.session import runs
 
     return runs.last_packet(programs.find("vp8serve"), [f"blank 0 {width} {height}", "hold 1"])
 
@@ -177,7 +209,14 @@ class Second(RepairCase):
         other[20] = (other[20][0], BROKEN)
         status, lines, found = self.run_it(text_of(packets), second=text_of(other))
         self.assertEqual((status, found), (1, self.packets))
-        self.assertEqual(lines[:3], ["the time stamps of the second recording differ by -500", "time stamp 10: 1 packet of the second recording inserted", "time stamps 60 to 62: 3 packets of the second recording inserted"])
+        self.assertEqual(
+            lines[:3],
+            [
+                "the time stamps of the second recording differ by -500",
+                "time stamp 10: 1 packet of the second recording inserted",
+                "time stamps 60 to 62: 3 packets of the second recording inserted",
+            ],
+        )
         self.assertEqual(len(lines), 5)
 
     def test_two_halves(self):
@@ -191,7 +230,9 @@ class Second(RepairCase):
         self.assertEqual([place for place in range(100) if packets[place] != self.packets[place]], [41])
         status, lines, found = self.run_it((CHECKS / "inside.ivf").read_bytes(), second=self.data)
         self.assertEqual((status, found), (1, self.packets))
-        self.assertEqual(lines, ["packet 41: read past its end: the packet of the second recording with its time stamp, 41"])
+        self.assertEqual(
+            lines, ["packet 41: read past its end: the packet of the second recording with its time stamp, 41"]
+        )
 
     def test_another_stream(self):
         (self.room / "second.ivf").write_bytes(SMALL.read_bytes())
@@ -220,11 +261,17 @@ class Records(RepairCase):
     def test_each_header_that_is_lost(self):
         places = self.places()
         for place in (0, 1, 40, 41, 98):
-            for change in (bytes(12), b"\xff" * 12, b"\xff\xff\xff\x7f" + self.data[places[place] + 4 : places[place] + 12]):
+            for change in (
+                bytes(12),
+                b"\xff" * 12,
+                b"\xff\xff\xff\x7f" + self.data[places[place] + 4 : places[place] + 12],
+            ):
                 data = self.data[: places[place]] + change + self.data[places[place] + 12 :]
                 found, gaps = salvage.find(data)[1:]
                 lost = set(self.packets) - {(packet.stamp, packet.data) for packet in found}
-                self.assertEqual((lost, [gap.start for gap in gaps]), ({self.packets[place]}, [places[place]]), (place, change))
+                self.assertEqual(
+                    (lost, [gap.start for gap in gaps]), ({self.packets[place]}, [places[place]]), (place, change)
+                )
                 self.assertEqual([gap.end for gap in gaps], [places[place + 1]])
 
     def test_bytes_inserted_and_missing(self):
@@ -234,7 +281,10 @@ class Records(RepairCase):
             number = choose.randrange(100)
             at = choose.randrange(places[number], places[number + 1])
             count = choose.randrange(1, 200)
-            for data, lost in ((self.data[:at] + choose.randbytes(count) + self.data[at:], 1), (self.data[:at] + self.data[at + count :], 3 + count // 20)):
+            for data, lost in (
+                (self.data[:at] + choose.randbytes(count) + self.data[at:], 1),
+                (self.data[:at] + self.data[at + count :], 3 + count // 20),
+            ):
                 found = {(packet.stamp, packet.data) for packet in salvage.find(data)[1]}
                 self.assertLessEqual(len(set(self.packets) - found), lost, (number, at, count))
 
@@ -259,7 +309,12 @@ class Records(RepairCase):
 
     def test_the_end(self):
         places = self.places()
-        for data in (self.data[: places[80] + 20], self.data[: places[80] + 5], self.data[: places[80]] + bytes(2000), self.data[: places[80]] + bytes(1999)):
+        for data in (
+            self.data[: places[80] + 20],
+            self.data[: places[80] + 5],
+            self.data[: places[80]] + bytes(2000),
+            self.data[: places[80]] + bytes(1999),
+        ):
             status, lines, packets = self.run_it(data)
             self.assertEqual((status, packets), (1, self.packets[:80]))
             self.assertIn("dropped", lines[0])
@@ -267,10 +322,15 @@ class Records(RepairCase):
     def test_the_header(self):
         data = bytes(512) + self.data[512:]
         status, lines, packets = self.run_it(data)
-        self.assertEqual((status, lines[0]), (1, "the header is lost: the size is that of the first key packet, the rate 30 frames a second"))
+        self.assertEqual(
+            (status, lines[0]),
+            (1, "the header is lost: the size is the first key packet's, the rate 30 frames a second"),
+        )
         self.assertTrue(set(packets) <= set(self.packets))
         self.assertEqual(ivf.read_packets(self.room / "out.ivf")[0], ivf.Head(*ivf.key_size(self.packets[0][1]), 30, 1))
-        status, _, errors = command("repair", self.room / "in.ivf", self.room / "out.ivf", "-y", "--edits", self.room / "list")
+        status, _, errors = command(
+            "repair", self.room / "in.ivf", self.room / "out.ivf", "-y", "--edits", self.room / "list"
+        )
         self.assertEqual((status, "no list of edits" in errors), (2, True))
         self.assertEqual(command("repair", self.room / "in.ivf", self.room / "out.ivf", "-y", "--no-scan")[0], 2)
 
@@ -280,11 +340,18 @@ class Records(RepairCase):
             data = bytearray(self.data)
             for _ in range(choose.randrange(1, 6)):
                 at, count = choose.randrange(len(data)), choose.randrange(1, 400)
-                data[at : at + count] = choose.choice([b"", bytes(count), choose.randbytes(count), bytes(data[at : at + count]) * 2])
+                data[at : at + count] = choose.choice(
+                    [b"", bytes(count), choose.randbytes(count), bytes(data[at : at + count]) * 2]
+                )
             head, packets, gaps = salvage.find(bytes(data))
             for packet in packets:
-                self.assertEqual(data[packet.place : packet.place + 12 + len(packet.data)], record(packet.stamp, packet.data))
-            pieces = sorted([(packet.place, packet.place + 12 + len(packet.data)) for packet in packets] + [(gap.start, gap.end) for gap in gaps])
+                self.assertEqual(
+                    data[packet.place : packet.place + 12 + len(packet.data)], record(packet.stamp, packet.data)
+                )
+            pieces = sorted(
+                [(packet.place, packet.place + 12 + len(packet.data)) for packet in packets]
+                + [(gap.start, gap.end) for gap in gaps]
+            )
             # The packets and the gaps are the whole file after the header, once each.
             place = 32 if head else 0
             for start, end in pieces:
@@ -296,7 +363,14 @@ class Records(RepairCase):
 class Commands(RepairCase):
     def test_what_is_no_stream(self):
         out = self.room / "out.ivf"
-        for data in (b"", b"text" * 100, bytes(100000), text_of([]), random.Random(1).randbytes(100000), b"\x1a\x45\xdf\xa3"):
+        for data in (
+            b"",
+            b"text" * 100,
+            bytes(100000),
+            text_of([]),
+            random.Random(1).randbytes(100000),
+            b"\x1a\x45\xdf\xa3",
+        ):
             (self.room / "in").write_bytes(data)
             status, text, errors = command("repair", self.room / "in", out, "-y", env={"PATH": "/nowhere"})
             self.assertEqual((status, text, bool(errors)), (2, b"", True))
@@ -307,25 +381,40 @@ class Commands(RepairCase):
         path = self.room / "in.ivf"
         path.write_bytes(self.data)
         os.link(path, self.room / "link")
-        for words in ([path, path], [path, self.room / "link"], [SMALL, path, "--second", path], [path, self.room / "x", "--edits", path], [path, self.room / "x", "--edits", self.room / "x"]):
+        for words in (
+            [path, path],
+            [path, self.room / "link"],
+            [SMALL, path, "--second", path],
+            [path, self.room / "x", "--edits", path],
+            [path, self.room / "x", "--edits", self.room / "x"],
+        ):
             status, _, errors = command("repair", *words, "-y")
             self.assertEqual((status, "file" in errors), (2, True))
         self.assertEqual((path.read_bytes(), (self.room / "x").exists()), (self.data, False))
 
-
     def test_an_exception_is_no_result(self):
         for words in (["cat", SMALL], ["repair", SMALL, self.room / "out"], ["compare", SMALL, SMALL]):
-            code = f"import sys; from wokureti import commands; commands.programs.find = lambda name: 1 / 0; sys.exit(commands.main({[str(word) for word in words]}))"
-            process = start_python("-c", code, stdout=subprocess.PIPE, stderr=subprocess.PIPE, env={"TMPDIR": str(self.room)})
+            code = (
+                "import sys; from wokureti import commands; commands.programs.find = lambda name: 1 / 0;"
+                f" sys.exit(commands.main({[str(word) for word in words]}))"
+            )
+            process = start_python(
+                "-c", code, stdout=subprocess.PIPE, stderr=subprocess.PIPE, env={"TMPDIR": str(self.room)}
+            )
             out, errors = process.communicate(timeout=20)
             self.assertEqual((process.returncode, out), (70, b""), words)
-            found = re.fullmatch(r"wokureti: a mistake of wokureti itself: ZeroDivisionError: division by zero; the rest is in (.*)\n", errors.decode())
+            found = re.fullmatch(
+                r"wokureti: a mistake of wokureti itself: ZeroDivisionError: division by zero; the rest is in (.*)\n",
+                errors.decode(),
+            )
             self.assertIn("Traceback", pathlib.Path(found.group(1)).read_text())
 
 
 class Long(Case):
     def test_each_packet_is_checked_once_and_again_with_what_is_mended(self):
-        """A stream of any length is checked once in parts, and then those parts whose packets were changed; it is listed so too."""
+        """A stream of any length is checked once in parts, and then those parts whose packets were changed; it is
+        listed so too.
+        """
         for turns in (8, 16, 32):
             # Two packets of a clip are mended, and damage inside another one stays.
             packets = list(enumerate(turns * packets_of(CLEAN)))
@@ -335,7 +424,12 @@ class Long(Case):
             inside = bytearray(packets[-5][1])
             inside[len(inside) // 2 :] = bytes(255 - value for value in inside[len(inside) // 2 :])
             packets[-5] = (packets[-5][0], bytes(inside))
-            data, checked, listed, run = b"".join(ivf.pieces(ivf.Head(16, 16, 30, 1), len(packets), packets)), [], [], subprocess.run
+            data, checked, listed, run = (
+                b"".join(ivf.pieces(ivf.Head(16, 16, 30, 1), len(packets), packets)),
+                [],
+                [],
+                subprocess.run,
+            )
 
             def counted(words, *given, **more):
                 if words[1] != "-":
@@ -343,7 +437,11 @@ class Long(Case):
                         (checked if "--check" in words else listed).append(len(ivf.read_index(file.fileno())[1]))
                 return run(words, *given, **more)
 
-            with mock.patch.object(repair, "PART", 1), mock.patch.object(repair, "LEAST_PART", length), mock.patch.object(repair.facts.subprocess, "run", counted):
+            with (
+                mock.patch.object(repair, "PART", 1),
+                mock.patch.object(repair, "LEAST_PART", length),
+                mock.patch.object(repair.facts.subprocess, "run", counted),
+            ):
                 found = repair.repair(data, programs.find("vp8serve"), programs.find("vp8list"))
             self.assertGreater(found.changes, 0)
             self.assertGreater(found.left, 0)
@@ -352,9 +450,10 @@ class Long(Case):
             self.assertLessEqual(sum(checked), len(packets) + overlap + again, (turns, checked))
             self.assertLessEqual(sum(listed), len(packets) + again, (turns, listed))
 
-
     def test_a_guess_is_tried_on_its_group_of_pictures(self):
-        """Bytes are lost in several packets of a long stream: what the records around them may be is tried without checking the whole again."""
+        """Bytes are lost in several packets of a long stream: what the records around them may be is tried without
+        checking the whole again.
+        """
         data, turns = packets_of(CLEAN), 20
         packets = list(enumerate(turns * data))
         text, places, place = bytearray(b"".join(ivf.pieces(ivf.Head(16, 16, 30, 1), len(packets), packets))), [], 32
@@ -394,7 +493,12 @@ class NoKeyFrames(RepairCase):
         return packets
 
     def test_there_is_nothing_to_mend_from(self):
-        for packets in (self.broken(), self.broken(50), [packet for packet in self.broken() if not ivf.is_key(packet[1])], [(0, b"")] * 3):
+        for packets in (
+            self.broken(),
+            self.broken(50),
+            [packet for packet in self.broken() if not ivf.is_key(packet[1])],
+            [(0, b"")] * 3,
+        ):
             (self.room / "in.ivf").write_bytes(text_of(packets))
             status, out, errors = command("repair", self.room / "in.ivf", self.room / "out.ivf", "-y")
             self.assertEqual((status, out, (self.room / "out.ivf").exists()), (2, b"", False))
@@ -403,7 +507,7 @@ class NoKeyFrames(RepairCase):
         # Without holding, the packets are written, and the status says that they are damaged.
         (self.room / "in.ivf").write_bytes(text_of(self.broken()))
         status, out, _ = command("repair", self.room / "in.ivf", self.room / "out.ivf", "-y", "--no-hold")
-        self.assertEqual((status, b"not mended" in out), (2, True))
+        self.assertEqual((status, b"not repaired" in out), (2, True))
 
     def test_the_second_recording_has_them(self):
         status, _, found = self.run_it(text_of(self.broken()), second=self.data)
@@ -417,7 +521,16 @@ class NoKeyFrames(RepairCase):
                 at = choose.randrange(len(packets))
                 stamp, data = packets[at]
                 cut = choose.randrange(len(data) + 1)
-                packets[at] = choose.choice([(stamp, data[:cut]), (stamp, BROKEN), (stamp, bytes(len(data))), (stamp, choose.randbytes(len(data))), (0, data), (stamp, data[:cut] + choose.randbytes(3) + data[cut + 3 :])])
+                packets[at] = choose.choice(
+                    [
+                        (stamp, data[:cut]),
+                        (stamp, BROKEN),
+                        (stamp, bytes(len(data))),
+                        (stamp, choose.randbytes(len(data))),
+                        (0, data),
+                        (stamp, data[:cut] + choose.randbytes(3) + data[cut + 3 :]),
+                    ]
+                )
             if choose.random() < 0.2:
                 packets = [packet for packet in packets if not ivf.is_key(packet[1])]
             data = bytearray(text_of(packets))
@@ -434,7 +547,9 @@ class NoKeyFrames(RepairCase):
             if not out.exists():
                 self.assertEqual(status, 2)
                 continue
-            is_damaged = subprocess.run([programs.find("vp8list"), out, "--check"], capture_output=True, check=False).returncode
+            is_damaged = subprocess.run(
+                [programs.find("vp8list"), out, "--check"], capture_output=True, check=False
+            ).returncode
             self.assertEqual(status == 2, bool(is_damaged), turn)
         self.assertEqual(statuses, {1, 2})
 
@@ -455,7 +570,14 @@ class Sizes(RepairCase):
         return bytes(text)
 
     def test_the_packets_are_found(self):
-        for size in (lambda size: size + 5, lambda size: size - 7, lambda size: size + 100000, lambda size: 0x7FFFFFFF, lambda size: 0, lambda size: size // 2):
+        for size in (
+            lambda size: size + 5,
+            lambda size: size - 7,
+            lambda size: size + 100000,
+            lambda size: 0x7FFFFFFF,
+            lambda size: 0,
+            lambda size: size // 2,
+        ):
             for numbers in ((20,), (self.keys[1],), (10, 50, 90)):
                 status, lines, found = self.run_it(self.wrong({number: size for number in numbers}))
                 self.assertEqual((status, found), (1, self.packets), (numbers, size(100), lines))
@@ -478,34 +600,68 @@ class Parts(RepairCase):
         said = []
         with mock.patch.multiple(repair, **{"PART": repair.PART, **sizes}):
             found = repair.repair(data, programs.find("vp8serve"), programs.find("vp8list"), stage=said.append)
-        return (found.lines, found.changes, found.left, [(packet.stamp, bytes(packet.data)) for packet in found.packets]), said
+        return (
+            found.lines,
+            found.changes,
+            found.left,
+            [(packet.stamp, bytes(packet.data)) for packet in found.packets],
+        ), said
 
     def test_as_in_one_piece(self):
         choose = random.Random(11)
-        packets = [(100 * turn + place, data) for turn in range(6) for place, data in enumerate(data for _, data in self.packets)]
+        packets = [
+            (100 * turn + place, data)
+            for turn in range(6)
+            for place, data in enumerate(data for _, data in self.packets)
+        ]
         keys = [place for place, (_, data) in enumerate(packets) if ivf.is_key(data)]
-        cases = {"clean": packets, "two bytes": [(stamp, data[:2] if stamp == 333 else data) for stamp, data in packets], "twice": packets[:250] + packets[249:]}
-        cases["hole before a key"], cases["hole after a key"] = packets[: keys[7] - 1] + packets[keys[7] :], packets[: keys[8] + 1] + packets[keys[8] + 2 :]
+        cases = {
+            "clean": packets,
+            "two bytes": [(stamp, data[:2] if stamp == 333 else data) for stamp, data in packets],
+            "twice": packets[:250] + packets[249:],
+        }
+        cases["hole before a key"], cases["hole after a key"] = (
+            packets[: keys[7] - 1] + packets[keys[7] :],
+            packets[: keys[8] + 1] + packets[keys[8] + 2 :],
+        )
         cases["late"] = packets[:199] + [packets[200], packets[199]] + packets[201:]
-        # Holes at one place and at several: the steps are constant but for one place, or not; and packets that come twice with their time stamps.
+        # Holes at one place and at several: the steps are constant but for one place, or not; and packets that come
+        # twice with their time stamps.
         for turn in range(12):
             gone = {choose.randrange(600) for _ in range(choose.choice([1, 1, 2, 3]))}
             again = {choose.randrange(600) for _ in range(choose.choice([0, 1, 2]))}
-            cases[f"holes {turn}"] = [packet for packet in packets for _ in range(1 + (packet[0] in again)) if packet[0] not in gone]
+            cases[f"holes {turn}"] = [
+                packet for packet in packets for _ in range(1 + (packet[0] in again)) if packet[0] not in gone
+            ]
         for turn in range(8):
             at = choose.randrange(600)
-            cases[f"bytes {turn}"] = [(stamp, bytes(choose.randrange(256) if place > 20 else byte for place, byte in enumerate(data)) if stamp == at else data) for stamp, data in packets]
+            cases[f"bytes {turn}"] = [
+                (
+                    stamp,
+                    (
+                        bytes(choose.randrange(256) if place > 20 else byte for place, byte in enumerate(data))
+                        if stamp == at
+                        else data
+                    ),
+                )
+                for stamp, data in packets
+            ]
         for name, found in cases.items():
             data = text_of(found)
             whole, said = self.mended(data)
             self.assertFalse([text for text in said if "parts" in text])
             parts, said = self.mended(data, PART=3000, LEAST_PART=40)
             self.assertEqual(parts, whole, name)
-            self.assertGreater(len([text for text in said if re.search(r"checking .*, \d+ of \d+ parts", text)]), 0 if name == "clean" else -1)
+            self.assertGreater(
+                len([text for text in said if re.search(r"checking .*, \d+ of \d+ parts", text)]),
+                0 if name == "clean" else -1,
+            )
 
     def test_a_long_file_is_never_in_memory(self):
         names = ("golden-references", "hidden-altref", "error-resilient")
-        path = write_packets(self.room / "in.ivf", 540 * [data for name in names for data in packets_of(DATA / f"{name}.ivf")])
+        path = write_packets(
+            self.room / "in.ivf", 540 * [data for name in names for data in packets_of(DATA / f"{name}.ivf")]
+        )
         code = """
 import resource, sys
 from wokureti import commands
@@ -516,7 +672,16 @@ sys.exit(commands.main(["repair", *sys.argv[2:]]))
 """
         # A file of 47 MB that is read as a whole does not fit, next to Python and its threads.
         for least, wanted in ((1 << 40, 70), (0, 0)):
-            process = start_python("-c", code, least, path, self.room / "out.ivf", stdout=subprocess.DEVNULL, stderr=subprocess.PIPE, env={"TMPDIR": str(self.room)})
+            process = start_python(
+                "-c",
+                code,
+                least,
+                path,
+                self.room / "out.ivf",
+                stdout=subprocess.DEVNULL,
+                stderr=subprocess.PIPE,
+                env={"TMPDIR": str(self.room)},
+            )
             errors = process.communicate(timeout=50 * SLOW)[1].decode()
             self.assertEqual((process.returncode, errors if not wanted else ""), (wanted, ""))
         self.assertEqual((self.room / "out.ivf").stat().st_size, path.stat().st_size)

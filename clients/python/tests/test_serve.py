@@ -17,14 +17,30 @@ import unittest
 import zlib
 from unittest import mock
 
-from support import DATA, ENGINE, ODD, SLOW, SMALL, Case, children_of, crash, is_alive, list_of, packets_of, start, start_unwaking, whole_text, write_packets
+from support import (
+    DATA,
+    ENGINE,
+    ODD,
+    SLOW,
+    SMALL,
+    Case,
+    children_of,
+    crash,
+    is_alive,
+    list_of,
+    packets_of,
+    start,
+    start_unwaking,
+    whole_text,
+    write_packets,
+)
 from test_edits import edit
 from wokureti import Refused, Script, Session
-from wokureti.server import virtual, web
+from wokureti.media import ivf
 from wokureti.session import edit_files
-from wokureti.tools import ivf
-from wokureti.server.live import Live
 from wokureti.session.outcomes import Outcomes
+from wokureti.server import virtual, web
+from wokureti.server.live import Live
 from wokureti.server.routes import Routes
 from wokureti.server.web import Server
 
@@ -157,13 +173,25 @@ class VirtualFile(ServerCase):
         for _ in range(1000):
             first = choose.randrange(len(wanted))
             length = choose.choice([1, 100, 20000, 70000])
-            self.assertRange(one, f"bytes={first}-{first + length - 1}", wanted, first, min(len(wanted), first + length))
+            self.assertRange(
+                one, f"bytes={first}-{first + length - 1}", wanted, first, min(len(wanted), first + length)
+            )
         one.close()
 
     def test_ranges_that_are_none(self):
         wanted = whole_text(SMALL)
         self.serve()
-        for text in ("bytes=5-4", "bytes=0-1,4-5", "frames=0-1", "bytes", "bytes=", "bytes=-", "bytes=a-b", "bytes=1-2-3", f"bytes={'1' * 31}-"):
+        for text in (
+            "bytes=5-4",
+            "bytes=0-1,4-5",
+            "frames=0-1",
+            "bytes",
+            "bytes=",
+            "bytes=-",
+            "bytes=a-b",
+            "bytes=1-2-3",
+            f"bytes={'1' * 31}-",
+        ):
             self.assertEqual(self.get("/clip.y4m", Range=text)[::2], (200, wanted))
         for text in (f"bytes={len(wanted)}-", f"bytes={10**29}-", "bytes=-0"):
             status, headers, _ = self.get("/clip.y4m", Range=text)
@@ -218,7 +246,9 @@ class VirtualFile(ServerCase):
             self.assertEqual(self.ask(f"/clip.y4m?refused={mode}")[::2], (200, wanted))
             one = http.client.HTTPConnection(self.server.host, timeout=20 * SLOW)
             for first in range(head + 15 * size, head + 25 * size, 37):
-                status, _, body = self.ask(f"/clip.y4m?refused={mode}", headers={"Range": f"bytes={first}-{first + 150}"}, connection=one)
+                status, _, body = self.ask(
+                    f"/clip.y4m?refused={mode}", headers={"Range": f"bytes={first}-{first + 150}"}, connection=one
+                )
                 self.assertEqual((status, body), (206, wanted[first : first + 151]))
             one.close()
         self.assertEqual(self.ask("/clip.y4m?refused=other")[0], 400)
@@ -230,7 +260,9 @@ class VirtualFile(ServerCase):
         self.assertEqual(json.loads(self.ask("/clip.y4m")[2])["reply"], "refused packet 0 NoKeyFrame")
         for mode in ("repeat", "black"):
             body = self.ask(f"/clip.y4m?refused={mode}")[2]
-            self.assertEqual((body.count(b"FRAME\n" + bytes([16]) * 35 + bytes([128]) * 24), body.count(b"FRAME\n")), (2, 14))
+            self.assertEqual(
+                (body.count(b"FRAME\n" + bytes([16]) * 35 + bytes([128]) * 24), body.count(b"FRAME\n")), (2, 14)
+            )
 
     def test_nothing_to_show(self):
         self.serve("-")
@@ -245,7 +277,9 @@ class VirtualFile(ServerCase):
         small, odd = packets_of(SMALL), packets_of(ODD)[:2]
         self.serve(write_packets(self.folder() / "a.ivf", small + odd + small))
         status, _, body = self.ask("/clip.y4m")
-        self.assertEqual((status, json.loads(body)["frame"], json.loads(body)["reply"]), (409, 12, "refused SizeDiffers"))
+        self.assertEqual(
+            (status, json.loads(body)["frame"], json.loads(body)["reply"]), (409, 12, "refused SizeDiffers")
+        )
         # A frame by itself has its own size; programs of both sizes follow the edits.
         for turn in range(3):
             sizes = [self.ask(f"/frames/{n}.y4m")[2].split(b" ")[1:3] for n in (0, 12 - turn, 13 - turn, 14 - turn)]
@@ -280,7 +314,9 @@ class VirtualFile(ServerCase):
                 whole = choose.random() < 0.5
                 first = 0 if whole else choose.randrange(250_000)
                 try:
-                    status, headers, body = self.get("/clip.y4m", Range=f"bytes={first}-{'' if whole else first + 30000}")
+                    status, headers, body = self.get(
+                        "/clip.y4m", Range=f"bytes={first}-{'' if whole else first + 30000}"
+                    )
                 except (http.client.IncompleteRead, ConnectionError, http.client.BadStatusLine):
                     found.append("cut")
                     continue
@@ -322,7 +358,9 @@ class Prediction(Case):
                         lambda: script.source(choose.randrange(3)),
                         lambda: script.trim(node, choose.randrange(6), choose.randrange(1, 9)),
                         lambda: script.splice(node, other),
-                        lambda: script.crop(node, 0, 2 * choose.randrange(3), choose.choice([2, 7, 40]), choose.choice([1, 5])),
+                        lambda: script.crop(
+                            node, 0, 2 * choose.randrange(3), choose.choice([2, 7, 40]), choose.choice([1, 5])
+                        ),
                         lambda: script.fade(node, 0, 3, 256, 0),
                     ]
                 )()
@@ -354,16 +392,34 @@ class Interface(ServerCase):
             frame = stream.frame(5)
         self.assertEqual(self.ask("/frames/5.i420")[::2], (200, frame.i420()))
         self.assertEqual(self.ask("/frames/5.y4m")[2], b"YUV4MPEG2 W175 H143 F30:1 Ip C420jpeg\nFRAME\n" + frame.i420())
-        for query, options in (("", ("601", False)), ("?matrix=709", ("709", False)), ("?matrix=601&full=1", ("601", True))):
+        for query, options in (
+            ("", ("601", False)),
+            ("?matrix=709", ("709", False)),
+            ("?matrix=601&full=1", ("601", True)),
+        ):
             status, headers, body = self.ask(f"/frames/5.png{query}")
             self.assertEqual((status, headers["Content-Type"]), (200, "image/png"))
             self.assertEqual(unpacked(body), (175, 143, frame.rgb(*options).tobytes()))
         tag = headers["ETag"]
         self.assertEqual(self.get("/frames/5.png", If_None_Match=tag)[0], 304)
         self.assertEqual(self.ask("/frames/12.png")[0], 404)
-        for path in ("/frames/5", "/frames/5.gif", "/frames/-1.png", "/frames/x.png", "/frames/.png", "/frames/5.png/x", "/frames", "/frames/"):
+        for path in (
+            "/frames/5",
+            "/frames/5.gif",
+            "/frames/-1.png",
+            "/frames/x.png",
+            "/frames/.png",
+            "/frames/5.png/x",
+            "/frames",
+            "/frames/",
+        ):
             self.assertEqual(self.ask(path)[0], 404, path)
-        for path in ("/frames/5.png?matrix=2020", "/frames/5.png?full=2", "/frames/5.y4m?matrix=601", "/frames/5.png?a=1"):
+        for path in (
+            "/frames/5.png?matrix=2020",
+            "/frames/5.png?full=2",
+            "/frames/5.y4m?matrix=601",
+            "/frames/5.png?a=1",
+        ):
             self.assertEqual(self.ask(path)[0], 400, path)
         self.change("replace 0 1000")
         status, _, body = self.ask("/frames/5.png")
@@ -381,7 +437,16 @@ class Interface(ServerCase):
         self.assertEqual(self.members("/packets?from=10&count=99999999999")["packets"], wanted[10:])
         self.assertEqual(self.members(f"/packets?from={10**17}")["packets"], [])
         self.assertEqual(self.members("/packets?source=1")["packets"][0]["size"], "175x143")
-        for query in ("from=-1", "from=x", "count=", "from=1&from=2", "a=1", f"from={10**18}", "from=%31", "source=1.0"):
+        for query in (
+            "from=-1",
+            "from=x",
+            "count=",
+            "from=1&from=2",
+            "a=1",
+            f"from={10**18}",
+            "from=%31",
+            "source=1.0",
+        ):
             self.assertEqual(self.ask(f"/packets?{query}")[0], 200 if query == "from=%31" else 400, query)
         self.assertEqual(self.ask("/packets?source=2")[0], 404)
 
@@ -429,7 +494,13 @@ class Interface(ServerCase):
         with mock.patch.object(edit_files.EditFile, "write", side_effect=OSError(errno.ENOSPC, "full")):
             status, members = self.post("delete 0")
         self.assertEqual(status, 500)
-        self.assertIn(f"{room / 'list'}: No space left on device: the last edit is made but not on the disk; the edit before it is safe", members["error"])
+        self.assertIn(
+            (
+                f"{room / 'list'}: No space left on device: the last edit is made but not on the disk; the edit before"
+                " it is safe"
+            ),
+            members["error"],
+        )
         self.assertEqual(self.members("/edits")["edits"], ["delete 3", "delete 0"])
         crash(self.live.session)
         with mock.patch("sys.stderr"):
@@ -453,11 +524,37 @@ class Interface(ServerCase):
 
     def test_bodies_that_are_no_edits(self):
         self.serve()
-        for line in ("frame 0", "count", "stats", "", " ", "# x", "nonsense", "undo ", "save x", "delete 0\ndelete 0", "delete 0\n", "delete 0\r\ncount", "delete\t0"):
+        for line in (
+            "frame 0",
+            "count",
+            "stats",
+            "",
+            " ",
+            "# x",
+            "nonsense",
+            "undo ",
+            "save x",
+            "delete 0\ndelete 0",
+            "delete 0\n",
+            "delete 0\r\ncount",
+            "delete\t0",
+        ):
             self.assertEqual(self.post(line)[0], 400, line)
         self.assertEqual(self.post("delete x")[0], 409)
         headers = {"Origin": self.server.origin, "Content-Type": "application/json"}
-        for body in (b"", b"{", b"[]", b'"undo"', b'{"line": 5}', b"{}", b'{"line": "undo", "x": 1}', b"\xff\xfe", b"[" * 100000, b'{"line":"undo","revision":true}', b'{"line":"undo","revision":"1"}'):
+        for body in (
+            b"",
+            b"{",
+            b"[]",
+            b'"undo"',
+            b'{"line": 5}',
+            b"{}",
+            b'{"line": "undo", "x": 1}',
+            b"\xff\xfe",
+            b"[" * 100000,
+            b'{"line":"undo","revision":true}',
+            b'{"line":"undo","revision":"1"}',
+        ):
             self.assertEqual(self.ask("/edits", "POST", headers, body)[0], 400, body[:20])
         self.assertEqual(self.post("save")[0], 409)
         self.assertEqual(self.members("/edits")["revision"], 1)
@@ -474,13 +571,20 @@ class Interface(ServerCase):
             file = sock.makefile("rb")
             while file.readline().strip():
                 pass
-            self.assertEqual([file.readline() for _ in range(3)], [b"event: edit\n", b'data: {"revision": 1, "changes": 1}\n', b"\n"])
+            self.assertEqual(
+                [file.readline() for _ in range(3)], [b"event: edit\n", b'data: {"revision": 1, "changes": 1}\n', b"\n"]
+            )
             self.change("delete 3")
-            self.assertEqual([file.readline() for _ in range(3)], [b"event: edit\n", b'data: {"revision": 2, "changes": 2}\n', b"\n"])
+            self.assertEqual(
+                [file.readline() for _ in range(3)], [b"event: edit\n", b'data: {"revision": 2, "changes": 2}\n', b"\n"]
+            )
             crash(self.live.session)
             with mock.patch("sys.stderr"):
                 self.ask("/frames/0.y4m")
-            self.assertEqual([file.readline() for _ in range(3)], [b"event: restarted\n", b'data: {"revision": 2, "changes": 3}\n', b"\n"])
+            self.assertEqual(
+                [file.readline() for _ in range(3)],
+                [b"event: restarted\n", b'data: {"revision": 2, "changes": 3}\n', b"\n"],
+            )
             file.close()
 
 
@@ -574,23 +678,55 @@ class Hostile(ServerCase):
         return found
 
     def test_another_host(self):
-        for host in (f"evil.example:{self.server.port}", "evil.example", f"localhost:{self.server.port}", "127.0.0.1", f"127.0.0.1.:{self.server.port}", f"{self.server.host}, x", f"x@{self.server.host}"):
+        for host in (
+            f"evil.example:{self.server.port}",
+            "evil.example",
+            f"localhost:{self.server.port}",
+            "127.0.0.1",
+            f"127.0.0.1.:{self.server.port}",
+            f"{self.server.host}, x",
+            f"x@{self.server.host}",
+        ):
             self.assertStatus(421, self.head(None, host))
         self.assertStatus(421, f"GET /{TOKEN}/edits HTTP/1.1\r\n\r\n".encode())
         self.assertStatus(400, self.head(None, None, f"Host: {self.server.host}"))
         self.assertStatus(200, self.head())
 
     def test_no_token(self):
-        for path in ("/", "", "/edits", "/clip.y4m", "/token/edits", f"/{TOKEN}", f"/{TOKEN[:-1]}/edits", f"/{TOKEN}x/edits", f"//{TOKEN}/edits", f"/ /{TOKEN}/edits"):
+        for path in (
+            "/",
+            "",
+            "/edits",
+            "/clip.y4m",
+            "/token/edits",
+            f"/{TOKEN}",
+            f"/{TOKEN[:-1]}/edits",
+            f"/{TOKEN}x/edits",
+            f"//{TOKEN}/edits",
+            f"/ /{TOKEN}/edits",
+        ):
             found = self.raw(self.head(f"GET {path or '/'} HTTP/1.1"))
             self.assertRegex(found[:20], b"^HTTP/1.1 (404|400) ")
             self.assertNotIn(TOKEN.encode(), found)
 
     def test_another_origin(self):
-        for origin in ("http://evil.example", "null", f"https://{self.server.host}", f"http://localhost:{self.server.port}", f"{self.server.origin}/", ""):
+        for origin in (
+            "http://evil.example",
+            "null",
+            f"https://{self.server.host}",
+            f"http://localhost:{self.server.port}",
+            f"{self.server.origin}/",
+            "",
+        ):
             self.assertStatus(403, self.head(None, None, f"Origin: {origin}"))
             body = b'{"line":"delete 0"}'
-            text = self.head(f"POST /{TOKEN}/edits HTTP/1.1", None, f"Origin: {origin}", "Content-Type: application/json", f"Content-Length: {len(body)}")
+            text = self.head(
+                f"POST /{TOKEN}/edits HTTP/1.1",
+                None,
+                f"Origin: {origin}",
+                "Content-Type: application/json",
+                f"Content-Length: {len(body)}",
+            )
             self.assertStatus(403, text + body)
         for site in ("cross-site", "same-site"):
             self.assertStatus(403, self.head(None, None, f"Sec-Fetch-Site: {site}"))
@@ -601,28 +737,74 @@ class Hostile(ServerCase):
         length = f"Content-Length: {len(body)}"
         line = f"POST /{TOKEN}/edits HTTP/1.1"
         self.assertStatus(403, self.head(line, None, "Content-Type: application/json", length) + body)
-        for kind in ("application/x-www-form-urlencoded", "multipart/form-data; boundary=x", "text/plain", "text/plain; application/json", ""):
+        for kind in (
+            "application/x-www-form-urlencoded",
+            "multipart/form-data; boundary=x",
+            "text/plain",
+            "text/plain; application/json",
+            "",
+        ):
             self.assertStatus(415, self.head(line, None, origin, f"Content-Type: {kind}", length) + body)
         self.assertStatus(415, self.head(line, None, origin, length) + body)
         self.assertStatus(411, self.head(line, None, origin, "Content-Type: application/json"))
         for method in ("PUT", "DELETE", "PATCH", "OPTIONS", "TRACE", "CONNECT", "get"):
             self.assertStatus(405, self.head(f"{method} /{TOKEN}/edits HTTP/1.1", None, origin))
         for path in ("clip.y4m", "", "frames/0.png", "packets", "events"):
-            self.assertStatus(405, self.head(f"POST /{TOKEN}/{path} HTTP/1.1", None, origin, "Content-Type: application/json", length) + body)
+            self.assertStatus(
+                405,
+                self.head(f"POST /{TOKEN}/{path} HTTP/1.1", None, origin, "Content-Type: application/json", length)
+                + body,
+            )
 
     def test_paths(self):
-        for path in ("../etc/passwd", "/etc/passwd", "..%2f..%2fetc%2fpasswd", "%2e%2e/edits", "./edits", "edits/", "edits/..", "frames/../edits", "frames/..%2f0.png", "edits%00", "EDITS", "clip.y4m/x", "frames//0.png", "\\..\\x"):
+        for path in (
+            "../etc/passwd",
+            "/etc/passwd",
+            "..%2f..%2fetc%2fpasswd",
+            "%2e%2e/edits",
+            "./edits",
+            "edits/",
+            "edits/..",
+            "frames/../edits",
+            "frames/..%2f0.png",
+            "edits%00",
+            "EDITS",
+            "clip.y4m/x",
+            "frames//0.png",
+            "\\..\\x",
+        ):
             self.assertStatus(404, self.head(f"GET /{TOKEN}/{path} HTTP/1.1"))
-        for target in (f"http://{self.server.host}/{TOKEN}/edits", "*", f"{TOKEN}/edits", f"/{TOKEN}/edits\xff", f"/{TOKEN}/edits\x01"):
+        for target in (
+            f"http://{self.server.host}/{TOKEN}/edits",
+            "*",
+            f"{TOKEN}/edits",
+            f"/{TOKEN}/edits\xff",
+            f"/{TOKEN}/edits\x01",
+        ):
             self.assertStatus(400, self.head(f"GET {target} HTTP/1.1"))
 
     def test_huge_numbers(self):
-        for path, status in ((f"frames/{'9' * 18}.png", 404), (f"frames/{'9' * 19}.png", 404), (f"frames/{'9' * 4000}.png", 404), (f"packets?from={'9' * 18}", 200), (f"packets?from={'9' * 400}", 400), (f"packets?count={'9' * 18}", 200)):
+        for path, status in (
+            (f"frames/{'9' * 18}.png", 404),
+            (f"frames/{'9' * 19}.png", 404),
+            (f"frames/{'9' * 4000}.png", 404),
+            (f"packets?from={'9' * 18}", 200),
+            (f"packets?from={'9' * 400}", 400),
+            (f"packets?count={'9' * 18}", 200),
+        ):
             self.assertStatus(status, self.head(f"GET /{TOKEN}/{path} HTTP/1.1"))
         self.assertStatus(200, self.head(f"GET /{TOKEN}/clip.y4m HTTP/1.1", None, f"Range: bytes={'9' * 4000}-"))
 
     def test_what_is_no_request(self):
-        for data in (b"\0" * 100, b"\x16\x03\x01\x02\0" + b"x" * 50, b"GET\r\n\r\n", b"GET / HTTP/1.1 x\r\n\r\n", b"PRI * HTTP/2.0\r\n\r\nSM\r\n\r\n", b"GET /\r\n\r\n", b"\r\n\r\n\r\n\r\n"):
+        for data in (
+            b"\0" * 100,
+            b"\x16\x03\x01\x02\0" + b"x" * 50,
+            b"GET\r\n\r\n",
+            b"GET / HTTP/1.1 x\r\n\r\n",
+            b"PRI * HTTP/2.0\r\n\r\nSM\r\n\r\n",
+            b"GET /\r\n\r\n",
+            b"\r\n\r\n\r\n\r\n",
+        ):
             self.assertRegex(self.raw(data + b"\r\n\r\n")[:20], b"^HTTP/1.1 (400|505) ")
         for header in ("no colon", ": no name", "na me: x", "Name : x", " folded: x", "X: a\nHost: b", "X: \0"):
             self.assertStatus(400, self.head(None, None, header))
@@ -631,19 +813,36 @@ class Hostile(ServerCase):
         self.assertStatus(431, b"GET /" + b"x" * 20000)
 
     def test_bodies(self):
-        line, more = f"POST /{TOKEN}/edits HTTP/1.1", (f"Origin: {self.server.origin}", "Content-Type: application/json")
+        line, more = f"POST /{TOKEN}/edits HTTP/1.1", (
+            f"Origin: {self.server.origin}",
+            "Content-Type: application/json",
+        )
         with self.within(3):
             self.assertStatus(413, self.head(line, None, *more, f"Content-Length: {1 << 30}"))
             self.assertStatus(413, self.head(line, None, *more, f"Content-Length: {1 << 30}") + bytes(1 << 20))
         for length in ("-1", "x", "1e3", "+5", "0x10", "1" * 30, "5 5", ""):
             self.assertStatus(400, self.head(line, None, *more, f"Content-Length: {length}") + b"12345")
-        self.assertStatus(501, self.head(line, None, *more, "Transfer-Encoding: chunked", "Content-Length: 3") + b"0\r\n\r\n")
+        self.assertStatus(
+            501, self.head(line, None, *more, "Transfer-Encoding: chunked", "Content-Length: 3") + b"0\r\n\r\n"
+        )
         self.assertStatus(400, self.head(line, None, *more, "Content-Length: 3", "Content-Length: 4") + b"{}xx")
         self.assertStatus(400, self.head(None, None, "Content-Length: 5") + b"12345")
 
     def test_half_a_request(self):
         with mock.patch.object(web, "READ_TIME", 0.5), mock.patch.object(web, "IDLE_TIME", 0.5):
-            for data in (b"", b"GET /", self.head()[:-2], self.head(f"POST /{TOKEN}/edits HTTP/1.1", None, f"Origin: {self.server.origin}", "Content-Type: application/json", "Content-Length: 10") + b"{"):
+            for data in (
+                b"",
+                b"GET /",
+                self.head()[:-2],
+                self.head(
+                    f"POST /{TOKEN}/edits HTTP/1.1",
+                    None,
+                    f"Origin: {self.server.origin}",
+                    "Content-Type: application/json",
+                    "Content-Length: 10",
+                )
+                + b"{",
+            ):
                 with self.within(2):
                     self.assertEqual(self.raw(data, 3), b"")
             # A byte at a time does not make the time longer.
@@ -679,7 +878,10 @@ class Hostile(ServerCase):
 
             def bother():
                 while not ended.is_set():
-                    with contextlib.suppress(OSError), socket.create_connection(("127.0.0.1", self.server.port), timeout=2) as sock:
+                    with (
+                        contextlib.suppress(OSError),
+                        socket.create_connection(("127.0.0.1", self.server.port), timeout=2) as sock,
+                    ):
                         sock.sendall(b"GET /wrong/edits HTTP/1.1\r\n")
                         ended.wait(0.5)
 
@@ -752,9 +954,20 @@ class Hostile(ServerCase):
             socket.create_connection(("127.0.0.2", self.server.port), timeout=2)
 
     def test_headers_of_each_answer(self):
-        for data in (self.head(), self.head(None, "evil"), self.head(f"GET /{TOKEN}/x HTTP/1.1"), self.head(f"GET /{TOKEN}/frames/3.png HTTP/1.1"), b"x\r\n\r\n"):
+        for data in (
+            self.head(),
+            self.head(None, "evil"),
+            self.head(f"GET /{TOKEN}/x HTTP/1.1"),
+            self.head(f"GET /{TOKEN}/frames/3.png HTTP/1.1"),
+            b"x\r\n\r\n",
+        ):
             found = self.raw(data)
-            for header in (b"Content-Security-Policy: default-src 'self'", b"X-Content-Type-Options: nosniff", b"Referrer-Policy: no-referrer", b"Cache-Control: no-store"):
+            for header in (
+                b"Content-Security-Policy: default-src 'self'",
+                b"X-Content-Type-Options: nosniff",
+                b"Referrer-Policy: no-referrer",
+                b"Cache-Control: no-store",
+            ):
                 self.assertIn(b"\r\n" + header + b"\r\n", found)
             self.assertNotIn(b"Access-Control", found)
 
@@ -773,7 +986,9 @@ class TheCommand(Case):
         """A server: its process, its host, the word that only reads, and the one that edits."""
         process = start("serve", *words, stdout=subprocess.PIPE, stderr=subprocess.PIPE, **options)
         self.addCleanup(process.kill)
-        host, reading = re.fullmatch(r"http://(127\.0\.0\.1:\d+)/([\w-]{20,})/clip\.y4m\n", process.stdout.readline().decode()).groups()
+        host, reading = re.fullmatch(
+            r"http://(127\.0\.0\.1:\d+)/([\w-]{20,})/clip\.y4m\n", process.stdout.readline().decode()
+        ).groups()
         editing = re.fullmatch(rf"http://{host}/([\w-]{{20,}})/edits\n", process.stdout.readline().decode()).group(1)
         return process, host, reading, editing
 
@@ -801,7 +1016,9 @@ class TheCommand(Case):
             for token, status in ((reading, 403), (editing, 200)):
                 one.request("POST", f"/{token}/edits", '{"line": "delete 3"}', headers)
                 response = one.getresponse()
-                self.assertEqual((response.status, response.read()[:9]), (status, b'{"error":' if status == 403 else b'{"reply":'))
+                self.assertEqual(
+                    (response.status, response.read()[:9]), (status, b'{"error":' if status == 403 else b'{"reply":')
+                )
             one.close()
             children = children_of(process.pid)
             self.assertEqual(len(children), ENGINE == "program")

@@ -13,9 +13,25 @@ import time
 import unittest
 from unittest import mock
 
-from support import CLIP, DATA, ODD, SLOW, SMALL, SPEAKER, TOP, Case, digest, frames_of, is_alive, packets_of, process_of, start_python
+from support import (
+    CLIP,
+    DATA,
+    ODD,
+    SLOW,
+    SMALL,
+    SPEAKER,
+    TOP,
+    Case,
+    digest,
+    frames_of,
+    is_alive,
+    packets_of,
+    process_of,
+    start_python,
+)
 from wokureti import Count, Ended, NotVideo, Refused, Session, Unexported
-from wokureti.tools import ivf, programs
+from wokureti.base import programs
+from wokureti.media import ivf
 from wokureti.session import library
 from wokureti.session.frames import FrameReader
 
@@ -69,7 +85,11 @@ class Requests(Case):
         with self.session(CLIP, sources=[SMALL]) as stream:
             for script, lines, wanted in (
                 (["fade 0 2 4 256 0"], [], ("frame 3 is changed by node 1", 3, 1, None, None, None)),
-                (["source 1"], ["use 1", "replace 5 1100"], ("frame 5 is refused: source 1 packet 5 ShortPacket", 5, None, 1, 5, "ShortPacket")),
+                (
+                    ["source 1"],
+                    ["use 1", "replace 5 1100"],
+                    ("frame 5 is refused: source 1 packet 5 ShortPacket", 5, None, 1, 5, "ShortPacket"),
+                ),
                 (["crop 0 0 0 4096 16"], [], ("frame 0 is refused: CropOutside", 0, None, None, None, None)),
             ):
                 stream.script(*script)
@@ -138,9 +158,6 @@ class Requests(Case):
             self.assertEqual(stream.decoded(), decoded)
 
     def test_states_are_counted_in_bytes(self):
-        with self.session() as stream:
-            if stream.engine == "library" and not hasattr(library.load(), "wk_open_bytes"):
-                self.skipTest("the library has no wk_open_bytes: it is an earlier one")
         for cache_bytes, is_decoded_again in ((1, True), (2**30, False)):
             with self.session(cache_bytes=cache_bytes) as stream:
                 stream.frame(1)
@@ -164,7 +181,9 @@ class Requests(Case):
 
     def test_the_source_of_a_broken_packet(self):
         refused = Refused("refused source 2 packet 60 TokenPartition 1", "why")
-        self.assertEqual((refused.word, refused.source, refused.packet, refused.cause), ("packet", 2, 60, "TokenPartition 1"))
+        self.assertEqual(
+            (refused.word, refused.source, refused.packet, refused.cause), ("packet", 2, 60, "TokenPartition 1")
+        )
         self.assertEqual(str(refused), "refused source 2 packet 60 TokenPartition 1: why")
 
     def test_sources_and_scripts(self):
@@ -205,7 +224,9 @@ class Requests(Case):
             with self.session(save=room / name, pad=name == "padded") as stream:
                 stream.hold(1)
         packets = packets_of(SMALL)
-        self.assertEqual(packets_of(room / "padded"), packets[:1] + [packets_of(room / "plain")[1] + b"\0"] + packets[1:])
+        self.assertEqual(
+            packets_of(room / "padded"), packets[:1] + [packets_of(room / "plain")[1] + b"\0"] + packets[1:]
+        )
 
     def test_a_range_of_frames(self):
         with self.session() as stream:
@@ -218,7 +239,9 @@ class Requests(Case):
         packets = packets_of(SMALL)
         with self.session() as stream:
             self.assertEqual(stream.delete(range(3, 9, 2)), 9)
-            self.assertEqual([stream.packet(n) for n in range(9)], packets[:3] + packets[4:5] + packets[6:7] + packets[8:])
+            self.assertEqual(
+                [stream.packet(n) for n in range(9)], packets[:3] + packets[4:5] + packets[6:7] + packets[8:]
+            )
             with self.assertRaises(Refused):
                 stream.delete(range(7, 10))
             self.assertEqual(stream.count().packets, 9)
@@ -338,9 +361,13 @@ class Broken(Case):
     def test_no_stream(self):
         with self.assertRaises(NotVideo) as ended:
             Session(__file__)
-        self.assertEqual((ended.exception.status, ended.exception.text), (1, f"{__file__} is no stream of VP8: it looks like a text; name a stream; a list of edits is named with --edits"))
+        wanted = (
+            f"{__file__} is not a stream of VP8: it looks like a text; name a stream; a list of edits is named with"
+            " --edits"
+        )
+        self.assertEqual((ended.exception.status, ended.exception.text), (1, wanted))
         self.assertIsInstance(ended.exception, (Ended, ValueError))
-        with self.assertRaisesRegex(NotVideo, "source 1 is no stream of VP8: it looks like an empty file"):
+        with self.assertRaisesRegex(NotVideo, "source 1 is not a stream of VP8: it looks like an empty file"):
             Session("-", sources=[b""])
 
     def test_the_number_of_cached_states(self):
@@ -349,7 +376,9 @@ class Broken(Case):
                 Session(SMALL, cache=cache)
 
     def test_no_program(self):
-        with self.assertRaisesRegex(FileNotFoundError, "there is no /.*: install it, or name it in the variable VP8SERVE"):
+        with self.assertRaisesRegex(
+            FileNotFoundError, "there is no /.*: install it, or name it in the variable VP8SERVE"
+        ):
             Session(SMALL, program="/nowhere/vp8serve")
 
     def test_a_save_that_cannot_begin(self):
@@ -376,7 +405,9 @@ class Broken(Case):
         """The new file of a save goes with the program, however that ends, and those of other sessions stay."""
         folder = self.folder()
         with self.session(engine="program", save=folder / "other.ivf"):
-            for number, end in enumerate((Session.kill, lambda stream: os.kill(process_of(stream), signal.SIGKILL), Session.close)):
+            for number, end in enumerate(
+                (Session.kill, lambda stream: os.kill(process_of(stream), signal.SIGKILL), Session.close)
+            ):
                 stream = self.session(engine="program", save=folder / f"out-{number}.ivf")
                 self.assertEqual(len(self.unfinished(folder)), 2)
                 end(stream)
@@ -390,8 +421,19 @@ class Broken(Case):
     def test_what_a_killed_process_left(self):
         """The next session removes it, as soon as the program that may write it is gone, and nothing else."""
         folder, temporary = self.folder(), self.folder()
-        code = "import sys; from wokureti import Session; one = Session(sys.argv[1], engine='program', save=sys.argv[2]); print(one._pipes.process.pid, flush=True); sys.stdin.read()"
-        process = start_python("-c", code, SMALL, folder / "out.ivf", stdin=subprocess.PIPE, stdout=subprocess.PIPE, env={"TMPDIR": str(temporary)})
+        code = (
+            "import sys; from wokureti import Session; one = Session(sys.argv[1], engine='program', save=sys.argv[2]);"
+            " print(one._pipes.process.pid, flush=True); sys.stdin.read()"
+        )
+        process = start_python(
+            "-c",
+            code,
+            SMALL,
+            folder / "out.ivf",
+            stdin=subprocess.PIPE,
+            stdout=subprocess.PIPE,
+            env={"TMPDIR": str(temporary)},
+        )
         pid = int(process.stdout.readline())
         self.addCleanup(lambda: is_alive(pid) and os.kill(pid, signal.SIGKILL))
         # The program would end, and save, when its input does.
@@ -400,7 +442,17 @@ class Broken(Case):
         process.communicate()
         [left] = self.unfinished(folder)
         (folder / "vp8serve-unfinished-save-9").write_text("of somebody else")
-        begin = lambda: start_python("-c", code, SMALL, folder / "next.ivf", stdin=subprocess.DEVNULL, stdout=subprocess.DEVNULL, env={"TMPDIR": str(temporary)}).wait(20 * SLOW)  # noqa: E731
+        begin = lambda: start_python(
+            "-c",
+            code,
+            SMALL,
+            folder / "next.ivf",
+            stdin=subprocess.DEVNULL,
+            stdout=subprocess.DEVNULL,
+            env={"TMPDIR": str(temporary)},
+        ).wait(
+            20 * SLOW
+        )  # noqa: E731
         begin()
         self.assertEqual(self.unfinished(folder), [left, "vp8serve-unfinished-save-9"])
         os.kill(pid, signal.SIGKILL)
@@ -509,7 +561,13 @@ class Broken(Case):
 
     def test_a_program_that_speaks_something_else(self):
         path = self.folder() / "other"
-        for text in ("echo ok 1", "echo served 0; echo served 1", "echo served 0; exit 3", "printf x >&7; echo served 0", "exec cat > /dev/null"):
+        for text in (
+            "echo ok 1",
+            "echo served 0; echo served 1",
+            "echo served 0; exit 3",
+            "printf x >&7; echo served 0",
+            "exec cat > /dev/null",
+        ):
             path.write_text(f"#!/bin/sh\nexec 7> $3; read line; echo decoded 0; read line; {text}\n")
             path.chmod(0o755)
             stream = self.session("-", program=str(path), timeout=1)
@@ -532,7 +590,9 @@ class Broken(Case):
         code = f"from wokureti import Session\nall = [Session({str(SMALL)!r}, engine='program') for _ in range(20)]\n"
         code += "print(*[one._pipes.process.pid for one in all])\n"
         env = dict(os.environ, PYTHONPATH=str(TOP / "clients/python"))
-        done = subprocess.run([sys.executable, "-c", code], env=env, capture_output=True, text=True, timeout=20 * SLOW, check=True)
+        done = subprocess.run(
+            [sys.executable, "-c", code], env=env, capture_output=True, text=True, timeout=20 * SLOW, check=True
+        )
         pids = done.stdout.split()
         self.assertEqual((len(pids), done.stderr), (20, ""))
         for pid in pids:
@@ -657,7 +717,12 @@ class Arguments(Case):
 
     def test_reasons(self):
         with self.session(explain=True) as stream:
-            for call in (lambda: stream.delete(99), lambda: stream.frame(99), lambda: stream.request("delete x"), lambda: stream.request("é")):
+            for call in (
+                lambda: stream.delete(99),
+                lambda: stream.frame(99),
+                lambda: stream.request("delete x"),
+                lambda: stream.request("é"),
+            ):
                 with self.assertRaises(Refused) as refused:
                     call()
                 self.assertTrue(refused.exception.reason)

@@ -21,33 +21,56 @@ from unittest import mock
 
 from support import SMALL, TOP, Case, command, packets_of
 from wokureti import system
+from wokureti.base import checks, files, programs, rooms
+from wokureti.media import ivf, muxing
+from wokureti.session import inputs, library, named
+from wokureti.tools import cat
 from wokureti.page import opening
-from wokureti.session import checks, inputs, library, named
-from wokureti.tools import cat, files, ivf, muxing, programs, rooms
 
 PACKAGE = pathlib.Path(system.__file__).parent
 # Modules, and names of modules, that Windows or macOS does not have, or that mean something else there.
 MODULES = {"fcntl", "msvcrt", "select", "resource", "termios", "tty", "pty", "pwd", "grp", "platform"}
 NAMES = {
-    "os": """pread pwrite preadv pwritev killpg getpgid setsid getuid geteuid getgid getegid sched_getaffinity cpu_count register_at_fork statvfs fork chown fchown lchown fchmod mkfifo
-        set_blocking get_blocking umask uname sysconf sendfile O_CLOEXEC O_NOFOLLOW O_DIRECTORY O_NONBLOCK O_TMPFILE O_BINARY O_TEMPORARY name""",
+    "os": """pread pwrite preadv pwritev killpg getpgid setsid getuid geteuid getgid getegid sched_getaffinity
+        cpu_count register_at_fork statvfs fork chown fchown lchown fchmod mkfifo set_blocking get_blocking
+        umask uname sysconf sendfile O_CLOEXEC O_NOFOLLOW O_DIRECTORY O_NONBLOCK O_TMPFILE O_BINARY O_TEMPORARY
+        name""",
     "signal": "SIGHUP SIGKILL SIGPIPE SIGALRM SIGCHLD SIGQUIT SIGBREAK CTRL_BREAK_EVENT SIGTERM SIGINT",
     "sys": "platform getwindowsversion",
     "shutil": "disk_usage",
 }
 # Texts that only the shells of other machines get.
-ALLOWED = {("tools/machines.py", "/tmp/"), ("tools/machines.py", " > /dev/null || exit 4"), ("tools/machines.py", "command -v rsync > /dev/null || exit 3; command -v "), ("commands.py", "; /dev/null is an empty stream")}
+ALLOWED = {
+    ("tools/machines.py", "/tmp/"),
+    ("tools/machines.py", " > /dev/null || exit 4"),
+    ("tools/machines.py", "command -v rsync > /dev/null || exit 3; command -v "),
+    ("commands.py", "; /dev/null is an empty stream"),
+}
 
 
 def of_systems(path):
     """What a module names that only some systems have, and texts with paths that only some have."""
     tree = ast.parse(path.read_text(encoding="utf-8"))
-    documents = {ast.get_docstring(node, clean=False) for node in ast.walk(tree) if isinstance(node, (ast.Module, ast.ClassDef, ast.FunctionDef))}
+    documents = {
+        ast.get_docstring(node, clean=False)
+        for node in ast.walk(tree)
+        if isinstance(node, (ast.Module, ast.ClassDef, ast.FunctionDef))
+    }
     for node in ast.walk(tree):
         if isinstance(node, (ast.Import, ast.ImportFrom)):
-            found = [alias.name for alias in node.names] if isinstance(node, ast.Import) else [node.module or ""] if not node.level else []
+            found = (
+                [alias.name for alias in node.names]
+                if isinstance(node, ast.Import)
+                else [node.module or ""]
+                if not node.level
+                else []
+            )
             yield from (name for name in found if name in MODULES)
-        elif isinstance(node, ast.Attribute) and isinstance(node.value, ast.Name) and node.attr in NAMES.get(node.value.id, "").split():
+        elif (
+            isinstance(node, ast.Attribute)
+            and isinstance(node.value, ast.Name)
+            and node.attr in NAMES.get(node.value.id, "").split()
+        ):
             yield f"{node.value.id}.{node.attr}"
         elif isinstance(node, ast.Constant) and isinstance(node.value, str) and node.value not in documents:
             if any(place in node.value for place in ("/dev/", "/proc/", "/tmp/")):
@@ -58,7 +81,9 @@ def variant(platform):
     """The module as another system has it. Windows has another `os.path`, and locks of bytes."""
     specification = importlib.util.spec_from_file_location("wokureti.system", system.__file__)
     found = importlib.util.module_from_spec(specification)
-    hidden = {"fcntl": None, "msvcrt": types.SimpleNamespace(LK_NBLCK=2, locking=locking)} if platform == "win32" else {}
+    hidden = (
+        {"fcntl": None, "msvcrt": types.SimpleNamespace(LK_NBLCK=2, locking=locking)} if platform == "win32" else {}
+    )
     with mock.patch.object(sys, "platform", platform), mock.patch.dict(sys.modules, hidden):
         specification.loader.exec_module(found)
     if platform == "win32":
@@ -80,11 +105,19 @@ WINDOWS, MACOS = variant("win32"), variant("darwin")
 
 class Package(unittest.TestCase):
     def test_only_one_module_knows_systems(self):
-        found = {(str(path.relative_to(PACKAGE)), what) for path in PACKAGE.rglob("*.py") if path.name != "system.py" for what in of_systems(path)}
+        found = {
+            (str(path.relative_to(PACKAGE)), what)
+            for path in PACKAGE.rglob("*.py")
+            if path.name != "system.py"
+            for what in of_systems(path)
+        }
         self.assertEqual(found - ALLOWED, set())
         # The check finds what is there.
         self.assertEqual(ALLOWED - found, set())
-        self.assertLess({"fcntl", "msvcrt", "select", "os.killpg", "os.umask", "signal.SIGKILL", "sys.platform", "/dev/stdin"}, set(of_systems(PACKAGE / "system.py")))
+        self.assertLess(
+            {"fcntl", "msvcrt", "select", "os.killpg", "os.umask", "signal.SIGKILL", "sys.platform", "/dev/stdin"},
+            set(of_systems(PACKAGE / "system.py")),
+        )
 
     def test_files_are_opened_as_bytes(self):
         """`os.open` without O_BINARY changes line ends on Windows."""
@@ -93,15 +126,25 @@ class Package(unittest.TestCase):
             for node in ast.walk(ast.parse(path.read_text(encoding="utf-8"))):
                 if isinstance(node, ast.Call) and ast.unparse(node.func) == "os.open":
                     flags = ast.unparse(node.args[1])
-                    if "BINARY" not in flags and flags not in ("flags | os.O_EXCL", "flags") and "devnull" not in ast.unparse(node.args[0]) and "O_DIRECTORY" not in flags:
+                    if (
+                        "BINARY" not in flags
+                        and flags not in ("flags | os.O_EXCL", "flags")
+                        and "devnull" not in ast.unparse(node.args[0])
+                        and "O_DIRECTORY" not in flags
+                    ):
                         wrong.append((path.name, ast.unparse(node)))
         self.assertEqual(wrong, [])
 
 
 class Names(unittest.TestCase):
     def test_libraries_and_programs(self):
-        self.assertEqual([one.LIBRARY for one in (system, WINDOWS, MACOS)], ["libwokureti.so.0", "wokureti.dll", "libwokureti.0.dylib"])
-        self.assertEqual([one.program_file("vp8list") for one in (system, WINDOWS, MACOS)], ["vp8list", "vp8list.exe", "vp8list"])
+        self.assertEqual(
+            [one.LIBRARY for one in (system, WINDOWS, MACOS)],
+            ["libwokureti.so.0", "wokureti.dll", "libwokureti.0.dylib"],
+        )
+        self.assertEqual(
+            [one.program_file("vp8list") for one in (system, WINDOWS, MACOS)], ["vp8list", "vp8list.exe", "vp8list"]
+        )
         self.assertEqual((WINDOWS.builds(), MACOS.builds()), ([""], [""]))
         self.addCleanup(system.builds.cache_clear)
         system.builds.cache_clear()
@@ -111,24 +154,46 @@ class Names(unittest.TestCase):
     def test_what_a_wheel_installs_is_found(self):
         """On Windows, in an environment or for one user: the library in its folder of data, the programs in Scripts."""
         with tempfile.TemporaryDirectory() as room:
-            for number, (package, scripts) in enumerate((("Lib/site-packages", "Scripts"), ("Python311/site-packages", "Python311/Scripts"))):
+            for number, (package, scripts) in enumerate(
+                (("Lib/site-packages", "Scripts"), ("Python311/site-packages", "Python311/Scripts"))
+            ):
                 folder = pathlib.Path(room, str(number))
-                paths = [folder / "lib/wokureti/wokureti.dll", *(folder / scripts / f"{name}.exe" for name in ("vp8serve", "vp8list"))]
+                paths = [
+                    folder / "lib/wokureti/wokureti.dll",
+                    *(folder / scripts / f"{name}.exe" for name in ("vp8serve", "vp8list")),
+                ]
                 for path in paths:
                     path.parent.mkdir(parents=True, exist_ok=True)
                     path.touch()
-                where = mock.patch.object(programs, "HERE", folder / package / "wokureti/tools/programs.py")
+                where = mock.patch.object(programs, "HERE", folder / package / "wokureti/base/programs.py")
                 windows = mock.patch.multiple(system, IS_WINDOWS=True, LIBRARY=WINDOWS.LIBRARY, builds=WINDOWS.builds)
                 with where, windows, mock.patch.dict(os.environ, {"VP8SERVE": "", "VP8LIST": "", "LIBWOKURETI": ""}):
-                    self.assertEqual([library.find(), programs.find("vp8serve"), programs.find("vp8list")], list(map(str, paths)))
+                    self.assertEqual(
+                        [library.find(), programs.find("vp8serve"), programs.find("vp8list")], list(map(str, paths))
+                    )
 
     def test_lists_of_sources(self):
         with tempfile.TemporaryDirectory() as folder:
             there = os.path.join(folder, "a;b.ivf")
             pathlib.Path(there).touch()
-            cases = {"a.ivf": ["a.ivf"], "a.ivf:b.ivf": ["a.ivf", "b.ivf"], "a.ivf;b c.ivf": ["a.ivf", "b c.ivf"], "a:b;c": ["a", "b", "c"], there: [there], f"{there}:c;d": [there, "c", "d"], f"{there};c": [f"{folder}/a", "b.ivf", "c"], "a:": ["a", ""]}
+            cases = {
+                "a.ivf": ["a.ivf"],
+                "a.ivf:b.ivf": ["a.ivf", "b.ivf"],
+                "a.ivf;b c.ivf": ["a.ivf", "b c.ivf"],
+                "a:b;c": ["a", "b", "c"],
+                there: [there],
+                f"{there}:c;d": [there, "c", "d"],
+                f"{there};c": [f"{folder}/a", "b.ivf", "c"],
+                "a:": ["a", ""],
+            }
             self.assertEqual({text: system.sources_of(text) for text in cases}, cases)
-        cases = {r"C:\a.ivf;D:\b c.ivf": [r"C:\a.ivf", r"D:\b c.ivf"], r"C:\a.ivf": [r"C:\a.ivf"], "a;b": ["a", "b"], r"\\server\share\a.ivf;b": [r"\\server\share\a.ivf", "b"], "D:a.ivf;C:/b.ivf": ["D:a.ivf", "C:/b.ivf"]}
+        cases = {
+            r"C:\a.ivf;D:\b c.ivf": [r"C:\a.ivf", r"D:\b c.ivf"],
+            r"C:\a.ivf": [r"C:\a.ivf"],
+            "a;b": ["a", "b"],
+            r"\\server\share\a.ivf;b": [r"\\server\share\a.ivf", "b"],
+            "D:a.ivf;C:/b.ivf": ["D:a.ivf", "C:/b.ivf"],
+        }
         self.assertEqual({text: WINDOWS.sources_of(text) for text in cases}, cases)
 
     def test_sources_of_a_session(self):
@@ -140,7 +205,9 @@ class Names(unittest.TestCase):
                 checks.sources(["a;b.ivf"])
 
     def test_state_folders(self):
-        with mock.patch.dict(os.environ, {"LOCALAPPDATA": r"C:\Users\Ä b\AppData\Local", "XDG_STATE_HOME": "", "HOME": "/home/a"}):
+        with mock.patch.dict(
+            os.environ, {"LOCALAPPDATA": r"C:\Users\Ä b\AppData\Local", "XDG_STATE_HOME": "", "HOME": "/home/a"}
+        ):
             self.assertEqual(WINDOWS.state_folder(), r"C:\Users\Ä b\AppData\Local\wokureti")
             self.assertEqual(system.state_folder(), "/home/a/.local/state/wokureti")
             self.assertEqual(MACOS.state_folder(), "/home/a/Library/Application Support/wokureti")
@@ -155,8 +222,14 @@ class Names(unittest.TestCase):
         cases = {"/dev/stdin": True, "/proc/self/fd/0": True, "/devices": False, "clip.ivf": False}
         self.assertEqual({path: system.is_device(path) for path in cases}, cases)
         self.assertFalse(WINDOWS.is_device("/dev/stdin"))
-        self.assertEqual([WINDOWS.is_null(path) for path in ("nul", "NUL", r"\\.\nul", "/dev/null", "null", r"C:\nul.ivf")], [True] * 4 + [False] * 2)
-        self.assertEqual([system.is_null(path) for path in ("/dev/null", "nul", "/dev/zero", "/dev/fd/99")], [True, False, False, False])
+        self.assertEqual(
+            [WINDOWS.is_null(path) for path in ("nul", "NUL", r"\\.\nul", "/dev/null", "null", r"C:\nul.ivf")],
+            [True] * 4 + [False] * 2,
+        )
+        self.assertEqual(
+            [system.is_null(path) for path in ("/dev/null", "nul", "/dev/zero", "/dev/fd/99")],
+            [True, False, False, False],
+        )
 
     def test_temporary_folders_that_lists_of_paths_take(self):
         for folder, wanted in ((r"C:\Users\Ä b\Temp", r"C:\Users\Ä b\Temp"), (r"C:\a;b", None)):
@@ -172,16 +245,22 @@ class Names(unittest.TestCase):
 
     def test_command_lines(self):
         text = r'C:\bin\vpxdec.exe --i420 -o {out} "C:\a b\{in}"'
-        self.assertEqual(WINDOWS.words_of_command(text), [r"C:\bin\vpxdec.exe", "--i420", "-o", "{out}", r"C:\a b\{in}"])
+        self.assertEqual(
+            WINDOWS.words_of_command(text), [r"C:\bin\vpxdec.exe", "--i420", "-o", "{out}", r"C:\a b\{in}"]
+        )
         self.assertEqual(system.words_of_command("vpxdec -o '{out} a' b\\ c"), ["vpxdec", "-o", "{out} a", "b c"])
-        self.assertEqual(WINDOWS.command_text(["wokureti", "open", r"C:\a b\clip.ivf"]), r'wokureti open "C:\a b\clip.ivf"')
+        self.assertEqual(
+            WINDOWS.command_text(["wokureti", "open", r"C:\a b\clip.ivf"]), r'wokureti open "C:\a b\clip.ivf"'
+        )
         self.assertEqual(system.command_text(["wokureti", "open", "a b"]), "wokureti open 'a b'")
 
     def test_names_of_files_on_windows(self):
         with mock.patch.object(os, "path", ntpath), mock.patch.object(system, "is_writable", return_value=True):
             self.assertEqual(opening.stem_of(r"C:\clips\a.b\clip.webm"), r"C:\clips\a.b\clip")
             self.assertEqual(opening.stem_of(r"\\server\share.x\clip"), r"\\server\share.x\clip")
-            self.assertEqual((muxing.ending_of(r"C:\a.ivf\clip.WEBM"), muxing.ending_of(r"C:\a.webm\clip")), (".webm", None))
+            self.assertEqual(
+                (muxing.ending_of(r"C:\a.ivf\clip.WEBM"), muxing.ending_of(r"C:\a.webm\clip")), (".webm", None)
+            )
             self.assertEqual(cat.names_of_sizes(r"C:\a.b\out", [((16, 8), 0, 1)]), [r"C:\a.b\out-16x8"])
         self.assertEqual((WINDOWS.slashed(r"sub\b.ivf"), system.slashed(r"sub\b.ivf")), ("sub/b.ivf", r"sub\b.ivf"))
 
@@ -191,9 +270,14 @@ class Names(unittest.TestCase):
         with tempfile.TemporaryDirectory() as folder:
             clip = pathlib.Path(folder, "b.ivf")
             clip.touch()
-            line = f'# source 1: 2 packets, 3 bytes, sha256 {"0" * 64}, {json.dumps("C:/clips/b.ivf".replace("/", chr(92)))}\n'
+            line = (
+                f'# source 1: 2 packets, 3 bytes, sha256 {"0" * 64},'
+                f' {json.dumps("C:/clips/b.ivf".replace("/", chr(92)))}\n'
+            )
             found = named.of_line(line.rstrip("\n"))
-            self.assertEqual(os.path.realpath(named.path_of(found, os.path.join(folder, "a.edits"))), os.path.realpath(clip))
+            self.assertEqual(
+                os.path.realpath(named.path_of(found, os.path.join(folder, "a.edits"))), os.path.realpath(clip)
+            )
 
 
 class Positions(Case):
@@ -248,10 +332,16 @@ class Positions(Case):
             self.addCleanup(found.close)
             self.assertEqual([found.read(number) for number in range(len(found.records()))], packets_of(SMALL))
             self.assertEqual(found.whole(1 << 20), SMALL.read_bytes())
-            digest = hashlib.sha256(b"".join(len(data).to_bytes(4, "little") + data for data in packets_of(SMALL))).hexdigest()
+            digest = hashlib.sha256(
+                b"".join(len(data).to_bytes(4, "little") + data for data in packets_of(SMALL))
+            ).hexdigest()
             self.assertEqual((found.digest(), inputs.Input("-").digest()), (digest, hashlib.sha256(b"").hexdigest()))
         size = SMALL.stat().st_size
-        with open(SMALL, "rb") as file, mock.patch.object(system, "pread", lambda descriptor, count, place: os.pread(descriptor, count, place)[: max(0, size // 2 - place)]):
+        with open(SMALL, "rb") as file, mock.patch.object(
+            system,
+            "pread",
+            lambda descriptor, count, place: os.pread(descriptor, count, place)[: max(0, size // 2 - place)],
+        ):
             with self.assertRaisesRegex(OSError, "the file ends at byte"):
                 ivf.read_index(file.fileno())
 
@@ -261,9 +351,13 @@ class Files(Case):
         path = self.folder() / "out"
         path.write_bytes(b"before")
         for pieces, size in (([], 3), ([b"ab"], 3), ([b"ab", b"cd"], 3)):
-            with self.assertRaisesRegex(OSError, f"{sum(map(len, pieces))} bytes of 3 were read of what is to be written") as caught:
+            with self.assertRaisesRegex(
+                OSError, f"{sum(map(len, pieces))} bytes of 3 were read of what is to be written"
+            ) as caught:
                 files.write_whole(path, pieces, size)
-            self.assertEqual((caught.exception.filename, path.read_bytes(), os.listdir(path.parent)), (str(path), b"before", ["out"]))
+            self.assertEqual(
+                (caught.exception.filename, path.read_bytes(), os.listdir(path.parent)), (str(path), b"before", ["out"])
+            )
         files.write_whole(path, [b"ab", b"c"], 3)
         self.assertEqual(path.read_bytes(), b"abc")
 
@@ -280,8 +374,14 @@ class Files(Case):
         os.close(one)
         WINDOWS.lock(two)
         os.close(two)
-        failing = types.SimpleNamespace(LK_NBLCK=2, locking=mock.Mock(side_effect=OSError(errno.ENOLCK, "No locks available")))
-        with open(path, "rb") as file, mock.patch.object(WINDOWS, "msvcrt", failing), self.assertRaises(OSError) as caught:
+        failing = types.SimpleNamespace(
+            LK_NBLCK=2, locking=mock.Mock(side_effect=OSError(errno.ENOLCK, "No locks available"))
+        )
+        with (
+            open(path, "rb") as file,
+            mock.patch.object(WINDOWS, "msvcrt", failing),
+            self.assertRaises(OSError) as caught,
+        ):
             WINDOWS.lock(file.fileno())
         self.assertNotIsInstance(caught.exception, BlockingIOError)
 
@@ -296,13 +396,19 @@ class Files(Case):
         with mock.patch.object(WINDOWS.os, "replace", busy):
             WINDOWS.replace("new", "old")
         self.assertEqual(len(tries), 4)
-        with mock.patch.object(WINDOWS.os, "replace", side_effect=PermissionError(errno.EACCES, "Permission denied", "new")), mock.patch.object(WINDOWS, "MOST_BUSY", 0.1):
-            with self.assertRaisesRegex(PermissionError, "it cannot be replaced: another program has it open") as caught:
+        with mock.patch.object(
+            WINDOWS.os, "replace", side_effect=PermissionError(errno.EACCES, "Permission denied", "new")
+        ), mock.patch.object(WINDOWS, "MOST_BUSY", 0.1):
+            with self.assertRaisesRegex(
+                PermissionError, "it cannot be replaced: another program has it open"
+            ) as caught:
                 WINDOWS.replace("new", "old")
         self.assertEqual(caught.exception.filename, "old")
         # Elsewhere that is no question of time.
         start = time.monotonic()
-        with mock.patch.object(os, "replace", side_effect=PermissionError(errno.EACCES, "Permission denied", "new")), self.assertRaises(PermissionError):
+        with mock.patch.object(
+            os, "replace", side_effect=PermissionError(errno.EACCES, "Permission denied", "new")
+        ), self.assertRaises(PermissionError):
             system.replace("new", "old")
         self.assertLess(time.monotonic() - start, 1)
 
@@ -321,7 +427,9 @@ class Files(Case):
         os.mkfifo(room / "pipe")
         writer = threading.Thread(target=lambda: (room / "pipe").write_bytes(SMALL.read_bytes()))
         writer.start()
-        with mock.patch.object(system, "HAS_DESCRIPTOR_PATHS", False), mock.patch.object(tempfile, "tempdir", str(room)):
+        with mock.patch.object(system, "HAS_DESCRIPTOR_PATHS", False), mock.patch.object(
+            tempfile, "tempdir", str(room)
+        ):
             found = inputs.Input(str(room / "pipe"))
         writer.join(20)
         self.assertEqual((found.is_shared, pathlib.Path(found.word).read_bytes()), (False, SMALL.read_bytes()))
@@ -350,7 +458,14 @@ class Processes(Case):
         with mock.patch.object(system, "HAS_PROCESSES", False):
             mine, unlocked = system.process_text(os.getpid(), True), system.process_text(os.getpid(), False)
             node = mine.split("\n")[1]
-            cases = {mine: True, unlocked: False, "": False, mine[:-1]: False, mine.replace(node, "another"): False, f"locked\n{node}\n": False}
+            cases = {
+                mine: True,
+                unlocked: False,
+                "": False,
+                mine[:-1]: False,
+                mine.replace(node, "another"): False,
+                f"locked\n{node}\n": False,
+            }
             for text, is_abandoned in cases.items():
                 path, descriptor = self.folder_of(text)
                 self.assertEqual(system.is_abandoned(descriptor), is_abandoned, text)
@@ -369,11 +484,17 @@ class Processes(Case):
         room = self.folder()
         with mock.patch.object(system, "HAS_PROCESSES", False), mock.patch.object(tempfile, "tempdir", str(room)):
             for is_locked, text in ((True, "locked\n"), (False, "not locked\n")):
-                with mock.patch.object(system, "lock", **({} if is_locked else {"side_effect": OSError(errno.ENOLCK, "No locks available")})):
+                with mock.patch.object(
+                    system,
+                    "lock",
+                    **({} if is_locked else {"side_effect": OSError(errno.ENOLCK, "No locks available")}),
+                ):
                     with rooms.Room() as folder:
                         self.assertTrue(pathlib.Path(folder, ".lock").read_text().startswith(text))
                         rooms.sweep()
-                        self.assertEqual(os.path.isdir(folder), not is_locked, "only a lock that can be had says that nobody has it")
+                        self.assertEqual(
+                            os.path.isdir(folder), not is_locked, "only a lock that can be had says that nobody has it"
+                        )
         self.assertEqual(os.listdir(room), [])
 
     def test_a_forked_process_leaves_the_folder(self):
@@ -391,7 +512,9 @@ class Processes(Case):
         one, two = socket.socketpair()
         self.addCleanup(one.close)
         for has_poll in (True, False):
-            with mock.patch.object(system, "select", system.select if has_poll else types.SimpleNamespace(select=system.select.select)):
+            with mock.patch.object(
+                system, "select", system.select if has_poll else types.SimpleNamespace(select=system.select.select)
+            ):
                 self.assertFalse(system.is_readable(one))
                 two.send(b"a")
                 self.assertTrue(system.is_readable(one))
@@ -401,14 +524,27 @@ class Processes(Case):
 
     def test_engines(self):
         with mock.patch.object(system, "HAS_PIPES", False):
-            self.assertEqual([library.engine_of(named, program) for named, program in ((None, None), ("library", None), (None, "vp8serve"))], ["library"] * 3)
+            self.assertEqual(
+                [
+                    library.engine_of(named, program)
+                    for named, program in ((None, None), ("library", None), (None, "vp8serve"))
+                ],
+                ["library"] * 3,
+            )
             with self.assertRaisesRegex(ValueError, "the engine is the library"):
                 library.engine_of("program", None)
 
     def test_what_ends_a_pipe(self):
         self.assertTrue(system.is_closed_pipe(BrokenPipeError()) and WINDOWS.is_closed_pipe(BrokenPipeError()))
         error = OSError(errno.EINVAL, "Invalid argument")
-        self.assertEqual((system.is_closed_pipe(error), WINDOWS.is_closed_pipe(error), WINDOWS.is_closed_pipe(OSError(errno.EINVAL, "Invalid argument", "a"))), (False, True, False))
+        self.assertEqual(
+            (
+                system.is_closed_pipe(error),
+                WINDOWS.is_closed_pipe(error),
+                WINDOWS.is_closed_pipe(OSError(errno.EINVAL, "Invalid argument", "a")),
+            ),
+            (False, True, False),
+        )
 
     def test_sources_on_the_command_line(self):
         room = self.folder()
@@ -416,7 +552,12 @@ class Processes(Case):
         words = ("cat", SMALL, "-", *script)
         wanted = command(*words, "--source", SMALL, "--source", TOP / "crates/gate_clips/data/small.ivf")
         self.assertEqual(wanted[0], 0)
-        for more in (("--sources", f"{SMALL}:{SMALL}"), ("--sources", f"{SMALL};{SMALL}"), ("--source", SMALL, "--sources", SMALL), ("--sources", SMALL, "--source", SMALL)):
+        for more in (
+            ("--sources", f"{SMALL}:{SMALL}"),
+            ("--sources", f"{SMALL};{SMALL}"),
+            ("--source", SMALL, "--sources", SMALL),
+            ("--sources", SMALL, "--source", SMALL),
+        ):
             self.assertEqual(command(*words, *more), wanted, more)
         status, _, errors = command(*words, "--sources", f"{SMALL}:{room / 'missing.ivf'}")
         self.assertEqual((status, f"{room / 'missing.ivf'}: No such file" in errors), (2, True), errors)

@@ -33,7 +33,9 @@ class Types(Case):
         count = 0
         for name, function in public_calls():
             hints = typing.get_type_hints(function)
-            wanted = {parameter for parameter in inspect.signature(function).parameters if parameter != "self"} | {"return"}
+            wanted = {parameter for parameter in inspect.signature(function).parameters if parameter != "self"} | {
+                "return"
+            }
             self.assertEqual(set(hints), wanted, name)
             count += 1
         self.assertGreater(count, 40)
@@ -43,7 +45,14 @@ class Types(Case):
     def test_mypy_reads_a_program(self):
         env = {**os.environ, "MYPYPATH": str(TOP / "clients/python")}
         with self.within(100):
-            words = [shutil.which("mypy"), "--strict", "--follow-imports=silent", "--cache-dir", str(self.folder()), str(HERE / "typed.py")]
+            words = [
+                shutil.which("mypy"),
+                "--strict",
+                "--follow-imports=silent",
+                "--cache-dir",
+                str(self.folder()),
+                str(HERE / "typed.py"),
+            ]
             done = subprocess.run(words, env=env, capture_output=True, text=True, timeout=100 * SLOW, check=False)
         self.assertEqual((done.returncode, done.stderr), (0, ""), done.stdout)
 

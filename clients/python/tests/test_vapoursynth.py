@@ -17,7 +17,9 @@ class Frame:
 
     def __init__(self, width, height):
         self.sides = [(width, height)] + 2 * [(width // 2, height // 2)]
-        self.planes = [ctypes.create_string_buffer(self.stride(place) * down) for place, (_, down) in enumerate(self.sides)]
+        self.planes = [
+            ctypes.create_string_buffer(self.stride(place) * down) for place, (_, down) in enumerate(self.sides)
+        ]
         self.props = {}
 
     def stride(self, place):
@@ -85,7 +87,9 @@ class Source(Case):
     def test_frames_in_any_order_on_threads(self):
         clip, session = self.open(CLIP, cache=32)
         expected = frames_of(CLIP, range(COUNT))
-        self.assertEqual((clip.num_frames, clip.width, clip.height), (COUNT, session.frame(0).width, session.frame(0).height))
+        self.assertEqual(
+            (clip.num_frames, clip.width, clip.height), (COUNT, session.frame(0).width, session.frame(0).height)
+        )
         self.assertEqual(clip.fps, session.rate)
         numbers = [(7 * n) % COUNT for n in range(3 * COUNT)]
         with ThreadPoolExecutor(4) as pool:
@@ -97,7 +101,10 @@ class Source(Case):
         clip, _ = self.open(CLIP, script="crop 0 2 2 16 8; trim 1 3 4")
         self.assertEqual((clip.num_frames, clip.width, clip.height), (4, 16, 8))
         frame = session.frame(3)
-        rows = [bytes(frame.y[row])[2:18] if hasattr(frame.y, "dtype") else frame.y.tobytes()[row * frame.width :][2:18] for row in range(2, 10)]
+        rows = [
+            bytes(frame.y[row])[2:18] if hasattr(frame.y, "dtype") else frame.y.tobytes()[row * frame.width :][2:18]
+            for row in range(2, 10)
+        ]
         self.assertEqual(clip.get_frame(0).samples()[:128], b"".join(rows))
         self.assertNotIn("_PictType", clip.get_frame(0).props)
 
@@ -125,7 +132,9 @@ class Source(Case):
         for number in range(COUNT):
             props = clip.get_frame(number).props
             self.assertEqual(props["_PictType"], "I" if kinds[number] == "key" else "P")
-            self.assertEqual((props["_Matrix"], props["_ColorRange"], props["_ChromaLocation"], props["_FieldBased"]), (6, 1, 1, 0))
+            self.assertEqual(
+                (props["_Matrix"], props["_ColorRange"], props["_ChromaLocation"], props["_FieldBased"]), (6, 1, 1, 0)
+            )
             self.assertEqual((props["_DurationDen"], props["_DurationNum"]), session.rate)
             self.assertEqual(props["_AbsoluteTime"], number * session.rate[1] / session.rate[0])
 

@@ -13,15 +13,20 @@ from unittest import mock
 from support import SLOW, SMALL, TOP, Case, command, packets_of
 from test_containers import KINDS, clip, ffmpeg, media, needs_ffmpeg, setUpModule, sound_packets  # noqa: F401
 from wokureti import Session
-from wokureti.session import inputs, library
-from wokureti.tools import blocks, containers, convert, exports, ivf, muxing, programs, webm
+from wokureti.base import programs
+from wokureti.media import blocks, containers, ivf, muxing, webm
+from wokureti.session import convert, exports, inputs, library
 
 sys.path.insert(0, str(TOP / "compare"))
 from library.webm import webm as webm_of  # noqa: E402
 
 MADE = TOP / "crates/gate_webm/data"
 SERVE, LIST = programs.find("vp8serve"), programs.find("vp8list")
-READ = programs.says(SERVE, "WebM") and programs.says(LIST, "WebM") and (os.environ.get("WOKURETI_ENGINE") != "library" or library.reads_webm())
+READ = (
+    programs.says(SERVE, "WebM")
+    and programs.says(LIST, "WebM")
+    and (os.environ.get("WOKURETI_ENGINE") != "library" or library.reads_webm())
+)
 needs_readers = unittest.skipUnless(READ, "these programs, or this library, read no WebM files")
 
 
@@ -67,9 +72,20 @@ class InPlace(Case):
     def test_what_else_it_has(self):
         for name in KINDS:
             mine, other = (session.edits.contents().inputs.all[0].media for session in self.both(clip(name)))
-            self.assertEqual((mine.has_sound, mine.rate, mine.tags, mine.video_tags, mine.language), (other.has_sound, other.rate, other.tags, other.video_tags, other.language), name)
-            self.assertEqual([(*track[:7], track.times, track.durations, sound_packets(track)) for track in mine.sounds], [(*track[:7], track.times, track.durations, sound_packets(track)) for track in other.sounds], name)
-            self.assertEqual((muxing.ending_for(mine), muxing.ending_for(webm.media_of(clip(name)))), (clip(name).suffix, clip(name).suffix))
+            self.assertEqual(
+                (mine.has_sound, mine.rate, mine.tags, mine.video_tags, mine.language),
+                (other.has_sound, other.rate, other.tags, other.video_tags, other.language),
+                name,
+            )
+            self.assertEqual(
+                [(*track[:7], track.times, track.durations, sound_packets(track)) for track in mine.sounds],
+                [(*track[:7], track.times, track.durations, sound_packets(track)) for track in other.sounds],
+                name,
+            )
+            self.assertEqual(
+                (muxing.ending_for(mine), muxing.ending_for(webm.media_of(clip(name)))),
+                (clip(name).suffix, clip(name).suffix),
+            )
 
     def test_edits_and_saves(self):
         lines = ("delete 3", "delete 3", "move 20 2", "copy 0 7 9", "replace 4 -", "hide 12", "insert 0 0 -", "hold 5")
@@ -92,7 +108,12 @@ class InPlace(Case):
         """By the program and by the library."""
         room, packets = self.folder(), packets_of(SMALL)
         engines = ["program", *(["library"] if library.is_ready() and library.reads_webm() else [])]
-        for step, more, rate in ((40, {"duration": 40_000_000}, b"F25:1"), (33, {"duration": 33_366_667}, b"F1000000000:33366667"), (40, {}, b"F25:1"), (40, {"scale": 333_667}, b"F25000000:333667")):
+        for step, more, rate in (
+            (40, {"duration": 40_000_000}, b"F25:1"),
+            (33, {"duration": 33_366_667}, b"F1000000000:33366667"),
+            (40, {}, b"F25:1"),
+            (40, {"scale": 333_667}, b"F25000000:333667"),
+        ):
             path = written(room / "rate.webm", packets, step, **more)
             for engine in engines:
                 with Session(path, engine=engine) as session:
@@ -102,14 +123,22 @@ class InPlace(Case):
     def test_the_head_is_that_of_a_save(self):
         room = self.folder()
         for path in [*sorted(MADE.glob("*")), clip("talk.webm"), written(room / "one.webm", scale=333_667)]:
-            done = subprocess.run([SERVE, path, "-", "-", "--save", room / "saved.ivf"], stdin=subprocess.DEVNULL, capture_output=True, timeout=60 * SLOW, check=False)
+            done = subprocess.run(
+                [SERVE, path, "-", "-", "--save", room / "saved.ivf"],
+                stdin=subprocess.DEVNULL,
+                capture_output=True,
+                timeout=60 * SLOW,
+                check=False,
+            )
             with open(path, "rb") as file:
                 facts = webm.facts_of(file.fileno())
             if facts is None:
                 # Such a file is refused, or its beginning is damaged.
                 self.assertTrue(done.returncode or path.name in ("damaged.webm",), path)
                 continue
-            self.assertEqual((done.returncode, facts.head), (0, ivf.parse_head((room / "saved.ivf").read_bytes())[0]), path)
+            self.assertEqual(
+                (done.returncode, facts.head), (0, ivf.parse_head((room / "saved.ivf").read_bytes())[0]), path
+            )
 
     def test_packets_that_edits_took_away_are_kept(self):
         """The file is overwritten in place, and an edit is taken back."""
@@ -147,7 +176,10 @@ class InPlace(Case):
         (path.parent / "other").write_bytes(b"another file")
         os.replace(path.parent / "other", path)
         contents = session.edits.contents()
-        self.assertEqual((contents.inputs.all[0].digest(), len(contents.inputs.all[0].media.sounds)), (inputs.Input(str(clip("talk.webm"))).digest(), 1))
+        self.assertEqual(
+            (contents.inputs.all[0].digest(), len(contents.inputs.all[0].media.sounds)),
+            (inputs.Input(str(clip("talk.webm"))).digest(), 1),
+        )
 
     def test_sources_of_both_kinds(self):
         with self.session(SMALL, sources=[clip("talk.webm")]) as session:
@@ -162,13 +194,26 @@ class InPlace(Case):
         self.assertEqual(self.session(data).count(), count)
         for words in (("list", "-"), ("check", "-")):
             status, out, _ = command(*words, given=data)
-            self.assertEqual((status, out), (0, subprocess.run([LIST, clip("talk.webm"), *(["--check"] if words[0] == "check" else [])], capture_output=True, check=True, timeout=60 * SLOW).stdout))
+            self.assertEqual(
+                (status, out),
+                (
+                    0,
+                    subprocess.run(
+                        [LIST, clip("talk.webm"), *(["--check"] if words[0] == "check" else [])],
+                        capture_output=True,
+                        check=True,
+                        timeout=60 * SLOW,
+                    ).stdout,
+                ),
+            )
 
     def test_a_list_of_edits_is_that_of_both(self):
         """One that was begun over a copy of the packets goes on."""
         room = self.folder()
         mine, other = room / "mine.edits", room / "other.edits"
-        for session, path in zip((clip("talk.webm"), convert.as_ivf(clip("talk.webm"), str(room), is_quiet=True)), (mine, other)):
+        for session, path in zip(
+            (clip("talk.webm"), convert.as_ivf(clip("talk.webm"), str(room), is_quiet=True)), (mine, other)
+        ):
             with Session(session, edits=path) as opened:
                 opened.request("delete 3")
         self.assertEqual(mine.read_text(), other.read_text())
@@ -197,10 +242,15 @@ class Otherwise(Case):
         earlier = self.lister('[ "$1" = --help ] && echo "the IVF file"')
         session = self.session(clip("talk.webm"), lister=earlier)
         [item] = session.edits.contents().inputs.all
-        self.assertEqual((item.facts, item.path.endswith(".ivf"), len(item.media.sounds), item.digest()), (None, True, 1, inputs.Input(str(clip("talk.webm"))).digest()))
+        self.assertEqual(
+            (item.facts, item.path.endswith(".ivf"), len(item.media.sounds), item.digest()),
+            (None, True, 1, inputs.Input(str(clip("talk.webm"))).digest()),
+        )
 
     def test_one_that_fails(self):
-        failing = self.lister('case "$1" in --help) echo "the IVF or WebM file";; *) echo "vp8list: no memory" >&2; exit 2;; esac')
+        failing = self.lister(
+            'case "$1" in --help) echo "the IVF or WebM file";; *) echo "vp8list: no memory" >&2; exit 2;; esac'
+        )
         (self.folder() / "copy.webm").write_bytes(clip("talk.webm").read_bytes())
         with mock.patch.dict(webm.known, clear=True):
             session = self.session(clip("talk.webm"), lister=failing)
@@ -210,11 +260,20 @@ class Otherwise(Case):
     def test_without_ffmpeg(self):
         room = self.folder()
         for name in ("talk.webm", "silent.webm"):
-            with mock.patch.object(containers, "has_ffmpeg", return_value=False), mock.patch("wokureti.tools.convert.say") as say:
+            with (
+                mock.patch.object(containers, "has_ffmpeg", return_value=False),
+                mock.patch("wokureti.session.convert.say") as say,
+            ):
                 self.assertEqual(convert.readable(clip(name), str(room)), clip(name))
-                self.assertEqual([call.args[0] for call in say.call_args_list], [f"the sound of {clip(name)} is left out: install ffmpeg for that"] if name == "talk.webm" else [])
+                self.assertEqual(
+                    [call.args[0] for call in say.call_args_list],
+                    [f"the sound of {clip(name)} is left out: install ffmpeg for that"] if name == "talk.webm" else [],
+                )
                 [item] = self.session(clip(name)).edits.contents().inputs.all
-                self.assertEqual((item.media.has_sound, item.media.sounds, item.media.tags, item.media.language, item.media.rate), (False, [], {}, "und", (25, 1)))
+                self.assertEqual(
+                    (item.media.has_sound, item.media.sounds, item.media.tags, item.media.language, item.media.rate),
+                    (False, [], {}, "und", (25, 1)),
+                )
 
     def test_files_that_are_refused(self):
         """Who reads them otherwise says why."""
@@ -228,15 +287,40 @@ class Otherwise(Case):
 class Rates(Case):
     def test_they_are_rounded_as_ffmpeg_does(self):
         head = ivf.Head(0, 0, 1000, 1)
-        cases = {40_000_000: (25, 1), 33_366_667: (30000, 1001), 41_708_333: (24000, 1001), 16_666_667: (60, 1), 66_666_667: (15, 1), 2_000_000_000: (1, 2), 0: None}
+        cases = {
+            40_000_000: (25, 1),
+            33_366_667: (30000, 1001),
+            41_708_333: (24000, 1001),
+            16_666_667: (60, 1),
+            66_666_667: (15, 1),
+            2_000_000_000: (1, 2),
+            0: None,
+        }
         self.assertEqual({duration: webm.Facts(head, duration, False).rate for duration in cases}, cases)
 
     @needs_ffmpeg
     def test_ffprobe_has_the_same(self):
         room, dice = self.folder(), random.Random(5)
-        for duration in (40_000_000, 33_366_667, 41_708_333, 16_683_333, *(dice.randrange(5_000_000, 200_000_000) for _ in range(6))):
+        for duration in (
+            40_000_000,
+            33_366_667,
+            41_708_333,
+            16_683_333,
+            *(dice.randrange(5_000_000, 200_000_000) for _ in range(6)),
+        ):
             path = written(room / "one.webm", duration=duration)
-            words = ["ffprobe", "-v", "error", "-select_streams", "v", "-show_entries", "stream=avg_frame_rate", "-of", "csv=p=0", str(path)]
+            words = [
+                "ffprobe",
+                "-v",
+                "error",
+                "-select_streams",
+                "v",
+                "-show_entries",
+                "stream=avg_frame_rate",
+                "-of",
+                "csv=p=0",
+                str(path),
+            ]
             said = subprocess.run(words, capture_output=True, text=True, check=True, timeout=60 * SLOW).stdout.strip()
             with open(path, "rb") as file:
                 found = webm.facts_of(file.fileno()).rate
@@ -255,10 +339,19 @@ class Damaged(Case):
     @needs_ffmpeg
     def test_whole_files(self):
         for path in map(clip, KINDS):
-            self.assertEqual((self.said(path), [one for one in listed(path, "--check") if one["kind"] in ("skipped", "cut_element")]), ([], []), path)
+            self.assertEqual(
+                (
+                    self.said(path),
+                    [one for one in listed(path, "--check") if one["kind"] in ("skipped", "cut_element")],
+                ),
+                ([], []),
+                path,
+            )
 
     def test_copies_that_are_damaged(self):
-        """A sentence if vp8list skips bytes, and none else, except at an end between two elements; and its byte is that of the first finding, or is in the block before it."""
+        """A sentence if vp8list skips bytes, and none else, except at an end between two elements; and its byte is that
+        of the first finding, or is in the block before it.
+        """
         dice, room = random.Random(9), self.folder()
         whole = written(room / "whole.webm", packets_of(SMALL) * 4).read_bytes()
         begins = whole.index(bytes.fromhex("1f43b675"))
@@ -281,12 +374,17 @@ class Damaged(Case):
             if not texts:
                 counts["none"] += 1
                 self.assertEqual(found, [], turn)
-            elif texts == [f"in.webm ends in the middle, after {len(data):,} bytes: the packets that followed are missing"]:
+            elif texts == [
+                f"in.webm ends in the middle, after {len(data):,} bytes: the packets that followed are missing"
+            ]:
                 counts["cut"] += 1
                 self.assertTrue(kind in (1, 2) or found, turn)
             else:
                 counts["damaged"] += 1
-                place, spare = (int(text.replace(",", "")) for text in (texts[0].split("byte ")[1].split(":")[0], texts[0].split(": ")[1].split(" bytes")[0]))
+                place, spare = (
+                    int(text.replace(",", ""))
+                    for text in (texts[0].split("byte ")[1].split(":")[0], texts[0].split(": ")[1].split(" bytes")[0])
+                )
                 self.assertEqual(spare, sum(one.get("bytes", one.get("left")) for one in found), turn)
                 self.assertLessEqual(found[0]["byte"], place, turn)
         self.assertTrue(all(counts.values()), counts)
@@ -297,7 +395,10 @@ class Damaged(Case):
         for length in (len(data) - 1, len(data) // 2):
             path.write_bytes(data[:length])
             status, _, errors = command("list", path)
-            said = f"ends in the middle, after {length:,} bytes: the packets that followed are missing. `wokureti repair` searches a damaged file for all its packets\n"
+            said = (
+                f"ends in the middle, after {length:,} bytes: the packets that followed are missing. `wokureti repair`"
+                " searches a damaged file for all its packets\n"
+            )
             self.assertEqual((status, errors), (1, f"wokureti: {path} {said}"))
             for words in (("list", "-"), ("check", "-"), ("export", "-", path.parent / "out.ivf", "-y")):
                 status, _, errors = command(*words, given=data[:length])

@@ -13,6 +13,9 @@ def repaired(path: str) -> Tuple[Count, List[str]]:
                 frame: Frame = session.frame(number)
                 samples: bytes = frame.i420()
                 print(frame.width, frame.height, len(samples), frame.rgb("709", full=True))
+                stamp: Optional[int] = frame.pts
+                seconds: Optional[float] = frame.time
+                print(stamp, seconds, frame.duration, frame.time_base)
             except Refused as refused:
                 source: Optional[int] = refused.source
                 packet: Optional[int] = refused.packet
@@ -29,7 +32,14 @@ def repaired(path: str) -> Tuple[Count, List[str]]:
         with edits.step("another"):
             session.move(0, 1)
         rate: Tuple[int, int] = session.rate
-        print(len(session), session[0].width, [frame.number for frame in session[2:5]], session.width, session.height, session[0] == session[1])
+        print(
+            len(session),
+            session[0].width,
+            [frame.number for frame in session[2:5]],
+            session.width,
+            session.height,
+            session[0] == session[1],
+        )
         print(total, rate, session.packet(0), session.packets(range(5))[0]["bytes"], edits.path, edits.written)
         return session.count(), session.undo() + session.redo()
 

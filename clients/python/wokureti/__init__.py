@@ -11,15 +11,16 @@
                 session.delete(refused.packet + 1)
                 break
 
-Each call writes one request line to `vp8serve --live` and waits for its reply. docs/requests.md has the requests and refusals.
+Each call is one request and its reply, by the library `libwokureti` or by the program `vp8serve --live`.
+docs/reference/requests.md has the requests and refusals.
 """
 
+from .errors import Ended, NotVideo, Refused, Unexported
+from .base.versions import version
 from .session.edits import EditList
-from .session.errors import Ended, NotVideo, Refused, Unexported
 from .session.frames import Frame
 from .session.scripts import Script
 from .session.session import Count, Session
-from .tools.versions import version
 
 __version__ = version()
 

@@ -1,4 +1,8 @@
-"""What differs between Linux, macOS and Windows. Every other module asks this one, and uses nothing itself that one of them does not have."""
+"""What differs between Linux, macOS and Windows. Every other module asks this one, and uses nothing itself that one of
+them does not have.
+"""
+
+from __future__ import annotations
 
 import functools
 import contextlib
@@ -17,6 +21,7 @@ import sys
 import tempfile
 import threading
 import time
+from typing import Any, Callable, Iterable, Optional, Union
 
 try:
     import fcntl
@@ -42,8 +47,10 @@ MOST_BUSY = 2
 
 
 @contextlib.contextmanager
-def position(descriptor, place):
-    """The file is at a place in the block, and back where it was after it: a Python file over the same descriptor reads on from there."""
+def position(descriptor: int, place: int) -> Any:
+    """The file is at a place in the block, and back where it was after it: a Python file over the same descriptor reads
+    on from there.
+    """
     with SEEKING:
         before = os.lseek(descriptor, 0, os.SEEK_CUR)
         os.lseek(descriptor, place, os.SEEK_SET)
@@ -67,7 +74,7 @@ def seek_and_write(descriptor, data, place):
 pread, pwrite = getattr(os, "pread", seek_and_read), getattr(os, "pwrite", seek_and_write)
 
 
-def pread_all(descriptor, size, place):
+def pread_all(descriptor: int, size: int, place: int) -> bytes:
     """Exactly so many bytes of a file from a place on. `OSError` if the file ends before."""
     pieces, end = [], place + size
     while place < end:
@@ -79,8 +86,27 @@ def pread_all(descriptor, size, place):
     return pieces[0] if len(pieces) == 1 else b"".join(pieces)
 
 
-def lock(descriptor):
-    """Locks a file until it is closed. `BlockingIOError` if another one has it locked, `OSError` if it cannot be locked at all."""
+def places_of(pid: int, but: Iterable[int] = ()) -> Optional[dict[tuple[int, int], int]]:
+    """How many bytes a process has read of each file that it has open, by its device and number, without the
+    descriptors `but`; None where the system does not say.
+    """
+    found, folder = {}, f"/proc/{pid}/fd"
+    if not os.path.isdir("/proc/self/fdinfo"):
+        return None
+    with contextlib.suppress(OSError):
+        for name in os.listdir(folder):
+            with contextlib.suppress(OSError, ValueError):
+                about = os.stat(f"{folder}/{name}")
+                if stat.S_ISREG(about.st_mode) and int(name) not in but:
+                    with open(f"/proc/{pid}/fdinfo/{name}", encoding="ascii") as file:
+                        found[about.st_dev, about.st_ino] = int(file.readline().split()[1])
+    return found
+
+
+def lock(descriptor: int) -> None:
+    """Locks a file until it is closed. `BlockingIOError` if another one has it locked, `OSError` if it cannot be locked
+    at all.
+    """
     if fcntl is not None:
         fcntl.flock(descriptor, fcntl.LOCK_EX | fcntl.LOCK_NB)
         return
@@ -93,8 +119,10 @@ def lock(descriptor):
             raise
 
 
-def remove_and_close(path, descriptor):
-    """Removes a file that is open here, and closes it. Nobody else gets its lock in between, except on Windows, which removes no file that is open."""
+def remove_and_close(path: str, descriptor: int) -> None:
+    """Removes a file that is open here, and closes it. Nobody else gets its lock in between, except on Windows, which
+    removes no file that is open.
+    """
     with contextlib.suppress(OSError):
         if not IS_WINDOWS:
             os.unlink(path)
@@ -113,8 +141,10 @@ def open_to_remove(path):
     return file
 
 
-def replace(source, target):
-    """Gives a file the name of another one, which goes. Windows refuses that while a program has the other one open, so there it is tried for a while."""
+def replace(source: str, target: str) -> None:
+    """Gives a file the name of another one, which goes. Windows refuses that while a program has the other one open, so
+    there it is tried for a while.
+    """
     limit = time.monotonic() + MOST_BUSY
     while True:
         try:
@@ -123,11 +153,15 @@ def replace(source, target):
             if not IS_WINDOWS:
                 raise
             if time.monotonic() > limit:
-                raise PermissionError(error.errno, "it cannot be replaced: another program has it open, or it must not be written", os.fspath(target)) from None
+                raise PermissionError(
+                    error.errno,
+                    "it cannot be replaced: another program has it open, or it must not be written",
+                    os.fspath(target),
+                ) from None
             time.sleep(0.05)
 
 
-def sync_folder(folder):
+def sync_folder(folder: str) -> None:
     """Brings the names of a folder to the disk, where the system opens folders."""
     if not hasattr(os, "O_DIRECTORY"):
         return
@@ -140,7 +174,7 @@ def sync_folder(folder):
         os.close(descriptor)
 
 
-def umask():
+def umask() -> int:
     """The permissions that new files do not get."""
     with contextlib.suppress(OSError), open("/proc/self/status", encoding="ascii", errors="replace") as file:
         for line in file:
@@ -152,17 +186,19 @@ def umask():
     return found
 
 
-def is_mine(found):
+def is_mine(found: os.stat_result) -> bool:
     """Whether a file, or a folder, is of this user. On Windows the folder for temporary files is."""
     return not hasattr(os, "getuid") or found.st_uid == os.getuid()
 
 
-def is_private(found):
-    """Whether only this user reads and writes a file. On Windows that follows from its folder, and the mode says nothing."""
+def is_private(found: os.stat_result) -> bool:
+    """Whether only this user reads and writes a file. On Windows that follows from its folder, and the mode says
+    nothing.
+    """
     return IS_WINDOWS or (is_mine(found) and not found.st_mode & 0o077)
 
 
-def owner():
+def owner() -> str:
     """The numbers of this user and their group; 0 where there are none."""
     return (os.getuid(), os.getgid()) if hasattr(os, "getuid") else (0, 0)
 
@@ -189,15 +225,16 @@ def is_full(folder, least):
 # Devices
 
 STANDARD_INPUT = "/dev/stdin"
-# Whether a path names the file of a descriptor, for other processes too, and opens it at its beginning. On macOS it is opened where it is being read.
+# Whether a path names the file of a descriptor, for other processes too, and opens it at its beginning. On macOS it is
+# opened where it is being read.
 HAS_DESCRIPTOR_PATHS = sys.platform.startswith("linux")
 
 
-def descriptor_path(descriptor):
+def descriptor_path(descriptor: int) -> str:
     return f"/dev/fd/{descriptor}"
 
 
-def is_device(path):
+def is_device(path: Union[str, bytes, "os.PathLike[str]", "os.PathLike[bytes]"]) -> bool:
     """Whether a path is that of a device, which may be another one in another process."""
     return not IS_WINDOWS and os.path.abspath(os.fsdecode(path)).startswith(("/dev/", "/proc/"))
 
@@ -228,8 +265,10 @@ F_SETPIPE_SZ = 1031
 ENDS = tuple(getattr(signal, name) for name in ("SIGTERM", "SIGHUP", "SIGBREAK") if hasattr(signal, name))
 
 
-def ready(reading, writing, milliseconds):
-    """Those of these descriptors that can be read, or were closed, and those that can be written; none if that takes longer. None: for ever."""
+def ready(reading: Iterable[int], writing: Iterable[int], milliseconds: Optional[int]) -> tuple[list[int], list[int]]:
+    """Those of these descriptors that can be read, or were closed, and those that can be written; none if that takes
+    longer. None: for ever.
+    """
     poll = select.poll()
     for descriptor in reading:
         poll.register(descriptor, select.POLLIN)
@@ -241,22 +280,26 @@ def ready(reading, writing, milliseconds):
 
 
 def is_readable(connection):
-    """Whether a socket has bytes, or was closed, now. Elsewhere than on Windows `select` refuses descriptors from 1024 on."""
-    return bool(ready([connection.fileno()], [], 0)[0] if hasattr(select, "poll") else select.select([connection], [], [], 0)[0])
+    """Whether a socket has bytes, or was closed, now. Elsewhere than on Windows `select` refuses descriptors from 1024
+    on.
+    """
+    return bool(
+        ready([connection.fileno()], [], 0)[0] if hasattr(select, "poll") else select.select([connection], [], [], 0)[0]
+    )
 
 
-def enlarge(descriptor, size):
+def enlarge(descriptor: int, size: int) -> None:
     """Makes a pipe so large, if the system does that."""
     with contextlib.suppress(OSError):
         fcntl.fcntl(descriptor, F_SETPIPE_SZ, size)
 
 
-def do_not_wait(descriptor):
+def do_not_wait(descriptor: int) -> None:
     """Calls on a pipe return at once."""
     os.set_blocking(descriptor, False)
 
 
-def kill_group(process):
+def kill_group(process: subprocess.Popen[bytes]) -> None:
     """Kills a program that has a session of its own, and what it started."""
     try:
         os.killpg(process.pid, signal.SIGKILL)
@@ -264,7 +307,7 @@ def kill_group(process):
         process.kill()
 
 
-def at_fork(after_in_child):
+def at_fork(after_in_child: Callable[[], None]) -> None:
     """Has a function called in each forked child, where there are some."""
     if hasattr(os, "register_at_fork"):
         os.register_at_fork(after_in_child=after_in_child)
@@ -283,11 +326,15 @@ def interrupt(process):
 
 def is_closed_pipe(error):
     """Whether an error of a write says that nobody reads any more. Windows says that an argument is invalid."""
-    return isinstance(error, BrokenPipeError) or (IS_WINDOWS and isinstance(error, OSError) and error.errno == errno.EINVAL and error.filename is None)
+    return isinstance(error, BrokenPipeError) or (
+        IS_WINDOWS and isinstance(error, OSError) and error.errno == errno.EINVAL and error.filename is None
+    )
 
 
 def prepare_output():
-    """Messages have names of files, which the character set of a pipe on Windows may not have: such letters are escaped."""
+    """Messages have names of files, which the character set of a pipe on Windows may not have: such letters are
+    escaped.
+    """
     for file in (sys.stdout, sys.stderr):
         if IS_WINDOWS and hasattr(file, "reconfigure"):
             file.reconfigure(errors="backslashreplace")
@@ -302,12 +349,15 @@ def processors():
 
 # Whether the system lists its processes, so that one can be known to be gone.
 HAS_PROCESSES = os.path.isdir("/proc/self/ns")
-# Bytes of a text that names a process, at most; and how one begins where there are no processes, if the file that it is in was locked.
+# Bytes of a text that names a process, at most; and how one begins where there are no processes, if the file that it is
+# in was locked.
 MOST_OWNER, LOCKED = 1000, "locked"
 
 
-def process_text(pid, is_locked=False):
-    """A text that names a process, and no other one: on this machine, since it was started, among the processes that this one sees."""
+def process_text(pid: int, is_locked: bool = False) -> str:
+    """A text that names a process, and no other one: on this machine, since it was started, among the processes that
+    this one sees.
+    """
     if HAS_PROCESSES:
         return "\n".join([*process_space(), str(pid), process_start(pid), ""])
     return "\n".join([LOCKED if is_locked else "not locked", socket.gethostname(), str(pid), ""])
@@ -320,7 +370,9 @@ def process_space():
 
 
 def process_start(pid):
-    """When a process was started, as the system has it; an empty text if it is gone, also if nobody waited for it yet."""
+    """When a process was started, as the system has it; an empty text if it is gone, also if nobody waited for it
+    yet.
+    """
     try:
         with open(f"/proc/{pid}/stat", encoding="ascii", errors="replace") as file:
             state = file.read().rpartition(")")[2].split()
@@ -329,19 +381,31 @@ def process_start(pid):
         return ""
 
 
-def is_gone(text):
-    """Whether the process that a text names is certainly gone. One of another machine, or among other processes, is not."""
+def is_gone(text: str) -> bool:
+    """Whether the process that a text names is certainly gone. One of another machine, or among other processes, is
+    not.
+    """
     parts = text.split("\n")
-    if not HAS_PROCESSES or len(parts) != 5 or not parts[2].isdecimal() or not parts[3] or tuple(parts[:2]) != process_space():
+    if (
+        not HAS_PROCESSES
+        or len(parts) != 5
+        or not parts[2].isdecimal()
+        or not parts[3]
+        or tuple(parts[:2]) != process_space()
+    ):
         return False
     return process_start(parts[2]) != parts[3]
 
 
-def is_abandoned(descriptor):
-    """Whether the process whose text is in a file is certainly gone. Where processes are not listed, the lock of the file says so, if it was made on this machine:
-    a system, or a file system, that cannot lock says nothing."""
+def is_abandoned(descriptor: int) -> bool:
+    """Whether the process whose text is in a file is certainly gone. Where processes are not listed, the lock of the
+    file says so, if it was made on this machine: a system, or a file system, that cannot lock says nothing."""
     text = os.read(descriptor, MOST_OWNER).decode("utf-8", "replace")
-    if not (is_gone(text) if HAS_PROCESSES else text.split("\n")[:2] == [LOCKED, socket.gethostname()] and text.count("\n") == 3):
+    if not (
+        is_gone(text)
+        if HAS_PROCESSES
+        else text.split("\n")[:2] == [LOCKED, socket.gethostname()] and text.count("\n") == 3
+    ):
         return False
     try:
         lock(descriptor)
@@ -364,7 +428,7 @@ def read_by_process(pid, path):
     return None
 
 
-def paths_of_process(pid):
+def paths_of_process(pid: int) -> Any:
     """The paths of the files that a process has open, where the system lists them."""
     with contextlib.suppress(OSError):
         for name in os.listdir(f"/proc/{pid}/fd"):
@@ -378,14 +442,16 @@ LIBRARY = "wokureti.dll" if IS_WINDOWS else "libwokureti.0.dylib" if IS_MACOS el
 V3 = {"avx2", "bmi1", "bmi2", "f16c", "fma", "abm", "movbe"}
 
 
-def program_file(name):
+def program_file(name: str) -> str:
     """The name of the file of a program."""
     return f"{name}.exe" if IS_WINDOWS else name
 
 
 @functools.lru_cache(maxsize=None)
-def builds():
-    """The processors for which there are builds that run here, the best one first; one of no name where there is only one build."""
+def builds() -> list[str]:
+    """The processors for which there are builds that run here, the best one first; one of no name where there is only
+    one build.
+    """
     if NAME != "Linux" or os.uname().machine != "x86_64":
         return [""]
     try:
@@ -396,8 +462,10 @@ def builds():
     return (["x86-64-v3"] if V3 <= flags else []) + ["x86-64-v2"]
 
 
-def library_places():
-    """Where the libraries that run here are, from the folder of the library of an installed package: the one for the best processor first, as glibc's loader has it."""
+def library_places() -> list[str]:
+    """Where the libraries that run here are, from the folder of the library of an installed package: the one for the
+    best processor first, as glibc's loader has it.
+    """
     return [f"glibc-hwcaps/{build}" for build in builds()[:-1]] + [""]
 
 
@@ -423,29 +491,36 @@ SEPARATOR = ";" if IS_WINDOWS else ":"
 PLAIN = re.compile("[A-Za-z0-9._/+-]*")
 
 
-def sources_of(text):
-    """The paths of a list: `a.ivf:b.ivf` elsewhere than on Windows, and `a.ivf;b.ivf`. A `;` in the name of a file that is there separates nothing."""
+def sources_of(text: str) -> list[str]:
+    """The paths of a list: `a.ivf:b.ivf` elsewhere than on Windows, and `a.ivf;b.ivf`. A `;` in the name of a file that
+    is there separates nothing.
+    """
     parts = [text] if IS_WINDOWS else text.split(":")
     return [path for part in parts for path in ([part] if os.path.isfile(part) else part.split(";"))]
 
 
-def slashed(path):
+def slashed(path: str) -> str:
     """A path as it is written on every system: Windows takes `/` too."""
     return path.replace("\\", "/") if IS_WINDOWS else path
 
 
-def names_of(path):
+def names_of(path: str) -> list[str]:
     """The names that the last part of a path may have: a list of edits that was made on Windows has its separators."""
     return list(dict.fromkeys((os.path.basename(path), ntpath.basename(path))))
 
 
 def plain_folder():
-    """A folder for temporary files whose path neither a list of paths nor a shell divides. On Windows no shell gets it, and there is no other one."""
+    """A folder for temporary files whose path neither a list of paths nor a shell divides. On Windows no shell gets it,
+    and there is no other one.
+    """
     folder = tempfile.gettempdir()
     if not IS_WINDOWS:
         return folder if PLAIN.fullmatch(folder) else "/tmp"
     if SEPARATOR in folder:
-        raise ValueError(f"the folder for temporary files, {folder}, has a `{SEPARATOR}` in its path: name another one in the variable TMP")
+        raise ValueError(
+            f"the folder for temporary files, {folder}, has a `{SEPARATOR}` in its path: name another one in the"
+            " variable TMP"
+        )
     return folder
 
 

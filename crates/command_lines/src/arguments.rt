@@ -8,7 +8,7 @@ use std::env::{self, Env};
 use std::io::ErrorKind;
 
 /// The version of both programs.
-pub const VERSION: &str = "0.15.0";
+pub const VERSION: &str = "0.16.0";
 
 /// The program's arguments, its name first.
 ///

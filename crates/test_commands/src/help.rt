@@ -293,11 +293,11 @@ fn shows_its_version(rt: HostRuntime) {
         &rt,
         "vp8serve --version",
         "frame 0\n",
-        "vp8serve 0.15.0\n",
+        "vp8serve 0.16.0\n",
         "",
         0,
     );
-    expect(&rt, "vp8serve -V", "frame 0\n", "vp8serve 0.15.0\n", "", 0);
+    expect(&rt, "vp8serve -V", "frame 0\n", "vp8serve 0.16.0\n", "", 0);
 }
 
 #[test]
@@ -308,6 +308,6 @@ fn shows_help_of_the_list(rt: HostRuntime) {
 
 #[test]
 fn shows_the_version_of_the_list(rt: HostRuntime) {
-    expect_list(&rt, &["vp8list", "--version"], "vp8list 0.15.0\n");
-    expect_list(&rt, &["vp8list", "-V"], "vp8list 0.15.0\n");
+    expect_list(&rt, &["vp8list", "--version"], "vp8list 0.16.0\n");
+    expect_list(&rt, &["vp8list", "-V"], "vp8list 0.16.0\n");
 }

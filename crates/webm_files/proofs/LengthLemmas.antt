@@ -1,6 +1,7 @@
 -- Lengths that are wrong, when one more element is read.
-use Rattle.std.proofs.Common.{◌≡◌, ℕ, ◌≤◌, ◌+◌, Bool, true, false, ◌||◌, cond, eqb, List, [], ◌∷◌, ◌++◌, length, refl, sym, ap, ◌∙◌, arith, append_assoc, append-nil, length-append, Option, Some, None}
+use Rattle.std.proofs.Common.{◌≡◌, ℕ, ◌≤◌, ◌<◌, ◌+◌, Bool, true, false, ◌||◌, cond, eqb, List, [], ◌∷◌, ◌++◌, length, refl, sym, ap, ◌∙◌, arith, append_assoc, append-nil, length-append, Option, Some, None}
 use Rattle.std.specs.List.{find}
+use Rattle.std.proofs.lemmas.Bool.{le-ltb, lt-ltb}
 use Rattle.webm_files.specs.declared.ids.TheConstants.{CLUSTER, EBML, SEGMENT}
 use Rattle.webm_files.specs.declared.elements.Element.{Element}
 use Rattle.webm_files.specs.declared.lengths.Span.{Span}
@@ -92,3 +93,46 @@ few_at file is_cut level (element ∷ elements) =
 pub few_wrong : (file : List ℕ) (is_cut : Bool) (elements : List Element) → length (wrong_lengths file is_cut elements) ≤ length elements + length elements
 few_wrong file is_cut elements =
     omega (arith, length-append (wrong_at file is_cut SEGMENT elements) (wrong_at file is_cut CLUSTER elements), few_at file is_cut SEGMENT elements, few_at file is_cut CLUSTER elements)
+
+-- what the next element decides of a length
+first_if : (is : Bool) (first : Element) (rest : Option Element) → is ≡ true → cond is (Some first) rest ≡ Some first
+first_if true first rest e = refl
+first_if false first rest e = let wrong : false ≡ true = e in (cc)
+
+by_next : (file : List ℕ) (is_cut : Bool) (level : ℕ) (element next : Element) (elements : List Element) (span : Span) (end : Option ℕ) → span_of file level element ≡ Some span
+    → decides_length level span.says next ≡ true → end_by level span.says next ≡ end
+    → wrong_at file is_cut level (element ∷ next ∷ elements) ≡ wrong_by level span end ++ wrong_at file is_cut level (next ∷ elements)
+by_next file is_cut level element next elements span end s d e =
+    ap (λ (some : Option Span). wrong_before (length file) is_cut level some (next ∷ elements) ++ wrong_at file is_cut level (next ∷ elements)) s
+    ∙ ap (λ (some : Option Element). wrong_by level span (end_among (length file) is_cut level span.says some) ++ wrong_at file is_cut level (next ∷ elements))
+    (first_if (decides_length level span.says next) next (find (decides_length level span.says) elements) d)
+    ∙ ap (λ (some : Option ℕ). wrong_by level span some ++ wrong_at file is_cut level (next ∷ elements)) e
+
+closed : (is after : Bool) → is ≡ true → (is || after) ≡ true
+closed true after e = refl
+closed false after e = let wrong : false ≡ true = e in (cc)
+
+passed : (is after : Bool) → after ≡ true → (is || after) ≡ true
+passed true after e = refl
+passed false after e = e
+
+pub right : (file : List ℕ) (is_cut : Bool) (level : ℕ) (element next : Element) (elements : List Element) (span : Span) → span_of file level element ≡ Some span → closes level next.id ≡ true
+    → span.says ≤ next.place → wrong_at file is_cut level (element ∷ next ∷ elements) ≡ wrong_at file is_cut level (next ∷ elements)
+right file is_cut level element next elements span s c long =
+    by_next file is_cut level element next elements span None s (closed (closes level next.id) (ends_after span.says next) c) (rw (c, le-ltb next.place span.says long) refl)
+
+pub early : (file : List ℕ) (is_cut : Bool) (level : ℕ) (element next : Element) (elements : List Element) (span : Span) → span_of file level element ≡ Some span → closes level next.id ≡ true
+    → next.place < span.says
+    → wrong_at file is_cut level (element ∷ next ∷ elements) ≡ record { id = level; place = span.place; says = span.says; ends = next.place } ∷ wrong_at file is_cut level (next ∷ elements)
+early file is_cut level element next elements span s c short =
+    by_next file is_cut level element next elements span (Some next.place) s (closed (closes level next.id) (ends_after span.says next) c) (rw (c, lt-ltb next.place span.says short) refl)
+
+pub late : (file : List ℕ) (is_cut : Bool) (level : ℕ) (element next : Element) (elements : List Element) (span : Span) → span_of file level element ≡ Some span → closes level next.id ≡ false
+    → ends_after span.says next ≡ true
+    → wrong_at file is_cut level (element ∷ next ∷ elements) ≡ record { id = level; place = span.place; says = span.says; ends = next.end } ∷ wrong_at file is_cut level (next ∷ elements)
+late file is_cut level element next elements span s c after =
+    by_next file is_cut level element next elements span (Some next.end) s (passed (closes level next.id) (ends_after span.says next) after) (rw (c, after) refl)
+
+pub last : (file : List ℕ) (level : ℕ) (element : Element) (span : Span) → span_of file level element ≡ Some span → length file < span.says
+    → wrong_at file false level (element ∷ []) ≡ record { id = level; place = span.place; says = span.says; ends = length file } ∷ []
+last file level element span s short = rw (s, lt-ltb (length file) span.says short) refl

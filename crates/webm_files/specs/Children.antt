@@ -1,5 +1,6 @@
 -- The elements in the content of an element that is whole, such as Info or an entry of Tracks.
 use Rattle.std.specs.Prelude.{ℕ, zero, suc, ◌+◌, ◌^◌, ◌≤◌, ◌==◌, ◌&&◌, Bool, nat_le, nat_lt, if◌then◌else◌, List, [], ◌∷◌, length, take, drop}
+use Rattle.std.specs.List.{position_or_len}
 use Rattle.webm_files.specs.Elements.{HasHead, IsSized, width, after_number, id_of, head_size, content_size}
 use Rattle.webm_files.specs.Blocks.{whole_number}
 
@@ -47,3 +48,11 @@ number_or other text = if length text == 0 then other else whole_number text
 -- the content of the first child of a name in a content, or nothing
 abbrev pub field : ℕ → List ℕ → List ℕ
 field id text = child_of id (children text)
+
+-- the value of a string: its bytes before the first 0, which ends it (RFC 8794, section 13)
+abbrev pub value_of : List ℕ → List ℕ
+value_of text = take (position_or_len (λ byte. byte == 0) text) text
+
+-- the value of the first child of a name that is a string, or nothing
+abbrev pub text_field : ℕ → List ℕ → List ℕ
+text_field id text = value_of (field id text)

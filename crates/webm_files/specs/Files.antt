@@ -10,7 +10,7 @@ use Rattle.webm_files.specs.declared.files.WebmFault.TheVariants.{Header, DocTyp
 use Rattle.webm_files.specs.Elements.{HasElement, id_of}
 use Rattle.webm_files.specs.Walks.{Walk, IsWalk, IsCut, element_of, first_of}
 use Rattle.webm_files.specs.Blocks.{content, blocks_of}
-use Rattle.webm_files.specs.Children.{field, number_or}
+use Rattle.webm_files.specs.Children.{field, number_or, text_field}
 use Rattle.webm_files.specs.Tracks.{IsHead, codec_in, entries_of, number_of, numbers_of, video_in}
 use Rattle.webm_files.specs.Kept.{gaps_of, parts_of, skipped}
 use Rattle.webm_files.specs.Clusters.{timeless_of}
@@ -42,7 +42,7 @@ is_doc_type text = bytes_eq text (codes "webm") || bytes_eq text (codes "matrosk
 
 -- the head says that the file is of such a kind
 abbrev pub HasDocType : List ℕ → Type 0
-HasDocType file = HasHeader file × (is_doc_type (field DOC_TYPE (content file (element_of file 0))) ≡ true)
+HasDocType file = HasHeader file × (is_doc_type (text_field DOC_TYPE (content file (element_of file 0))) ≡ true)
 
 -- the content of the first Tracks of a file, and of its first Info, which is empty if there is none
 abbrev pub tracks_of : List ℕ → Walk → Option (List ℕ)

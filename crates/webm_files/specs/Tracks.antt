@@ -4,7 +4,7 @@ use Rattle.std.specs.List.{filter, find}
 use Rattle.std.specs.Int.{IsGcd}
 use Rattle.stream_files.specs.declared.streams.Head.{Head}
 use Rattle.webm_files.specs.declared.ids.TheConstants.{CODEC_ID, ENTRY, PIXEL_HEIGHT, PIXEL_WIDTH, TRACK_NUMBER, TRACK_TYPE, VIDEO}
-use Rattle.webm_files.specs.Children.{Child, children, field, number_or}
+use Rattle.webm_files.specs.Children.{Child, children, field, number_or, text_field}
 
 -- the entries among some children
 abbrev pub entries_in : List Child → List (List ℕ)
@@ -16,7 +16,7 @@ entries_of tracks = entries_in (children tracks)
 
 -- a track is video of VP8
 abbrev pub is_video : List ℕ → Bool
-is_video entry = bytes_eq (field CODEC_ID entry) (codes "V_VP8")
+is_video entry = bytes_eq (text_field CODEC_ID entry) (codes "V_VP8")
 
 -- the entry of the first such track
 abbrev pub video_in : List ℕ → Option (List ℕ)
@@ -28,7 +28,7 @@ is_picture entry = number_or 0 (field TRACK_TYPE entry) == 1
 
 -- the codec of the first such track, or nothing
 abbrev pub codec_in : List ℕ → List ℕ
-codec_in tracks = unwrap_or (option_map (field CODEC_ID) (find is_picture (entries_of tracks))) []
+codec_in tracks = unwrap_or (option_map (text_field CODEC_ID) (find is_picture (entries_of tracks))) []
 
 -- the number of a track, which its blocks have
 abbrev pub number_of : List ℕ → ℕ

@@ -1,10 +1,11 @@
 // The elements in the content of an element.
 ghost use Rattle.std.specs.Prelude.{◌≡◌, ◌+◌, ◌<◌, ◌≤◌, length, IfNone, IfSome};
-ghost use Rattle.webm_files.specs.Children.{HasChild, field, number_or};
+ghost use Rattle.webm_files.specs.Children.{HasChild, field, number_or, text_field};
 ghost use Rattle.webm_files.specs.Elements.{content_size, head_size, id_of};
 
 use super::blocks::whole_number;
 use super::heads::first_head;
+use text_words::length_before;
 
 /// A child of a content: its name, and the positions where its own content begins and ends.
 #[derive(Clone, Copy)]
@@ -48,6 +49,14 @@ pub(crate) fn field(text: &[u8], id: u64) -> &[u8]
         rest = &rest[child.end..];
     }
     &text[..0]
+}
+
+/// The value of the first child of a name that is a string, or nothing: writers may end a string with a 0.
+pub(crate) fn text_field(text: &[u8], id: u64) -> &[u8]
+    ensures { result.now ≡ text_field id text.now }
+{
+    let found = field(text, id);
+    &found[..length_before(0, found)]
 }
 
 /// The number of a content, or another one if it is empty.

@@ -7,7 +7,7 @@ ghost use Rattle.webm_files.specs.Children.{field, number_or};
 ghost use Rattle.webm_files.specs.Files.{HasDocType, IsCodec, WebmAnswers, WebmRefuses, is_doc_type, is_marked, webm_fault_word};
 ghost use Rattle.webm_files.specs.Starts.{IsRead, IsStart};
 
-use super::children::{field, number_or};
+use super::children::{field, number_or, text_field};
 use super::elements::{Element, element_at};
 use super::gaps::read_gaps;
 use super::ids::{DEFAULT_DURATION, DOC_TYPE, EBML, ENCODINGS, TIMESTAMP_SCALE};
@@ -110,7 +110,7 @@ fn check_doc_type(bytes: &[u8]) -> Result<(), WebmFault>
     if header.id != EBML {
         return Err(WebmFault::Header);
     }
-    if !is_doc_type(field(&bytes[header.start..header.end], DOC_TYPE)) {
+    if !is_doc_type(text_field(&bytes[header.start..header.end], DOC_TYPE)) {
         return Err(WebmFault::DocType);
     }
     Ok(())

@@ -3,7 +3,7 @@ ghost use Rattle.std.specs.Prelude.{◌≡◌, ◌+◌, ◌-◌, ◌^◌, ◌<�
 ghost use Rattle.std.specs.Int.{IsGcd};
 ghost use Rattle.webm_files.specs.Tracks.{IsHead, codec_in, entries_of, is_picture, is_video, number_of, numbers_of, video_in};
 
-use super::children::{Child, field, first_child, number_or};
+use super::children::{Child, field, first_child, number_or, text_field};
 use super::ids::{CODEC_ID, ENTRY, PIXEL_HEIGHT, PIXEL_WIDTH, TRACK_NUMBER, TRACK_TYPE, VIDEO};
 use std::alloc::{AllocError, Global};
 use stream_files::Head;
@@ -34,7 +34,7 @@ fn next_entry(tracks: &[u8]) -> Option<Child>
 fn is_video(entry: &[u8]) -> bool
     ensures { result ≡ is_video entry.now }
 {
-    field(entry, CODEC_ID) == b"V_VP8".as_slice()
+    text_field(entry, CODEC_ID) == b"V_VP8".as_slice()
 }
 
 /// The entry of the first track that is video of VP8.
@@ -68,7 +68,7 @@ pub(crate) fn codec_in(tracks: &[u8]) -> &[u8]
     'entries: while let Some(entry) = next_entry(rest) {
         let content = &rest[entry.start..entry.end];
         if is_picture(content) {
-            return field(content, CODEC_ID);
+            return text_field(content, CODEC_ID);
         }
         rest = &rest[entry.end..];
     }

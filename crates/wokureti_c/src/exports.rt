@@ -21,12 +21,12 @@ use crate::statuses::{CLOSED, MEMORY, OK};
 use frame_session::Capacity;
 use std::alloc::Global;
 
-/// The version of the library, 0.15.0: 10,000 times the first number, 100 times the second, and the third.
+/// The version of the library, 0.16.0: 10,000 times the first number, 100 times the second, and the third.
 #[unsafe(no_mangle)]
 pub extern "C" fn wk_version() -> u32
-    ensures { result ≡ version_number 0 15 0 }
+    ensures { result ≡ version_number 0 16 0 }
 {
-    1500
+    1600
 }
 
 /// Ends the session of a handle, if it holds one. The handle holds nothing afterwards.

@@ -1,4 +1,5 @@
-"""Captures of network packets as the UDP datagrams in them: pcap and pcapng, rtpdump, and the recordings of Janus (.mjr).
+"""Captures of network packets as the UDP datagrams in them: pcap and pcapng, rtpdump, and the recordings of Janus
+(.mjr).
 
 A capture that is damaged is read on where its records follow each other again, and says so."""
 
@@ -6,7 +7,10 @@ import json
 import struct
 from typing import NamedTuple
 
-# The first bytes of a pcap file, and how it is read: the order of bytes, and that times are in nanoseconds does not matter here.
+from ..errors import NotRead
+
+# The first bytes of a pcap file, and how it is read: the order of bytes, and that times are in nanoseconds does not
+# matter here.
 PCAP = {b"\xd4\xc3\xb2\xa1": "<", b"\x4d\x3c\xb2\xa1": "<", b"\xa1\xb2\xc3\xd4": ">", b"\xa1\xb2\x3c\x4d": ">"}
 PCAPNG, RTPDUMP, JANUS = b"\x0a\x0d\x0d\x0a", b"#!rtpplay1.0", (b"MJR00001", b"MJR00002", b"MEETECHO")
 # Bytes of a packet of a network, at most, and of a block of pcapng.
@@ -23,13 +27,9 @@ VLANS, PPPOE = (0x8100, 0x88A8, 0x9100), 0x8864
 LINKS = "Ethernet, Linux's cooked capture, loopback and raw IP"
 
 
-class NotRead(ValueError):
-    """A capture that cannot be read."""
-
-
 class Datagram(NamedTuple):
-    """The payload of a UDP packet, from where to where it was sent, and whether its checksum is right: None if it has none. A payload that was not captured
-    to its end is None."""
+    """The payload of a UDP packet, from where to where it was sent, and whether its checksum is right: None if it has
+    none. A payload that was not captured to its end is None."""
 
     flow: tuple
     data: object
@@ -52,11 +52,20 @@ class Capture:
         found = []
         if self.gaps:
             (start, stop), more = self.gaps[0], len(self.gaps) - 1
-            found.append(f"{name} is damaged at byte {start:,}: {stop - start:,} bytes lead to no record" + (f", and at {more} more places" if more else ""))
+            found.append(
+                f"{name} is damaged at byte {start:,}: {stop - start:,} bytes lead to no record"
+                + (f", and at {more} more places" if more else "")
+            )
         if self.end is not None:
-            found.append(f"{name} ends in the middle of a record, after {self.end:,} bytes: the packets that followed are missing")
+            found.append(
+                f"{name} ends in the middle of a record, after {self.end:,} bytes: the packets that followed are"
+                " missing"
+            )
         if self.short:
-            found.append(f"{name}: {self.short:,} packets were not captured to their end (tcpdump -s 0 captures whole ones): they count as lost")
+            found.append(
+                f"{name}: {self.short:,} packets were not captured to their end (tcpdump -s 0 captures whole ones):"
+                " they count as lost"
+            )
         if self.fragments:
             found.append(f"{name}: {self.fragments:,} parts of IP packets are left out: they count as lost")
         return found
@@ -79,7 +88,9 @@ def read(data):
     if kind is None:
         raise NotRead("it does not begin as a capture")
     capture = Capture(kind)
-    {"pcap": read_pcap, "pcapng": read_pcapng, "rtpdump": read_rtpdump, "Janus recording": read_janus}[kind](data, capture)
+    {"pcap": read_pcap, "pcapng": read_pcapng, "rtpdump": read_rtpdump, "Janus recording": read_janus}[kind](
+        data, capture
+    )
     if capture.other_links and not capture.datagrams:
         raise NotRead(f"it is a capture of link type {capture.link}, which is not read here: {LINKS} are")
     return capture
@@ -89,7 +100,9 @@ def read(data):
 
 
 def resume(capture, place, others):
-    """The first of the other places, from which reading goes on after damage at a place; None if there is none, and then the capture ends there."""
+    """The first of the other places, from which reading goes on after damage at a place; None if there is none, and
+    then the capture ends there.
+    """
     found = next(others, None)
     if found is None:
         capture.end = place
@@ -109,7 +122,9 @@ def read_pcap(data, capture):
     while place < size:
         found = pcap_record(data, record, place, last)
         if found is None:
-            place = resume(capture, place, (at for at in range(place + 1, size - record.size) if follows(data, record, at, last)))
+            place = resume(
+                capture, place, (at for at in range(place + 1, size - record.size) if follows(data, record, at, last))
+            )
             if place is None:
                 return
             continue
@@ -120,7 +135,9 @@ def read_pcap(data, capture):
 
 
 def pcap_record(data, record, place, last):
-    """The second, the captured bytes and the length of a packet whose record is at a place; None if it is none, or the file ends in it."""
+    """The second, the captured bytes and the length of a packet whose record is at a place; None if it is none, or the
+    file ends in it.
+    """
     if place + record.size > len(data):
         return None
     second, _, captured, length = record.unpack_from(data, place)
@@ -149,7 +166,9 @@ def read_pcapng(data, capture):
     while place < size:
         found = block_at(data, order, place)
         if found is None:
-            place = resume(capture, place, (at for at in range(place + 4 - place % 4, size - 12, 4) if is_chain(data, order, at)))
+            place = resume(
+                capture, place, (at for at in range(place + 4 - place % 4, size - 12, 4) if is_chain(data, order, at))
+            )
             if place is None:
                 return
             continue
@@ -164,7 +183,9 @@ def read_pcapng(data, capture):
 
 
 def block_at(data, order, place):
-    """The order of bytes, the type of the block at a place, and where its content begins and ends; None if there is none."""
+    """The order of bytes, the type of the block at a place, and where its content begins and ends; None if there is
+    none.
+    """
     if place + 12 > len(data):
         return None
     if data[place : place + 4] == PCAPNG:
@@ -173,7 +194,13 @@ def block_at(data, order, place):
             return None
     kind, length = struct.unpack_from(order + "II", data, place)
     end = place + length
-    if length < 12 or length % 4 or length > MOST_BLOCK or end > len(data) or struct.unpack_from(order + "I", data, end - 4)[0] != length:
+    if (
+        length < 12
+        or length % 4
+        or length > MOST_BLOCK
+        or end > len(data)
+        or struct.unpack_from(order + "I", data, end - 4)[0] != length
+    ):
         return None
     return order, kind, place + 8, end - 4
 
@@ -208,7 +235,9 @@ def take_block(capture, block, kind, order, links):
 
 
 def read_rtpdump(data, capture):
-    """rtpdump: a line, a header of 16 bytes, and for each packet 8 bytes, with its length with these and that of the packet, which is 0 for RTCP."""
+    """rtpdump: a line, a header of 16 bytes, and for each packet 8 bytes, with its length with these and that of the
+    packet, which is 0 for RTCP.
+    """
     line = data[:256].tobytes().find(b"\n") if isinstance(data, memoryview) else data[:256].find(b"\n")
     place, size = line + 17, len(data)
     while line >= 0 and place + 8 <= size:
@@ -225,7 +254,9 @@ def read_rtpdump(data, capture):
 
 
 def read_janus(data, capture):
-    """Janus: 8 bytes, a length and a text about the recording; then for each packet 8 bytes, its length and the packet."""
+    """Janus: 8 bytes, a length and a text about the recording; then for each packet 8 bytes, its length and the
+    packet.
+    """
     place, size = 0, len(data)
     while place + 10 <= size:
         mark, length = bytes(data[place : place + 8]), struct.unpack_from(">H", data, place + 8)[0]
@@ -295,7 +326,9 @@ def add(capture, addresses, segment, length, is_short):
 
 
 def is_sum_right(addresses, segment):
-    """Whether the checksum of a segment is right (RFC 768): the sum of its words, and of those of the addresses, in ones' complement, is 0."""
+    """Whether the checksum of a segment is right (RFC 768): the sum of its words, and of those of the addresses, in
+    ones' complement, is 0.
+    """
     size = len(segment)
     total = int.from_bytes(addresses, "big") + UDP + size
     total += int.from_bytes(segment, "big") << 8 * (size % 2)
@@ -303,7 +336,9 @@ def is_sum_right(addresses, segment):
 
 
 def internet(link, packet):
-    """The version of IP and the packet of IP in a packet of a link; (None, packet) for another protocol. None if the link is not read here."""
+    """The version of IP and the packet of IP in a packet of a link; (None, packet) for another protocol. None if the
+    link is not read here.
+    """
     if link == 1:
         return ethernet(packet, 12)
     if link in (12, 14, 101, 228, 229):
@@ -322,7 +357,9 @@ def word(packet, place):
 
 
 def ethernet(packet, place):
-    """The same of a packet of Ethernet whose type is at a place: tags of virtual networks, and PPPoE, may come before IP."""
+    """The same of a packet of Ethernet whose type is at a place: tags of virtual networks, and PPPoE, may come before
+    IP.
+    """
     kind = word(packet, place)
     while kind in VLANS:
         place += 4
@@ -337,7 +374,9 @@ def by_type(kind, packet):
 
 
 def parts_of(version, packet):
-    """The addresses, the segment and its length by the header, of a packet of UDP; FRAGMENTS for a part of one; None for anything else."""
+    """The addresses, the segment and its length by the header, of a packet of UDP; FRAGMENTS for a part of one; None
+    for anything else.
+    """
     if version == 4 and len(packet) >= 20:
         length, start = word(packet, 2), 4 * (packet[0] & 15)
         if packet[9] != UDP or start < 20:

@@ -1,4 +1,6 @@
-"""Frames that are cut off: zeros for the token partitions that are missing, so that a decoder reads what came (RFC 6386, section 9.5)."""
+"""Frames that are cut off: zeros for the token partitions that are missing, so that a decoder reads what came (RFC
+6386, section 9.5).
+"""
 
 HEAD, KEY_HEAD = 3, 10
 
@@ -63,8 +65,8 @@ def count_of(data):
 
 
 def completed(data):
-    """The bytes of a frame that was cut after its first partition, with zeros up to where its last token partition begins: a decoder reads zeros after the
-    end of each partition anyway."""
+    """The bytes of a frame that was cut after its first partition, with zeros up to where its last token partition
+    begins: a decoder reads zeros after the end of each partition anyway."""
     first = (data[0] | data[1] << 8 | data[2] << 16) >> 5
     table = (HEAD if data[0] & 1 else KEY_HEAD) + first
     count = count_of(data)

@@ -5,10 +5,10 @@ import mmap
 import os
 from typing import NamedTuple
 
+from ..errors import NotRead
+from ..base.progress import say
+from ..media import ivf
 from . import captures, partitions, rtp
-from .captures import NotRead
-from ..tools import ivf
-from ..tools.progress import say
 
 # The number of the stream of a capture that is read, from 1, or None: the one with the most bytes.
 chosen = None
@@ -29,8 +29,9 @@ class Choice(NamedTuple):
 
 
 class Missing(NamedTuple):
-    """What is missing of a stream: of a packet that is cut off (`cut_off`), or before one: a frame (`lost_frame`), packets of RTP between two frames
-    (`lost_packets`), or so many pictures by their numbers (`lost_pictures`). `ranges` are sequence numbers."""
+    """What is missing of a stream: of a packet that is cut off (`cut_off`), or before one: a frame (`lost_frame`),
+    packets of RTP between two frames (`lost_packets`), or so many pictures by their numbers (`lost_pictures`). `ranges`
+    are sequence numbers."""
 
     kind: str
     packet: int
@@ -45,16 +46,27 @@ class Missing(NamedTuple):
             return f"a frame before packet {self.packet} is lost: RTP packets {ranges} are missing"
         if self.kind == "lost_packets":
             return f"RTP packets {ranges} are missing before packet {self.packet}"
-        return f"{self.count} picture{'s' * (self.count != 1)} before packet {self.packet} {'are' if self.count != 1 else 'is'} missing, by the numbers of the pictures"
+        return (
+            f"{self.count} picture{'s' * (self.count != 1)} before packet"
+            f" {self.packet} {'are' if self.count != 1 else 'is'} missing, by the numbers of the pictures"
+        )
 
     def json(self):
         """The finding as vp8list's are."""
-        facts = {"count": self.count} if self.kind == "lost_pictures" else {"missing": [[number % 65536 for number in pair] for pair in self.ranges]}
-        return json.dumps({"packet": self.packet, "kind": self.kind, **facts, "severity": "damage"}, separators=(",", ":"))
+        facts = (
+            {"count": self.count}
+            if self.kind == "lost_pictures"
+            else {"missing": [[number % 65536 for number in pair] for pair in self.ranges]}
+        )
+        return json.dumps(
+            {"packet": self.packet, "kind": self.kind, **facts, "severity": "damage"}, separators=(",", ":")
+        )
 
 
 class Call(NamedTuple):
-    """The frames of a capture that can be decoded, and what is missing: for each frame whether some were lost before it, and all that is missing."""
+    """The frames of a capture that can be decoded, and what is missing: for each frame whether some were lost before
+    it, and all that is missing.
+    """
 
     head: object
     frames: list
@@ -83,7 +95,9 @@ def load(path):
 
 
 def choose(path, name, number=None, is_quiet=True):
-    """The stream of VP8 of a capture: the one of this number, or that with the most bytes. `NotRead` with a sentence if there is none."""
+    """The stream of VP8 of a capture: the one of this number, or that with the most bytes. `NotRead` with a sentence if
+    there is none.
+    """
     number = chosen if number is None else number
     try:
         capture = captures.read(load(path))
@@ -93,7 +107,11 @@ def choose(path, name, number=None, is_quiet=True):
         raise NotRead(f"{name} is a {kind} file: {error}" if kind else f"{name}: {error}") from None
     found = streams.of_vp8()
     if not found:
-        why = "its packets were not captured to their end (tcpdump -s 0 captures whole ones)" if capture.short > len(capture.datagrams) / 2 else streams.why_none()
+        why = (
+            "its packets were not captured to their end (tcpdump -s 0 captures whole ones)"
+            if capture.short > len(capture.datagrams) / 2
+            else streams.why_none()
+        )
         raise NotRead(f"{name} is a {capture.kind} file with no video that can be read: {why}")
     if number is not None and not 1 <= number <= len(found):
         raise NotRead(f"{name} has {streams_text(len(found))} of VP8: --stream {number} is none of them")
@@ -124,7 +142,10 @@ def stream_text(stream, packets):
     more += f", {stream.again} twice" if stream.again else ""
     picture = f"{size[0]}x{size[1]}" if size else "no size"
     seconds = (max(packet.time for packet in packets) - first.time) / rtp.RATE
-    return f"SSRC {stream.ssrc:08x}, payload type {stream.kind}, {len(packets):,} packets, {lost:,} lost{more}, {picture}, {seconds:.1f} s"
+    return (
+        f"SSRC {stream.ssrc:08x}, payload type {stream.kind}, {len(packets):,} packets, {lost:,} lost{more}, {picture},"
+        f" {seconds:.1f} s"
+    )
 
 
 def call_of(frames):
@@ -167,7 +188,10 @@ def range_text(pair):
 def packets_of(call):
     """The packets of a call as pairs of a time stamp, from that of the first frame on, and bytes."""
     start = min((frame.time for frame in call.frames), default=0)
-    return [(frame.time - start, frame.data if frame.is_whole else partitions.completed(frame.data)) for frame in call.frames]
+    return [
+        (frame.time - start, frame.data if frame.is_whole else partitions.completed(frame.data))
+        for frame in call.frames
+    ]
 
 
 def read(path, out, name, is_quiet):
@@ -191,15 +215,23 @@ def damage_of(name, choice, call):
         lost = packets[-1].sequence - packets[0].sequence + 1 - len(packets)
         cut = sum(not frame.is_whole for frame in call.frames)
         gone = len(choice.frames) - len(call.frames)
-        found.append(f"{name}: {lost:,} packets of RTP are missing: {cut:,} frames are cut off and {gone:,} more are lost, of {len(choice.frames):,}")
+        found.append(
+            f"{name}: {lost:,} packets of RTP are missing: {cut:,} frames are cut off and {gone:,} more are lost, of"
+            f" {len(choice.frames):,}"
+        )
         found += [f"{name}: {one.text()}" for one in call.missing[:MOST_LINES]]
         if len(call.missing) > MOST_LINES:
-            found.append(f"{name}: {len(call.missing) - MOST_LINES:,} more places where packets are missing, which `wokureti check` lists")
+            found.append(
+                f"{name}: {len(call.missing) - MOST_LINES:,} more places where packets are missing, which `wokureti"
+                " check` lists"
+            )
     return found
 
 
 class Searched:
-    """The frames of a capture for `wokureti repair`, with those of a second capture of the same call if there is one."""
+    """The frames of a capture for `wokureti repair`, with those of a second capture of the same call if there is
+    one.
+    """
 
     def __init__(self, path, name, second=None, second_name=None):
         choice = choose(path, name, is_quiet=False)
@@ -210,7 +242,9 @@ class Searched:
             merged = rtp.merge(choice.packets, other.packets)
             frames = rtp.frames_of(merged.packets)
             after = sum(frame.is_whole for frame in frames)
-            self.said.append(f"{merged.taken} packets of RTP of {second_name} taken: {after} frames are whole, {before} were")
+            self.said.append(
+                f"{merged.taken} packets of RTP of {second_name} taken: {after} frames are whole, {before} were"
+            )
             if merged.others:
                 self.said.append(f"{merged.others} packets of RTP differ there and are left")
         self.changed = bool(second is not None and merged.taken)

@@ -3,14 +3,26 @@
 import bisect
 from typing import NamedTuple
 
-from .captures import NotRead
+from ..errors import NotRead
+
 
 # Ticks a second of the time stamps.
 RATE = 90000
 # Payload types of RTP that are RTCP where both use one port (RFC 5761), with the bit of the marker.
 RTCP = range(192, 224)
 # Payload types that have one meaning everywhere, of those that are still used.
-STATIC = {0: "G.711 sound", 3: "GSM sound", 8: "G.711 sound", 9: "G.722 sound", 13: "comfort noise", 18: "G.729 sound", 26: "JPEG", 31: "H.261", 32: "MPEG video", 34: "H.263"}
+STATIC = {
+    0: "G.711 sound",
+    3: "GSM sound",
+    8: "G.711 sound",
+    9: "G.722 sound",
+    13: "comfort noise",
+    18: "G.729 sound",
+    26: "JPEG",
+    31: "H.261",
+    32: "MPEG video",
+    34: "H.263",
+}
 # The first bytes of the records of DTLS, by which the keys of SRTP are made.
 DTLS = (b"\x14\xfe", b"\x16\xfe", b"\x17\xfe")
 START_CODE = b"\x9d\x01\x2a"
@@ -18,13 +30,16 @@ START_CODE = b"\x9d\x01\x2a"
 LOOKED, LEAST = 64, 4
 # First bytes of payloads: of VP8 few are different; of so many payloads that are encrypted at least this part is.
 FIRST_BYTES, RANDOM = 64, 0.6
-# Datagrams whose checksums are looked at before those with a wrong one count as lost: sums of packets that were captured where they were sent are often not made yet.
+# Datagrams whose checksums are looked at before those with a wrong one count as lost: sums of packets that were
+# captured where they were sent are often not made yet.
 RIGHT_SUMS = 0.5
 
 
 class Packet(NamedTuple):
-    """A packet of a stream: its sequence number and its time stamp, without the ends of their ranges; whether it is the last one of its frame, and whether it
-    begins the frame; the numbers of its picture (of 15 bits, or 7: `wide`) and of its base layer, its temporal layer, each None if it has none; and its part of the frame."""
+    """A packet of a stream: its sequence number and its time stamp, without the ends of their ranges; whether it is the
+    last one of its frame, and whether it begins the frame; the numbers of its picture (of 15 bits, or 7: `wide`) and of
+    its base layer, its temporal layer, each None if it has none; and its part of the frame.
+    """
 
     sequence: int
     time: int
@@ -82,7 +97,9 @@ class Stream:
             if parts is None:
                 continue
             begins, start, picture, base, layer, is_wide = parts
-            found[number] = Packet(number, stamp, is_last, begins, picture, base, layer, is_wide, bytes(payload[start:]))
+            found[number] = Packet(
+                number, stamp, is_last, begins, picture, base, layer, is_wide, bytes(payload[start:])
+            )
         return [found[number] for number in sorted(found)]
 
 
@@ -102,8 +119,9 @@ class Unwrapped:
 
 
 def descriptor_of(payload):
-    """What the payload descriptor says (RFC 7741, section 4.2): whether a frame begins, where its bytes begin, the numbers of the picture and of the
-    base layer, the temporal layer, and whether the number of the picture has 15 bits. None if it is cut off."""
+    """What the payload descriptor says (RFC 7741, section 4.2): whether a frame begins, where its bytes begin, the
+    numbers of the picture and of the base layer, the temporal layer, and whether the number of the picture has 15 bits.
+    None if it is cut off."""
     if not len(payload):
         return None
     first, place, picture, base, layer, is_wide = payload[0], 1, None, None, None, False
@@ -132,7 +150,9 @@ def descriptor_of(payload):
 
 
 def rtp_of(data):
-    """The source, payload type, sequence number, time stamp, marker and payload of a packet; None if it is none of RTP."""
+    """The source, payload type, sequence number, time stamp, marker and payload of a packet; None if it is none of
+    RTP.
+    """
     if 4 <= len(data) and data[0] >> 6 == 1:
         # The packets of a relay (TURN) have a channel and a length before them.
         size = data[2] << 8 | data[3]
@@ -155,7 +175,9 @@ def rtp_of(data):
 
 
 class Streams:
-    """The streams of a capture, in the order in which they begin, and whether keys for their encryption were exchanged."""
+    """The streams of a capture, in the order in which they begin, and whether keys for their encryption were
+    exchanged.
+    """
 
     def __init__(self, capture):
         self.all, self.has_keys = {}, False
@@ -187,7 +209,10 @@ class Streams:
         if not others:
             return "it has no packets of RTP"
         if self.has_keys or any(stream.looks_encrypted() for stream in others):
-            return "its streams are encrypted (SRTP): only who has the keys can read them; capture in the browser or the server, where they are not"
+            return (
+                "its streams are encrypted (SRTP): only who has the keys can read them; capture in the browser or the"
+                " server, where they are not"
+            )
         kinds = sorted({STATIC.get(stream.kind, f"payload type {stream.kind}") for stream in others})
         return f"none of its streams of RTP is VP8 with a key packet: they are {', '.join(kinds)}"
 
@@ -202,8 +227,9 @@ def trusts_sums(capture):
 
 
 class Frame(NamedTuple):
-    """A frame: its time stamp, its bytes up to the first packet that is missing, the first and last sequence numbers that it is known to have, those that
-    are missing, as ranges, whether its beginning was there, and the numbers of its picture and layer."""
+    """A frame: its time stamp, its bytes up to the first packet that is missing, the first and last sequence numbers
+    that it is known to have, those that are missing, as ranges, whether its beginning was there, and the numbers of its
+    picture and layer."""
 
     time: int
     data: bytes
@@ -234,8 +260,8 @@ def has_first_partition(data):
 
 
 def frames_of(packets):
-    """The frames of packets that are in order. What is missing between two frames is missing of the one before if its last packet did not come, or
-    of the one after, if its first did not."""
+    """The frames of packets that are in order. What is missing between two frames is missing of the one before if its
+    last packet did not come, or of the one after, if its first did not."""
     # A frame begins with the start of its partition 0, also where another one has its time stamp.
     groups = []
     for packet in packets:
@@ -255,7 +281,9 @@ def frames_of(packets):
 
 
 def frame_of(group, filled, after):
-    """The frame of packets with one time stamp, before the packet `after`; `filled` are the sequence numbers of all packets."""
+    """The frame of packets with one time stamp, before the packet `after`; `filled` are the sequence numbers of all
+    packets.
+    """
     first, data, missing, is_open = group[0], [], [], True
     has_beginning = first.begins
     if not has_beginning:
@@ -277,7 +305,17 @@ def frame_of(group, filled, after):
             at, expected = at + 1, expected + 1
         if after is None or not after.begins or after.sequence != expected:
             missing.append((expected, filled[at] - 1 if at < len(filled) and filled[at] > expected else expected))
-    return Frame(first.time, b"".join(data), first.sequence, group[-1].sequence, tuple(missing), has_beginning, first.picture, first.layer, first.is_wide)
+    return Frame(
+        first.time,
+        b"".join(data),
+        first.sequence,
+        group[-1].sequence,
+        tuple(missing),
+        has_beginning,
+        first.picture,
+        first.layer,
+        first.is_wide,
+    )
 
 
 def lost_between(before, after):
@@ -291,7 +329,9 @@ def lost_between(before, after):
 
 
 class Merged(NamedTuple):
-    """Packets of two captures together: how many of the second were taken, and how many are others there than here and were left."""
+    """Packets of two captures together: how many of the second were taken, and how many are others there than here and
+    were left.
+    """
 
     packets: list
     taken: int
@@ -299,8 +339,9 @@ class Merged(NamedTuple):
 
 
 def merge(one, other):
-    """The packets of a stream, and those of a second recording of it that are missing here. A server that sends a stream on gives it other numbers, so packets
-    are found by their bytes first; between these, the numbers go on in both. `NotRead` if no packet is in both."""
+    """The packets of a stream, and those of a second recording of it that are missing here. A server that sends a
+    stream on gives it other numbers, so packets are found by their bytes first; between these, the numbers go on in
+    both. `NotRead` if no packet is in both."""
     places = {}
     for packet in one:
         if len(packet.data) >= 8:
@@ -310,7 +351,9 @@ def merge(one, other):
     for packet in other:
         for twin in places.get((packet.data, packet.begins, packet.is_last), ()):
             spans[twin.time - packet.time] = spans.get(twin.time - packet.time, 0) + 1
-            pairs.append((packet.sequence, twin.sequence - packet.sequence, twin.time - packet.time, shift_of(twin, packet)))
+            pairs.append(
+                (packet.sequence, twin.sequence - packet.sequence, twin.time - packet.time, shift_of(twin, packet))
+            )
     if not spans:
         raise NotRead("no packet of the second capture is one of the first")
     span = max(spans, key=spans.get)
@@ -339,19 +382,29 @@ def merge(one, other):
 
 def shift_of(one, other):
     """The difference of the numbers of pictures and of base layers of two packets."""
-    picture = None if one.picture is None or other.picture is None else (one.picture - other.picture) % (1 << (15 if one.is_wide else 7))
+    picture = (
+        None
+        if one.picture is None or other.picture is None
+        else (one.picture - other.picture) % (1 << (15 if one.is_wide else 7))
+    )
     return picture, None if one.base is None or other.base is None else (one.base - other.base) % 256
 
 
 def shifts_at(pairs, keys, sequence):
-    """The differences of the sequence numbers at the packets around one that are in both captures, the nearest first."""
+    """The differences of the sequence numbers at the packets around one that are in both captures, the nearest
+    first.
+    """
     at = bisect.bisect_left(keys, sequence)
-    near = sorted((pairs[place] for place in (at - 1, at) if 0 <= place < len(pairs)), key=lambda pair: abs(pair[0] - sequence))
+    near = sorted(
+        (pairs[place] for place in (at - 1, at) if 0 <= place < len(pairs)), key=lambda pair: abs(pair[0] - sequence)
+    )
     return dict.fromkeys(pair[1] for pair in near)
 
 
 def fits(have, numbers, packet):
-    """Whether a packet can be where its number says: its time stamp is between those around it, and the numbers of a picture are those of its other packets."""
+    """Whether a packet can be where its number says: its time stamp is between those around it, and the numbers of a
+    picture are those of its other packets.
+    """
     at = bisect.bisect_left(numbers, packet.sequence)
     before = have[numbers[at - 1]] if at else None
     after = have[numbers[at]] if at < len(numbers) else None

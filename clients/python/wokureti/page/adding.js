@@ -1,10 +1,11 @@
-// Another stream of the folder is opened: as the last source, or on a page of its own.
+// Another stream of the folder is opened: as the last source, or on a new page.
 
 import { ask } from "./ask.js";
+import { fileOf } from "./editing.js";
+import { find } from "./elements.js";
 import { engine } from "./engine.js";
 import { notice } from "./status.js";
 
-const find = (id) => document.getElementById(id);
 // Bytes of a file that is dropped, at most: an IVF file has no more.
 const MOST_BYTES = 1 << 30;
 
@@ -66,23 +67,48 @@ export class Adding {
   }
 
   /** Opens a file of this machine: next to the stream that is open, or in its place. */
-  async chooseHow(file) {
+  chooseHow(file) {
     const how = [
       ["the next source", "source"],
       ["the stream to edit, in the place of this one", "stream"],
     ];
-    const found = await ask(`Open ${file.name}`, "Open", [{ name: "how", label: "As", value: "source", choices: how }], "Packets are copied from a source, and a script shows its frames. The edits of the stream that is open are kept.");
+    const fields = [{ name: "how", label: "As", value: "source", choices: how }];
+    return this.open(`Open ${file.name}`, fields, "The edits of the stream that is open are kept.", async (found) => {
+      if (found.how === "source") return this.asSource(file, file.name);
+      await engine.instead(file);
+      return `${file.name} is open`;
+    });
+  }
+
+  /** Opens one of these streams, which are called as below the folder that `files` have in common. */
+  choose(offered, files) {
+    const choices = offered.map((file) => [namedFrom(file, files), file]);
+    const how = [
+      ["the next source", "source"],
+      ["a new page", "page"],
+    ];
+    const fields = [
+      { name: "file", label: "Stream", value: offered[0], choices },
+      { name: "how", label: "As", value: "source", choices: how },
+    ];
+    return this.open("Open another stream", fields, "The stream itself is only read.", async (found) => {
+      const name = fileOf(found.file);
+      if (found.how === "source") return this.asSource(found.file, name);
+      const address = await engine.page(found.file);
+      const where = `The page of ${name} is at ${address}`;
+      if (!window.open(address, "_blank")) notice(where, { isBad: true, id: "opened" });
+      return `${name} is open on a new page`;
+    });
+  }
+
+  /** Asks how a stream is opened. `act` opens it, and returns what is said then. */
+  async open(title, fields, note, act) {
+    const what = "Packets are copied from a source, and a script shows its frames.";
+    const found = await ask(title, "Open", fields, `${what} ${note}`);
     if (!found) return;
     find("add-source").disabled = true;
     try {
-      if (found.how === "stream") {
-        await engine.instead(file);
-        this.status.say(`${file.name} is open`);
-        return;
-      }
-      const { source, changes } = await engine.add(file);
-      await this.model.load(changes);
-      this.status.say(`${file.name} is source ${source}`);
+      this.status.say(await act(found));
     } catch (error) {
       notice(error.message, { isBad: true, id: "opened" });
     } finally {
@@ -90,32 +116,9 @@ export class Adding {
     }
   }
 
-  /** Opens one of these streams, which are called as below the folder that `files` have in common. */
-  async choose(offered, files) {
-    const choices = offered.map((file) => [namedFrom(file, files), file]);
-    const how = [
-      ["the next source", "source"],
-      ["a page of its own", "page"],
-    ];
-    const fields = [
-      { name: "file", label: "Stream", value: offered[0], choices },
-      { name: "how", label: "As", value: "source", choices: how },
-    ];
-    const found = await ask("Open another stream", "Open", fields, "Packets are copied from a source, and a script shows its frames. The stream itself is only read.");
-    if (!found) return;
-    find("add-source").disabled = true;
-    try {
-      if (found.how === "page") {
-        const address = await engine.page(found.file);
-        if (!window.open(address, "_blank")) notice(`The page of ${found.file.split("/").pop()} is at ${address}`, { isBad: true, id: "opened" });
-        this.status.say(`${found.file.split("/").pop()} is open on a page of its own`);
-        return;
-      }
-      const { source, changes } = await engine.add(found.file);
-      await this.model.load(changes);
-      this.status.say(`${found.file.split("/").pop()} is source ${source}`);
-    } finally {
-      find("add-source").disabled = false;
-    }
+  async asSource(what, name) {
+    const { source, changes } = await engine.add(what);
+    await this.model.load(changes);
+    return `${name} is source ${source}`;
   }
 }

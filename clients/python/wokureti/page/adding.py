@@ -4,16 +4,13 @@ import hashlib
 import os
 
 from .. import system
-from ..tools import convert, muxing
-from ..tools.webm import media_of
-from ..session.errors import Ended
+from ..errors import Ended, Failed
+from ..media import muxing
+from ..media.webm import media_of
+from ..session import convert
 
 ENDINGS = (".ivf", ".webm", ".mkv")
 MOST_FILES, MOST_DEPTH, MOST_SOURCES = 1000, 4, 8
-
-
-class Cannot(ValueError):
-    """A stream that cannot be added."""
 
 
 def folders_of(paths):
@@ -22,14 +19,23 @@ def folders_of(paths):
 
 
 def files_of(paths):
-    """The streams in the folders of these, and in folders below, as paths that begin as they do, at most so many. Names that begin with a dot are hidden."""
+    """The streams in the folders of these, and in folders below, as paths that begin as they do, at most so many. Names
+    that begin with a dot are hidden.
+    """
     found = []
     for folder in folders_of(paths):
         for place, folders, names in os.walk(folder):
             depth = len(os.path.relpath(place, folder).split(os.sep)) if place != folder else 0
             folders[:] = sorted(name for name in folders if not name.startswith(".")) if depth < MOST_DEPTH else []
             mine = sorted(name for name in names if name.lower().endswith(ENDINGS) and not name.startswith("."))
-            found += [system.slashed(path) for path in (os.path.normpath(os.path.join(place, name)) if folder == "." else os.path.join(place, name) for name in mine) if os.path.isfile(path)]
+            found += [
+                system.slashed(path)
+                for path in (
+                    os.path.normpath(os.path.join(place, name)) if folder == "." else os.path.join(place, name)
+                    for name in mine
+                )
+                if os.path.isfile(path)
+            ]
             if len(found) >= MOST_FILES:
                 return found[:MOST_FILES]
     return found
@@ -55,12 +61,14 @@ def is_same(path, size, digest):
 
 
 def add(live, path, stem):
-    """Opens a stream as the last source of a session. `Cannot` if that is not possible; the session is then as it was."""
+    """Opens a stream as the last source of a session. `Failed` if that is not possible; the session is then as it
+    was.
+    """
     if len(live.options.get("sources", ())) + 1 >= MOST_SOURCES:
-        raise Cannot(f"a session has at most {MOST_SOURCES} streams")
+        raise Failed(f"a session has at most {MOST_SOURCES} streams")
     try:
         with live.opening(os.path.basename(path)) as watch:
             taken = convert.readable(path, live.room.name, watch=watch)
         live.add_source(taken, stem, muxing.ending_for(media_of(taken)))
     except (Ended, OSError, ValueError) as error:
-        raise Cannot(f"{os.path.basename(path)} was not added: {error}") from None
+        raise Failed(f"{os.path.basename(path)} was not added: {error}") from None

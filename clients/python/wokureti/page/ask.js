@@ -1,6 +1,6 @@
 // A dialog with a few fields.
 
-const find = (id) => document.getElementById(id);
+import { find } from "./elements.js";
 
 /** Asks for values; `fields` are objects with name, label, value, and choices, or the most and the step of a number. `note` is a sentence below them. Returns the values, or
  * null. */
@@ -13,7 +13,7 @@ export function ask(title, action, fields, note = "") {
   const inputs = {};
   for (const { name, label, value, choices, most, step } of fields) {
     const line = document.createElement("label");
-    const input = document.createElement(choices ? "select" : "input");
+    const input = /** @type {any} */ (document.createElement(choices ? "select" : "input"));
     if (choices) {
       for (const [text, chosen] of choices) input.append(new Option(text, chosen));
     } else {

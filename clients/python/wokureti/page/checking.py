@@ -1,18 +1,22 @@
-"""A check of the packets in the background. The session is asked for the findings at some packets at a time, so that frames and edits do not wait long."""
+"""A check of the packets in the background. The session is asked for the findings at some packets at a time, so that
+frames and edits do not wait long.
+"""
 
 import json
 import threading
 import time
 
+from ..errors import Ended, Lost, Refused, Stale
+from ..base.lines import objects_of
 from . import file_findings
-from ..session.errors import Ended, Lost, Refused
-from ..session.lines import objects_of
 
-# The packets of the first question. Seconds that a question should take in the session of the stream, and in one of its own.
+# The packets of the first question. Seconds that a question should take in the session of the stream, and in one of its
+# own.
 FIRST, SHORT, LONG = 16, 0.03, 0.25
 # The least time of a question.
 LEAST = 0.0001
-# Each question reads from the last key packet on, and the time stamps of all packets. If that takes more seconds, a session of its own is asked.
+# Each question reads from the last key packet on, and the time stamps of all packets. If that takes more seconds, a
+# session of its own is asked.
 MOST_BEFORE = 0.1
 # Seconds between two questions: whoever waits for the session comes first.
 PAUSE = 0.001
@@ -26,32 +30,16 @@ MOST_TRIES = 2
 INSIDE = ("past_end", "unread")
 
 
-class Stale(Exception):
-    """The check was stopped, or the session has other packets by now."""
-
-
-class Earlier(Exception):
-    """The session is one of an earlier version."""
-
-    def __init__(self):
-        super().__init__("this vp8serve is an earlier one, which has no question for findings: install version 0.13 or a later one")
-
-
 def answer(session, first, count):
     """What `check` reports of packets of source 0: the findings, and their numbers."""
-    try:
-        reply = session.ask(f"check {first} {count}", 0)
-    except Refused as refused:
-        if refused.word == "Line":
-            raise Earlier from None
-        raise
-    *findings, numbers = objects_of(reply)
+    *findings, numbers = objects_of(session.ask(f"check {first} {count}", 0))
     return findings, numbers
 
 
 class Pace:
-    """How many packets are asked for at a time, so that a question takes some seconds. `before` is how long it takes to read what is before its packets: a
-    question takes twice as long as that at least, or the whole check would take much longer than its packets."""
+    """How many packets are asked for at a time, so that a question takes some seconds. `before` is how long it takes to
+    read what is before its packets: a question takes twice as long as that at least, or the whole check would take much
+    longer than its packets."""
 
     def __init__(self):
         self.count, self.short, self.before = FIRST, SHORT, 0.0
@@ -78,7 +66,9 @@ class Pace:
 
 
 class Check:
-    """A check of source 0 of a view. `beside` is the session of its own, a `Preview`, and `tries` the checks of this revision with which the session ended."""
+    """A check of source 0 of a view. `beside` is the session of its own, a `Preview`, and `tries` the checks of this
+    revision with which the session ended.
+    """
 
     def __init__(self, view, number, beside, tries=0):
         self.view, self.stream, self.number, self.beside, self.tries = view, view.streams[0], number, beside, tries
@@ -92,7 +82,9 @@ class Check:
         threading.Thread(target=self.run, daemon=True).start()
 
     def is_of(self, view):
-        """Whether the packets of a view are those that are checked. A session that was started again may have other packets by the same numbers."""
+        """Whether the packets of a view are those that are checked. A session that was started again may have other
+        packets by the same numbers.
+        """
         stream = view.streams[0]
         return self.view.contents is view.contents and (self.stream is stream or self.stream == stream)
 
@@ -110,14 +102,26 @@ class Check:
         """What is known of it, with findings from one on."""
         is_over = self.is_over and not self.is_left
         # The findings last: those that come meanwhile are told then.
-        state = {"damage": self.damage, "notes": self.notes, "done": self.done, "packets": len(self.stream), "over": is_over, "failed": self.error if is_over else None}
+        state = {
+            "damage": self.damage,
+            "notes": self.notes,
+            "done": self.done,
+            "packets": len(self.stream),
+            "over": is_over,
+            "failed": self.error if is_over else None,
+        }
         findings = self.findings[first : None if most is None else first + most]
         return {"check": self.number, "from": first, "findings": findings, "groups": self.groups(findings), **state}
 
     def groups(self, findings):
-        """For each finding the key packet at or before its packet, or None: what is damaged after a packet is mostly damaged with it."""
-        keys = self.view.timeline(0).keys
-        return [None if finding["packet"] is None else max(0, keys.rfind(1, 0, finding["packet"] + 1)) for finding in findings]
+        """For each finding the key packet at or before its packet, or None: what is damaged after a packet is mostly
+        damaged with it.
+        """
+        keys = self.view.keys(0)
+        return [
+            None if finding["packet"] is None else max(0, keys.rfind(1, 0, finding["packet"] + 1))
+            for finding in findings
+        ]
 
     def stop(self):
         """Ends the check after the question that is asked now."""
@@ -131,7 +135,7 @@ class Check:
             self.stopped.set()
         except (Ended, Lost) as error:
             self.has_ended, self.error = True, str(error)
-        except (Earlier, Refused, OSError, ValueError) as error:
+        except (Refused, OSError, ValueError) as error:
             self.error = str(error)
         except BaseException as error:
             # It must not look as if nothing was found.
@@ -181,13 +185,17 @@ class Check:
         """What a function returns of the session of the stream, which has the packets that are checked."""
         contents = self.view.contents
         with contents.session.turn():
-            if self.stopped.is_set() or contents.session.edits.contents() is not contents or contents.streams[0] != self.stream:
+            if (
+                self.stopped.is_set()
+                or contents.session.edits.contents() is not contents
+                or contents.streams[0] != self.stream
+            ):
                 raise Stale
             return function(contents.session)
 
     def first_size(self, session):
         """The size of the first key packet that has one, or None. It is asked for only if it is not listed yet."""
-        keys, listing = self.view.timeline(0).keys, self.view.contents.listing
+        keys, listing = self.view.keys(0), self.view.contents.listing
         place = keys.find(1)
         while place >= 0:
             number = self.stream[place]
@@ -205,29 +213,37 @@ class Check:
             numbers = {"damage": damage, "notes": len(findings) - damage}
         self.damage += numbers["damage"]
         self.notes += numbers["notes"]
-        self.inside += [finding["packet"] for finding in findings if finding["kind"] in INSIDE]
         self.findings += findings[: MOST_FINDINGS - len(self.findings)]
+        self.inside += [finding["packet"] for finding in findings if finding["kind"] in INSIDE]
 
 
 class News:
     """What a client was told of the check of the current packets, and what there is more by now."""
 
     def __init__(self, live):
-        self.live, self.check, self.count, self.state = live, None, 0, None
+        self.live, self.check, self.count, self.inside, self.state = live, None, 0, 0, None
 
     def events(self):
         """An event with what is new, and the seconds until there may be more; None if that needs a change."""
+        revision = self.live.revision
         try:
             check = self.live.checked()
         except (Ended, Lost, Refused, OSError, ValueError) as error:
             return [event({"failed": str(error)})], None
+        if revision != self.live.revision:
+            return [], 0
         if check is not self.check:
-            self.check, self.count, self.state = check, 0, None
+            self.check, self.count, self.inside, self.state = check, 0, 0, None
         members = check.members(self.count, MOST_TOLD)
         self.count += len(members["findings"])
-        state = (self.count, check.done, members["over"])
-        is_rest = self.count < len(check.findings)
-        found = [] if state == self.state else [event({"revision": self.live.revision, **members, "over": members["over"] and not is_rest})]
+        state = (revision, self.count, check.done, members["over"])
+        is_rest, found = self.count < len(check.findings), []
+        if state != self.state:
+            inside = check.inside[self.inside :]
+            self.inside += len(inside)
+            found = [
+                event({"revision": revision, **members, "inside": inside, "over": members["over"] and not is_rest})
+            ]
         self.state = state
         return found, 0 if is_rest else None if members["over"] else OFTEN
 

@@ -1,19 +1,28 @@
-"""The page's exports: as packets without coding again, or with the frames that the script changes, or leads, coded again by a session of their own."""
+"""The page's exports: as packets without coding again, or with the frames that the script changes, or leads, coded
+again by a session of their own.
+"""
 
 import shutil
 
+from ..errors import Refuse
+from ..base import programs
+from ..session import exports
 from ..session.session import Session
-from ..tools import cat, coding, exports, programs
-from ..server.web import Refuse
+from ..tools import cat, coding
 from .sounding import has_sound
 
 # What the page may ask for of an export that codes.
 NAMES = ("code", "psnr", "lead", "sound")
-NO_ENCODER = "No encoder of VP8 was found on the machine of the server: install ffmpeg (with libvpx), or vpx-tools, which has vpxenc"
+NO_ENCODER = (
+    "No encoder of VP8 was found on the machine of the server: install ffmpeg (with libvpx), or vpx-tools, which has"
+    " vpxenc"
+)
 
 
 def costs_of(session):
-    """What an export costs (`coding.costs_of`), whether there is sound that can fade, and what codes: a name, or None with a sentence that says what helps."""
+    """What an export costs (`coding.costs_of`), whether there is sound that can fade, and what codes: a name, or None
+    with a sentence that says what helps.
+    """
     contents = session.edits.contents()
     found = coding.costs_of(session)
     fades = any(contents.script.split(";")[node - 1].split()[0] == "fade" for node in found["nodes"])
@@ -29,13 +38,19 @@ def how_of(query):
         least = float(query.get("psnr", coding.USUAL))
     except ValueError:
         least = 0
-    if not coding.LEAST <= least <= coding.MOST or query.get("lead", "exact") not in ("exact", "coded") or query.get("sound", "copy") not in ("copy", "fade"):
+    if (
+        not coding.LEAST <= least <= coding.MOST
+        or query.get("lead", "exact") not in ("exact", "coded")
+        or query.get("sound", "copy") not in ("copy", "fade")
+    ):
         raise Refuse(400, f"psnr is {coding.LEAST} to {coding.MOST}, lead is exact or coded, sound is copy or fade")
     return coding.How(least, query.get("lead") == "coded", lambda text: None, query.get("sound") == "fade")
 
 
 def export(live, lines, out, how, room):
-    """Writes the frames after these edits, of which those that the script changes are coded again. A session of their own makes them, so the page goes on meanwhile."""
+    """Writes the frames after these edits, of which those that the script changes are coded again. A session of their
+    own makes them, so the page goes on meanwhile.
+    """
 
     def open_session(path):
         return cat.open_session(path, [], None, None, None, programs.find("vp8serve"))

@@ -1,9 +1,9 @@
 // A rectangle is drawn on the picture, and the script crops all frames to it.
 
 import { ask } from "./ask.js";
-import { nodesOf } from "./script.js";
+import { drag, find } from "./elements.js";
+import { nodesIn } from "./script.js";
 
-const find = (id) => document.getElementById(id);
 // Pixels that a pointer moves at least.
 const LEAST = 4;
 
@@ -17,7 +17,7 @@ export function rectangle(one, other, { width, height }) {
 
 /** The nodes of a script that crops what this one shows. */
 export function cropped(script, { x, y, width, height }) {
-  const nodes = script === "-" ? [] : nodesOf(script);
+  const nodes = nodesIn(script);
   return [...nodes, `crop ${nodes.length} ${x} ${y} ${width} ${height}`];
 }
 
@@ -59,15 +59,12 @@ export class Cropping {
     const { canvas } = this.picture;
     const start = this.position(event);
     const [x, y] = [event.clientX, event.clientY];
-    canvas.setPointerCapture(event.pointerId);
     const move = (moved) => this.draw(rectangle(start, this.position(moved), this.picture.now));
-    const end = (ended) => {
-      for (const [name, act] of [["pointermove", move], ["pointerup", end], ["pointercancel", end]]) canvas.removeEventListener(name, act);
+    drag(canvas, event, move, (ended) => {
       const isDrawn = ended.type === "pointerup" && Math.hypot(ended.clientX - x, ended.clientY - y) >= LEAST;
       if (isDrawn) this.take(rectangle(start, this.position(ended), this.picture.now));
       else this.toggle(false);
-    };
-    for (const [name, act] of [["pointermove", move], ["pointerup", end], ["pointercancel", end]]) canvas.addEventListener(name, act);
+    });
   }
 
   draw({ x, y, width, height }) {

@@ -2,9 +2,9 @@
 
 import { compared } from "./colours.js";
 import { objectsOf } from "./details.js";
+import { find } from "./elements.js";
 import { Refusal, engine, offer } from "./engine.js";
 
-const find = (id) => document.getElementById(id);
 // Packets that a curve is drawn for, at most, and milliseconds for which nothing changes before they are asked for.
 const MOST_PACKETS = 4000;
 const QUIET = 250;

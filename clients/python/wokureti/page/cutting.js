@@ -1,12 +1,12 @@
 // Cuts, fades and stills by the script: frames vanish or are shown again, no packet is changed, and so nothing after them breaks.
 
 import { ask } from "./ask.js";
+import { find } from "./elements.js";
 import { engine } from "./engine.js";
-import { nodesOf } from "./script.js";
+import { nodesIn } from "./script.js";
 import * as parts from "./shots.js";
 import { timeText } from "./times.js";
 
-const find = (id) => document.getElementById(id);
 // Frames of a still, at most.
 const MOST_STILL = 100000;
 const NAMES = { begin: "In", end: "Out" };
@@ -27,7 +27,7 @@ function framesText(first, end) {
 
 /** The nodes of a script, and the number of the last one: node 0 is the stream. */
 function base(script) {
-  const nodes = script === "-" ? [] : nodesOf(script);
+  const nodes = nodesIn(script);
   return [nodes, nodes.length];
 }
 
@@ -60,7 +60,7 @@ export function still(script, count, at, length, isBlack) {
   // A long still is made of shorter ones: a script of 100,000 parts is a long text.
   const ranges = Array.from({ length: Math.ceil(length / some) }, (_, place) => [found.length, 0, Math.min(some, length - place * some)]);
   if (ranges.length > 1) found.push(parts.partsText(ranges));
-  if (isBlack) found.push(`fade ${found.length} 0 0 0 0`);
+  if (isBlack) found.push(`fade ${found.length} 0 1 0 0`);
   return between(found, length, last, count, { first: at, end: at });
 }
 

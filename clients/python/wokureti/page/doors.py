@@ -1,4 +1,6 @@
-"""The port and the words of the address of a page, kept for the next run over the same list of edits: a tab of a server that was killed finds it then."""
+"""The port and the words of the address of a page, kept for the next run over the same list of edits: a tab of a server
+that was killed finds it then.
+"""
 
 import contextlib
 import hashlib
@@ -25,18 +27,27 @@ class Door(NamedTuple):
 
 def file_of(path):
     """The file that keeps the address for the list of edits at a path."""
-    return os.path.join(system.state_folder(), "pages", hashlib.sha256(os.fsencode(os.path.realpath(path))).hexdigest()[:32])
+    return os.path.join(
+        system.state_folder(), "pages", hashlib.sha256(os.fsencode(os.path.realpath(path))).hexdigest()[:32]
+    )
 
 
 def kept(path):
     """The address that was kept for a list, or None. A file that others may read or write is not believed."""
-    with contextlib.suppress(OSError, ValueError, KeyError, TypeError), open(os.open(file_of(path), os.O_RDONLY | system.NO_LINK | system.BINARY), encoding="ascii") as file:
+    with (
+        contextlib.suppress(OSError, ValueError, KeyError, TypeError),
+        open(os.open(file_of(path), os.O_RDONLY | system.NO_LINK | system.BINARY), encoding="ascii") as file,
+    ):
         found = os.fstat(file.fileno())
         if not system.is_private(found) or not 0 <= time.time() - found.st_mtime < KEPT:
             return None
         members = json.load(file)
         door = Door(members["port"], members["token"], members["reading"])
-        if isinstance(door.port, int) and 0 < door.port < 1 << 16 and all(isinstance(word, str) and len(word) >= 20 for word in door[1:]):
+        if (
+            isinstance(door.port, int)
+            and 0 < door.port < 1 << 16
+            and all(isinstance(word, str) and len(word) >= 20 for word in door[1:])
+        ):
             return door
     return None
 
@@ -48,7 +59,9 @@ def keep(path, door):
         for folder in (system.state_folder(), os.path.dirname(name)):
             os.makedirs(folder, mode=0o700, exist_ok=True)
         new = f"{name}.{os.getpid()}"
-        with open(os.open(new, os.O_WRONLY | os.O_CREAT | os.O_EXCL | system.BINARY, 0o600), "w", encoding="ascii") as file:
+        with open(
+            os.open(new, os.O_WRONLY | os.O_CREAT | os.O_EXCL | system.BINARY, 0o600), "w", encoding="ascii"
+        ) as file:
             json.dump(door._asdict(), file)
         os.replace(new, name)
         for entry in os.scandir(os.path.dirname(name)):
@@ -57,7 +70,9 @@ def keep(path, door):
 
 
 def opened(port, path):
-    """A server, and the words of its address: those of the last run over this list, if that was within a day and its port is free."""
+    """A server, and the words of its address: those of the last run over this list, if that was within a day and its
+    port is free.
+    """
     door = kept(path)
     if door is not None and port in (0, door.port):
         with contextlib.suppress(OSError):

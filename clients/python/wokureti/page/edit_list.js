@@ -1,13 +1,11 @@
 // The list of edits: a line goes to its packet; edits can be taken back up to it.
 
+import { find, make } from "./elements.js";
 import { packetOfLine } from "./steps.js";
-
-const find = (id) => document.getElementById(id);
 
 export class EditList {
   constructor(model, editing) {
-    this.model = model;
-    this.editing = editing;
+    Object.assign(this, { model, editing });
     model.addEventListener("session", () => this.write());
   }
 
@@ -41,17 +39,10 @@ export class EditList {
   }
 
   row(line, number, place, isEnd) {
-    const entry = document.createElement("li");
-    const button = document.createElement("button");
-    button.className = "row";
-    const count = document.createElement("span");
-    count.className = "number";
-    count.textContent = number;
-    const text = document.createElement("span");
-    text.className = "text";
-    text.textContent = line.length > 90 ? `${line.slice(0, 90)}…` : line;
-    button.append(count, text);
-    entry.append(button);
+    const text = line.length > 90 ? `${line.slice(0, 90)}…` : line;
+    const count = make("span", { className: "number", textContent: number });
+    const button = make("button", { className: "row" }, count, make("span", { className: "text", textContent: text }));
+    const entry = make("li", {}, button);
     if (place === null) {
       entry.className = "is-undone";
       button.title = "Undone; Redo makes it again";
@@ -62,20 +53,13 @@ export class EditList {
     if (line.startsWith("script")) button.addEventListener("click", () => find("tab-script").click());
     else if (packet !== null) button.addEventListener("click", () => this.model.goPacket(Math.min(packet, this.model.packets - 1)).catch(() => {}));
     if (isEnd && place + 1 < this.model.session.edits.length) {
-      const back = document.createElement("button");
-      back.className = "here";
-      back.textContent = "Back to here";
-      back.title = "Undo the edits after this one";
-      back.addEventListener("click", () => this.editing.undoTo(number));
-      entry.append(back);
+      const texts = { className: "here", textContent: "Back to here", title: "Undo the edits after this one" };
+      entry.append(make("button", { ...texts, onclick: () => this.editing.undoTo(number) }));
     }
     return entry;
   }
 }
 
 function note(text) {
-  const entry = document.createElement("li");
-  entry.className = "muted";
-  entry.textContent = text;
-  return entry;
+  return make("li", { className: "muted", textContent: text });
 }

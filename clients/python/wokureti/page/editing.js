@@ -1,20 +1,18 @@
 // The edits of the page: each is one step, and a refusal changes nothing.
 
 import { ask } from "./ask.js";
+import { find } from "./elements.js";
 import { Refusal, engine } from "./engine.js";
 import { notice, withdraw } from "./status.js";
 import * as steps from "./steps.js";
 
-const find = (id) => document.getElementById(id);
 // Half of the body that the server takes, as HEX.
 const MOST_BYTES = (8 << 20) / 2 - 100;
 
 export class Editing {
   constructor(model, status) {
-    this.model = model;
-    this.status = status;
-    this.clipboard = null;
-    this.queue = Promise.resolve();
+    Object.assign(this, { model, status, clipboard: null });
+    this.queue = /** @type {Promise<any>} */ (Promise.resolve());
     const press = (id, act) => find(id).addEventListener("click", () => act());
     press("undo", () => this.undo());
     press("redo", () => this.redo());
@@ -64,7 +62,6 @@ export class Editing {
 
   async makeNow(lines, said, refused, isQuiet) {
     if (!lines.length) return false;
-    const isStep = Array.isArray(lines);
     const since = performance.now();
     performance.mark("edit");
     try {
@@ -121,7 +118,7 @@ export class Editing {
       try {
         const { reply: path, renumbered } = await this.model.change((page) => engine.save(source, page));
         const what = source === 0 && this.model.session.script !== "-" ? "The packets were saved, without the script, to" : source ? `The packets of ${names[source]} were saved to` : "Saved to";
-        const said = `${what} ${path}${renumbered ? "; times were numbered anew" : ""}`;
+        const said = `${what} ${path}${renumbered ? "; times were numbered again" : ""}`;
         notice(said, { id: "saved" });
         this.status.say(`${said[0].toLowerCase()}${said.slice(1)}`);
       } catch (error) {

@@ -1,10 +1,10 @@
 // Export: the frames that are shown as a file, or why that cannot be. What the script changes is coded again, if that is wanted.
 
 import { ask } from "./ask.js";
+import { find } from "./elements.js";
 import { engine, offer } from "./engine.js";
 import { notice } from "./status.js";
 
-const find = (id) => document.getElementById(id);
 // Milliseconds between two looks at how far an export is.
 const OFTEN = 200;
 // Nanoseconds of a lead from which on there is a choice, and decibels that each coded frame has at least if nothing is said.
@@ -42,7 +42,8 @@ function fieldsOf(costs) {
   const { coded, sounds, encoder } = costs;
   const isLong = hasLong(costs);
   if (!encoder || (!coded && !isLong)) return [];
-  const fields = [{ name: "psnr", label: "Decibels that each coded frame has at least", value: USUAL, most: 60 }];
+  const label = "Decibels that each coded frame has at least";
+  const fields = /** @type {any[]} */ ([{ name: "psnr", label, value: USUAL, most: 60 }]);
   if (sounds) fields.push({ name: "sound", label: "Sound", value: "fade", choices: [["fades with the picture", "fade"], ["stays as it is", "copy"]] });
   if (isLong) fields.push({ name: "lead", label: "Packets before a part", value: "exact", choices: [["hidden", "exact"], ["none: coded again", "coded"]] });
   return fields;
@@ -50,7 +51,7 @@ function fieldsOf(costs) {
 
 /** How the frames are exported: null if not at all, else what is coded again, or nothing. */
 async function chosen(signal) {
-  const costs = await engine.task("costs", {}, { signal });
+  const costs = await engine.task("costs", {}, { waits: "what an export costs", signal });
   if (costs.coded && !costs.encoder) throw new Error(`${codedText(costs)} ${costs.why}`);
   const fields = fieldsOf(costs);
   if (!fields.length) return {};

@@ -1,10 +1,10 @@
-"""The findings of vp8list --check at the header and at the end of a file. They are of no packet, so no session answers them, and vp8list would check the
-packets too: so they are found here a second time."""
+"""The findings of vp8list --check at the header and at the end of a file. They are of no packet, so no session answers
+them, and vp8list would check the packets too: so they are found here a second time."""
 
 import os
 
 from .. import system
-from ..tools import ivf
+from ..media import ivf
 
 
 def finding(severity, kind, **numbers):
@@ -16,7 +16,9 @@ def sides(size):
 
 
 def at_header(contents, stream, size):
-    """Those at the header of the file, or of that of a save if the packets were edited. `size` is the one of the first key packet, or None."""
+    """Those at the header of the file, or of that of a save if the packets were edited. `size` is the one of the first
+    key packet, or None.
+    """
     item, found = contents.inputs.all[0], []
     if is_whole(contents, stream) and item.facts is None:
         claimed = int.from_bytes(system.pread(item.opened(), ivf.HEAD.size, 0)[24:28], "little")
@@ -31,7 +33,9 @@ def at_header(contents, stream, size):
 
 
 def at_end(contents, stream):
-    """Those of the container, which no packet has, and those at the end of the file, if the packets are all of its whole records."""
+    """Those of the container, which no packet has, and those at the end of the file, if the packets are all of its
+    whole records.
+    """
     item = contents.inputs.all[0]
     found = [finding("damage", "container", text=text) for text in item.damage_around()]
     if not is_whole(contents, stream) or not item.left():

@@ -1,11 +1,11 @@
 // The findings of vp8list --check, and the repairs that can work for each of them.
 
+import { find, make } from "./elements.js";
 import { engine, offer } from "./engine.js";
 import { htmlOf, jsonOf } from "./report.js";
 import { placeOf, sentence } from "./sentences.js";
 import { notice } from "./status.js";
 
-const find = (id) => document.getElementById(id);
 const STEP = 200;
 // Milliseconds after a check before the repairs of all are asked for, which takes a while.
 const LATER = 2000;
@@ -44,17 +44,13 @@ export function hopelessText(left) {
 export class Findings {
   constructor(model, viewer, editing, timeline, status) {
     Object.assign(this, { model, viewer, editing, timeline, status });
-    this.check = null;
-    this.open = null;
-    this.most = STEP;
-    this.kept = new Set();
+    Object.assign(this, { check: null, open: null, most: STEP, kept: new Set(), learning: 0 });
     // Which groups are unfolded, of those that were pressed.
     this.unfolded = new Map();
     // What was heard so far of the check that goes on.
     this.news = { check: null, findings: [] };
     // The repairs of all damage that a check found, and of which check they are; or why there are none.
     this.all = { check: null };
-    this.learning = 0;
     model.addEventListener("session", () => this.follow());
     find("findings-more").addEventListener("click", () => {
       this.most += STEP;
@@ -140,42 +136,29 @@ export class Findings {
     const found = [this.row(first)];
     if (!rest.length) return found;
     const isUnfolded = this.unfolded.get(key) ?? (isFirst && rest.length < STEP);
-    const entry = document.createElement("li");
-    entry.className = "more";
-    const button = document.createElement("button");
-    button.className = "row";
-    button.setAttribute("aria-expanded", String(isUnfolded));
     const many = `${rest.length.toLocaleString("en")} more`;
-    button.textContent = `${isUnfolded ? "▾" : "▸"} ${many} ${first.severity === "damage" ? "up to the next key frame" : "of this kind"}`;
-    button.addEventListener("click", () => {
+    const which = first.severity === "damage" ? "up to the next key frame" : "of this kind";
+    const text = `${isUnfolded ? "▾" : "▸"} ${many} ${which}`;
+    const turn = () => {
       this.unfolded.set(key, !isUnfolded);
       this.write();
-    });
-    entry.append(button);
-    found.push(entry);
+    };
+    const members = { className: "row", "aria-expanded": String(isUnfolded), textContent: text, onclick: turn };
+    found.push(make("li", { className: "more" }, make("button", members)));
     return isUnfolded ? [...found, ...rest.slice(0, 5 * STEP).map((finding) => this.row(finding))] : found;
   }
 
   row(finding) {
-    const entry = document.createElement("li");
     const key = keyOf(finding);
-    entry.dataset.key = key;
-    entry.classList.toggle("is-kept", this.kept.has(key));
-    const button = document.createElement("button");
-    button.className = "row";
-    button.setAttribute("aria-expanded", "false");
-    const dot = document.createElement("span");
-    dot.className = `dot${finding.severity === "damage" ? "" : " note"}`;
-    dot.title = finding.severity;
-    const text = document.createElement("span");
-    text.className = "text";
-    text.textContent = sentence(finding);
-    const sub = document.createElement("span");
-    sub.className = "sub";
-    sub.textContent = `${finding.severity} · ${placeOf(finding)}`;
-    button.append(dot, text, sub);
-    button.addEventListener("click", () => this.press(finding, key));
-    entry.append(button);
+    const { severity } = finding;
+    const parts = [
+      { className: `dot${severity === "damage" ? "" : " note"}`, title: severity },
+      { className: "text", textContent: sentence(finding) },
+      { className: "sub", textContent: `${severity} · ${placeOf(finding)}` },
+    ].map((members) => make("span", members));
+    const press = () => this.press(finding, key);
+    const button = make("button", { className: "row", "aria-expanded": "false", onclick: press }, ...parts);
+    const entry = make("li", { "data-key": key, className: this.kept.has(key) ? "is-kept" : "" }, button);
     if (this.open && this.open.key === key) this.unfold(entry, this.open);
     return entry;
   }
@@ -194,7 +177,7 @@ export class Findings {
     this.open = open;
     try {
       const given = ["kind", "packet", "before", "stamp"].filter((name) => name === "kind" || Number.isInteger(finding[name]));
-      const answer = await engine.look("repairs", Object.fromEntries(given.map((name) => [name, finding[name]])), { waits: "the repairs" });
+      const answer = await engine.task("repairs", { finding: Object.fromEntries(given.map((name) => [name, finding[name]])) }, { waits: "the repairs" });
       open.repairs = answer.repairs;
     } catch (error) {
       open.repairs = [];
@@ -216,19 +199,15 @@ export class Findings {
     entry.classList.add("is-open");
     entry.querySelector(".row").setAttribute("aria-expanded", "true");
     entry.querySelector(".repairs")?.remove();
-    const list = document.createElement("ul");
-    list.className = "repairs";
-    for (const repair of open.repairs) {
-      const item = document.createElement("li");
-      const button = document.createElement("button");
-      button.textContent = repair.title;
-      button.title = repair.lines.length ? `${repair.lines.slice(0, 6).join("\n")}${repair.lines.length > 6 ? `\n… ${repair.lines.length} edits` : ""}` : "Nothing is changed";
-      button.classList.toggle("is-shown", this.shown === repair);
-      button.addEventListener("click", () => (repair.lines.length ? this.preview(repair) : this.keep(open, entry)));
-      item.append(button);
-      list.append(item);
-    }
-    entry.append(list);
+    const items = open.repairs.map((repair) => {
+      const { title: textContent, lines } = repair;
+      const more = lines.length > 6 ? `\n… ${lines.length} edits` : "";
+      const title = lines.length ? `${lines.slice(0, 6).join("\n")}${more}` : "Nothing is changed";
+      const onclick = () => (lines.length ? this.preview(repair) : this.keep(open, entry));
+      const className = this.shown === repair ? "is-shown" : "";
+      return make("li", {}, make("button", { textContent, title, className, onclick }));
+    });
+    entry.append(make("ul", { className: "repairs" }, ...items));
   }
 
   /** Shows the pictures with a repair, which is not made yet. */
@@ -253,7 +232,7 @@ export class Findings {
 
   /** The button is off, with the reason, if nothing can be repaired. */
   offerAll() {
-    const { check, why = "" } = this.all.check === this.check?.check ? this.all : {};
+    const { check, why = "" } = this.all.check === this.check?.check ? this.all : { check: null };
     find("repair-all").disabled = Boolean(check && why);
     find("repair-all-why").textContent = why;
   }
@@ -262,7 +241,7 @@ export class Findings {
   async learnAll(waits = "") {
     const check = this.check?.check;
     if (this.all.check !== check) {
-      const found = await engine.look("repair_all", {}, { waits }).catch((error) => ({ lines: [], said: [], left: 0, why: error.message }));
+      const found = await engine.task("repair_all", {}, { waits }).catch((error) => ({ lines: [], said: [], left: 0, why: error.message }));
       this.all = { ...found, check, why: found.why ?? (found.lines.length ? "" : hopelessText(found.left)) };
       this.offerAll();
     }

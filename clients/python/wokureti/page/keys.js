@@ -1,6 +1,6 @@
 // The keys, and the list of them.
 
-const find = (id) => document.getElementById(id);
+import { find, make } from "./elements.js";
 
 /** Each key has names as `KeyboardEvent.key` has them, a text, and what it does. */
 export function keysOf({ model, player, sound, lane, editing, findings, viewer, macroblocks, cutting, palette }) {
@@ -38,7 +38,7 @@ export function keysOf({ model, player, sound, lane, editing, findings, viewer, 
     { keys: ["Escape"], show: "Esc", text: "leave the preview, or drop In, Out and the selections", act: () => palette.escape() },
     { keys: ["Delete", "Backspace"], show: "Delete", text: "cut the selected frames out; in the lane of packets: delete packets", act: () => (model.lane === "packets" ? editing.delete() : cutting.cutOut()) },
     { keys: ["h", "H"], show: "H", text: "packets: hold the picture before in their place", act: packets(() => editing.hold()) },
-    { keys: ["d", "D"], show: "D", text: "packets: drop them, packets of no bytes", act: packets(() => editing.drop()) },
+    { keys: ["d", "D"], show: "D", text: "packets: drop them, for empty packets", act: packets(() => editing.drop()) },
     { keys: ["e", "E"], show: "E", text: "keep the selected frames, and show no others", act: () => cutting.keep() },
     { keys: ["x", "X"], show: "X", text: "cut the selected frames out: no packet is changed", act: () => cutting.cutOut() },
     { keys: ["v", "V"], show: "V", text: "show the selected frames before the current one", act: () => cutting.moveHere() },
@@ -117,11 +117,7 @@ export function write(keys) {
     if (!show) continue;
     const row = body.insertRow();
     const cell = row.insertCell();
-    show.split(" ").forEach((part, place) => {
-      const key = document.createElement("kbd");
-      key.textContent = part;
-      cell.append(...(place ? [" ", key] : [key]));
-    });
+    show.split(" ").forEach((part, place) => cell.append(place ? " " : "", make("kbd", { textContent: part })));
     row.insertCell().textContent = text;
   }
 }

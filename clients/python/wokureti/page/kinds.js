@@ -1,5 +1,7 @@
 // The kinds of packets: the letter of the interface, the variable of the colour, and the name. Each one is worse than those before it.
 
+import { make } from "./elements.js";
+
 export const KINDS = [
   { letter: "i", colour: "--inter", name: "inter" },
   { letter: "h", colour: "--hidden", name: "hidden" },
@@ -18,19 +20,22 @@ export function theme() {
   const style = getComputedStyle(document.documentElement);
   const value = (name) => style.getPropertyValue(name).trim();
   const found = Object.fromEntries(KINDS.map(({ letter, colour }) => [letter, value(colour)]));
-  for (const name of ["text", "muted", "line", "line-strong", "grid", "selection", "cursor", "edit", "accent", "panel", "back", "refused"]) {
+  for (const name of ["text", "muted", "line", "line-strong", "grid", "selection", "cursor", "edit", "accent", "panel", "back", "refused", "wave"]) {
     found[name] = value(`--${name}`);
   }
+  return found;
+}
+
+/** A patch of a colour, for a legend. */
+export function patch(colour) {
+  const found = make("i");
+  found.style.background = colour;
   return found;
 }
 
 /** Writes the legend. */
 export function writeLegend(place) {
   for (const { colour, name } of KINDS) {
-    const entry = document.createElement("span");
-    const patch = document.createElement("i");
-    patch.style.background = `var(${colour})`;
-    entry.append(patch, name);
-    place.append(entry);
+    place.append(make("span", {}, patch(`var(${colour})`), name));
   }
 }

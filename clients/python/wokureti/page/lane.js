@@ -1,6 +1,7 @@
 // What both lanes of the timeline do: the frames that are shown, and the packets of a source. Each has a window that is zoomed and moved, goes to what is pressed, and
 // selects what is dragged over.
 
+import { drag } from "./elements.js";
 import { theme } from "./kinds.js";
 import { Window } from "./window.js";
 
@@ -162,6 +163,14 @@ export class Lane {
     return boundary;
   }
 
+  /** Shows a text next to a pixel, on the side that has more room. */
+  showTip(tip, text, pixel) {
+    const { width } = this.window;
+    tip.textContent = text;
+    tip.style.left = pixel > width / 2 ? "" : `${pixel + 12}px`;
+    tip.style.right = pixel > width / 2 ? `${width - pixel + 12}px` : "";
+  }
+
   redraw() {
     if (this.asked) return;
     this.asked = requestAnimationFrame(() => {
@@ -207,16 +216,4 @@ export function polygon(context, points) {
   context.beginPath();
   for (const point of points) context.lineTo(...point);
   context.fill();
-}
-
-/** Follows a pointer that was pressed on an element until it is let go. */
-export function drag(element, event, move, end) {
-  element.setPointerCapture(event.pointerId);
-  const over = (last) => {
-    element.removeEventListener("pointermove", move);
-    for (const name of ["pointerup", "pointercancel"]) element.removeEventListener(name, over);
-    end?.(last);
-  };
-  element.addEventListener("pointermove", move);
-  for (const name of ["pointerup", "pointercancel"]) element.addEventListener(name, over);
 }

@@ -1,8 +1,8 @@
 // The loupe: the samples around a position, enlarged, and the three values there.
 
 import { colourOf, planes } from "./colours.js";
+import { find } from "./elements.js";
 
-const find = (id) => document.getElementById(id);
 // Samples on each side of the one in the middle, and pixels for each of them.
 const AROUND = 5;
 const ENLARGED = 16;

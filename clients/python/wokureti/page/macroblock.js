@@ -1,10 +1,11 @@
 // The overlay over the picture, and the macroblock under the pointer: its record, and its samples before and after the edits.
 
 import { planes } from "./colours.js";
+import { find, make } from "./elements.js";
+import { patch } from "./kinds.js";
 import { draw, OVERLAYS } from "./overlay.js";
 import { RecordStore } from "./records.js";
 
-const find = (id) => document.getElementById(id);
 const NAMES = {
   segment: "Segment",
   skip: "Skipped",
@@ -61,28 +62,15 @@ export function writeRows(place, now, before) {
     if (down) place.append("\n");
     row.forEach((value, across) => {
       const text = String(value).padStart(across ? 4 : 3);
-      if (before && before[down]?.[across] !== value) {
-        const mark = document.createElement("mark");
-        mark.textContent = text;
-        place.append(mark);
-      } else {
-        place.append(text);
-      }
+      place.append(before && before[down]?.[across] !== value ? make("mark", { textContent: text }) : text);
     });
   });
 }
 
 export class Macroblocks {
   constructor(model, viewer, status) {
-    this.model = model;
-    this.viewer = viewer;
-    this.status = status;
+    Object.assign(this, { model, viewer, status, kind: "none", last: "luma", records: null, column: null, row: null });
     this.store = new RecordStore(model);
-    this.kind = "none";
-    this.last = "luma";
-    this.records = null;
-    this.column = null;
-    this.row = null;
     this.onchange = () => {};
     this.canvas = find("overlay-canvas");
     const select = find("overlay");
@@ -111,7 +99,7 @@ export class Macroblocks {
   }
 
   get isOn() {
-    return (this.kind !== "none" || this.isPanel) && !this.viewer.isPlaying && !this.viewer.preview;
+    return (this.kind !== "none" || this.isPanel) && !this.model.isPlaying && !this.viewer.preview;
   }
 
   /** The records are asked for once the frame stays for a moment, and only if they are seen. */
@@ -213,11 +201,7 @@ export class Macroblocks {
     legend.replaceChildren();
     for (const [colour, text, count] of OVERLAYS[this.kind].legend(this.records.macroblocks)) {
       if (count === 0) continue;
-      const entry = document.createElement("span");
-      const patch = document.createElement("i");
-      patch.style.background = colour;
-      entry.append(patch, count === null ? text : `${text} ${count.toLocaleString("en")}`);
-      legend.append(entry);
+      legend.append(make("span", {}, patch(colour), count === null ? text : `${text} ${count.toLocaleString("en")}`));
     }
   }
 
@@ -253,13 +237,13 @@ export class Macroblocks {
 
   writeSamples({ column, row }, now, before) {
     let differs = 0;
-    for (const [name, side] of [["y", 16], ["u", 8], ["v", 8]]) {
+    for (const [name, side] of Object.entries({ y: 16, u: 8, v: 8 })) {
       const [mine, old] = [now, before].map((frame) => frame && rowsOf(planes(frame)[name], column * side, row * side, side));
       writeRows(find(`samples-${name}`), mine, old);
       const other = find(`before-${name}`);
       if (old) {
         writeRows(other, old, mine);
-        old.forEach((values, down) => values.forEach((value, across) => (differs += value !== mine[down][across])));
+        old.forEach((values, down) => (differs += values.filter((value, across) => value !== mine[down][across]).length));
       } else {
         other.textContent = "";
       }

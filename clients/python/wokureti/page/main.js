@@ -9,6 +9,7 @@ import { EditList } from "./edit_list.js";
 import { Exporting } from "./exporting.js";
 import { Findings } from "./findings.js";
 import { Fragment, parse } from "./fragment.js";
+import { find, walk } from "./elements.js";
 import { Frames } from "./frames.js";
 import { engine, whenLost } from "./engine.js";
 import * as keys from "./keys.js";
@@ -26,8 +27,8 @@ import { frameOf, timeText } from "./times.js";
 import { Thumbs } from "./thumbs.js";
 import { Timeline } from "./timeline.js";
 import { Viewer } from "./viewer.js";
+import { Waves } from "./waves.js";
 
-const find = (id) => document.getElementById(id);
 const start = parse(location.hash);
 const model = new Model();
 const status = new Status();
@@ -44,6 +45,7 @@ const scriptPanel = new ScriptPanel(model, editing);
 const editList = new EditList(model, editing);
 const programme = new Programme(model, editing, status);
 const thumbs = new Thumbs(model, programme, timeline);
+const waves = new Waves(model, programme, thumbs);
 const curves = new Curves(model, timeline, frames, player, status);
 timeline.ondraw = () => {
   thumbs.soon();
@@ -53,7 +55,8 @@ const cutting = new Cutting(model, editing, status);
 editing.cutting = cutting;
 /** The lane that keys act on. */
 const lane = () => (model.lane === "packets" ? timeline : programme);
-for (const [id, act] of [["zoom-in", () => lane().zoom(2)], ["zoom-out", () => lane().zoom(0.5)], ["zoom-all", () => lane().zoomAll()]]) find(id).addEventListener("click", act);
+const zooms = { in: () => lane().zoom(2), out: () => lane().zoom(0.5), all: () => lane().zoomAll() };
+for (const [name, act] of Object.entries(zooms)) find(`zoom-${name}`).addEventListener("click", act);
 new Adding(model, status);
 const exporting = new Exporting(status);
 new Cropping(model, cutting, viewer.picture, status);
@@ -80,12 +83,7 @@ function showPanel(name) {
 tabs.forEach((tab, place) => {
   tab.addEventListener("click", () => showPanel(tab.getAttribute("aria-controls")));
   tab.addEventListener("keydown", (event) => {
-    const step = { ArrowRight: 1, ArrowLeft: -1 }[event.key];
-    if (!step) return;
-    event.preventDefault();
-    const other = tabs[(place + step + tabs.length) % tabs.length];
-    other.focus();
-    other.click();
+    if (/Left|Right/.test(event.key)) walk(tabs, place, event, (other) => other.click());
   });
 });
 
@@ -194,7 +192,6 @@ find("frame").addEventListener("blur", writeFrame);
 // Playback
 
 player.onchange = () => {
-  timeline.isPlaying = player.isPlaying;
   find("play").setAttribute("aria-label", player.isPlaying ? "Stop" : "Play");
   find("play-path").setAttribute("d", player.isPlaying ? "M4 3h3v10H4zM9 3h3v10H9z" : "M4 3v10l9-5z");
   if (!player.isPlaying) find("playing").textContent = "";
@@ -215,14 +212,13 @@ find("loop").addEventListener("click", () => {
   find("loop").setAttribute("aria-pressed", String(player.isLoop));
   player.restart();
 });
-for (const [id, go] of [
-  ["first", () => model.goEnd(true)],
-  ["back", () => model.step(-1)],
-  ["forward", () => model.step(1)],
-  ["last", () => model.goEnd(false)],
-]) {
-  find(id).addEventListener("click", () => go().catch(() => {}));
-}
+const moves = {
+  first: () => model.goEnd(true),
+  back: () => model.step(-1),
+  forward: () => model.step(1),
+  last: () => model.goEnd(false),
+};
+for (const [id, go] of Object.entries(moves)) find(id).addEventListener("click", () => go().catch(() => {}));
 
 // Keys
 
@@ -339,7 +335,7 @@ async function begin() {
 }
 
 // For tests.
-window.wokureti = { engine, model, frames, viewer, macroblocks, player, sound, timeline, editing, findings, editList, scriptPanel, cutting, thumbs, curves, programme };
+window.wokureti = { engine, model, frames, viewer, macroblocks, player, sound, timeline, editing, findings, editList, scriptPanel, cutting, thumbs, curves, programme, waves };
 begin().catch((error) => {
   status.say(error.message);
   notice(error.message, { isBad: true });

@@ -97,7 +97,7 @@ export class Model extends EventTarget {
     this.timed = key;
     if (!varies) this.times = null;
     else {
-      const { times } = await engine.look("times");
+      const { times } = await engine.task("times");
       if (this.timed !== key) return;
       this.times = times;
     }

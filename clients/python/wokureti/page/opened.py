@@ -5,13 +5,13 @@ import contextlib
 import threading
 import time
 
-from ..server import live
-from .checking import Check, Stale, answer
-from .parts import Part
-from ..session.errors import Ended, Lost, Refused
-from ..session.lines import first_word
+from ..errors import Changed, Ended, Lost, Refused, Stale
+from ..base.lines import first_word
 from ..session.origins import runs_of
-from .views import Pool, View
+from ..server import live
+from .checking import Check, answer
+from .parts import Part
+from .views import View, Views
 
 
 # Seconds between two pages of a list in the background, and packets that a preview asks for at a time.
@@ -32,13 +32,14 @@ class Opened(live.Live):
 
     def __init__(self, options, edits=None, save=None, pad=False, stems=()):
         self.pad = pad
-        self.current, self.pool, self.known_runs = None, None, (None, None)
+        self.current, self.views, self.known_runs = None, Views(), (None, None)
         self.check_lock, self.check, self.checks, self.count = threading.Lock(), None, [], 0
-        # Programs beside the one of the stream: of edits that are not made, of packets that no frame shows, and of checks of long streams.
-        self.originals, self.preview, self.aside, self.beside, self.meanwhile = {}, Preview(options), Preview(options), Preview(options), Preview(options, 0)
+        self.originals = {}
+        self.begin_others(options)
         # While an edit is made: the revision before it, the rate of the frames, and the edits that were made by then.
         self.before = None
-        # What goes on: a word, how much of it is done, of how much, and since when; and the same of a stream that is opened.
+        # What goes on: a word, how much of it is done, of how much, and since when; and the same of a stream that is
+        # opened.
         self.doing, self.taking = None, None
         super().__init__(options, edits, save, stems)
         threading.Thread(target=self.list_files, daemon=True).start()
@@ -83,33 +84,20 @@ class Opened(live.Live):
         contents = self.contents()
         if contents.listing.is_whole or contents.made:
             contents.listing.learn()
-        if self.pool is None or self.pool.contents is not contents:
-            self.pool, before = Pool(contents), None
-        else:
-            self.pool.grow()
-        return View(self.revision, contents, self.pool, self.session, before, self.served)
+        if before is not None and before.contents is not contents:
+            before = None
+        return View(self.revision, contents, self.session, before, self.served)
 
     def served(self, view):
-        """The frames that the script serves at a revision, as runs. They stay the same as long as the script and the numbers of frames of the sources do.
-        `Changed` if the stream is of another revision."""
+        """The frames that the script serves at a revision, as runs. They stay the same as long as the script and the
+        numbers of frames of the sources do. `Changed` if the stream is of another revision."""
         with self.lock:
             if view.revision != self.revision:
-                raise live.Changed
-            key = (view.contents, view.script, tuple(view.timeline(source).frames[-1] for source in range(len(view.streams))))
+                raise Changed
+            key = (view.contents, view.script, view.shown)
             if self.known_runs[0] != key:
                 self.known_runs = (key, self.ask(lambda session: runs_of(session, view.script, view.frames)))
             return self.known_runs[1]
-
-    def origins(self, view, first, count):
-        """For frames of a revision the source and the packet that each shows."""
-        end = min(first + count, view.frames)
-        if view.has_runs:
-            return [view.origin(frame) for frame in range(first, end)]
-        with self.lock:
-            if view.revision != self.revision:
-                raise live.Changed
-            found = self.ask(lambda session: session.origins(first, end - first)) if first < end else []
-        return [(origin["source"], origin["packet"]) for origin in found]
 
     def tell(self):
         super().tell()
@@ -121,14 +109,14 @@ class Opened(live.Live):
     def again(self, ended):
         super().again(ended)
         # Its packets are read again, and listed again.
-        self.current, self.pool = None, None
+        self.current = None
         threading.Thread(target=self.list_files, daemon=True).start()
 
     def forget(self):
         super().forget()
-        self.current, self.pool = None, None
+        self.current = None
         self.close_others()
-        self.preview, self.aside, self.beside, self.meanwhile = Preview(self.options), Preview(self.options), Preview(self.options), Preview(self.options, 0)
+        self.begin_others(self.options)
         threading.Thread(target=self.list_files, daemon=True).start()
 
     @contextlib.contextmanager
@@ -154,7 +142,9 @@ class Opened(live.Live):
             self.doing = self.before = None
 
     def look(self, numbers):
-        """Frames do not wait for all of a large step: another program shows them as they were before it, if it is faster than the step."""
+        """Frames do not wait for all of a large step: another program shows them as they were before it, if it is
+        faster than the step.
+        """
         if not self.lock.acquire(timeout=PATIENCE):
             before = self.before
             found = None if before is None else begun(lambda: self.meanwhile.pictures(before[2], numbers))
@@ -177,6 +167,13 @@ class Opened(live.Live):
             original.close()
         self.close_others()
         super().close()
+
+    def begin_others(self, options):
+        """Programs beside the one of the stream: of edits that are not made, of packets that no frame shows, of checks
+        of long streams, and of frames while an edit is made.
+        """
+        self.preview, self.aside, self.beside = (Preview(options) for _ in range(3))
+        self.meanwhile = Preview(options, 0)
 
     def close_others(self):
         # A check would start them again.
@@ -265,7 +262,9 @@ class Preview:
         if self.live is None:
             self.live = live.Live(self.options)
         mine = list(self.live.session.edits)
-        common = next((place for place, pair in enumerate(zip(mine, lines)) if pair[0] != pair[1]), min(len(mine), len(lines)))
+        common = next(
+            (place for place, pair in enumerate(zip(mine, lines)) if pair[0] != pair[1]), min(len(mine), len(lines))
+        )
         while len(mine) > common:
             self.live.run("undo")
             mine = list(self.live.session.edits)
@@ -276,18 +275,16 @@ class Preview:
         for line in rest[place:]:
             self.live.run(line)
 
-    def picture(self, lines, frame):
-        """The width, height and samples of a frame after these edits."""
-        return self.pictures(lines, [frame])[0]
-
     def pictures(self, lines, frames):
-        """The same of several frames of one size."""
+        """The width, height and samples of frames of one size after these edits."""
         with self.lock:
             self.follow(lines)
             return self.live.pictures(frames)
 
     def packet(self, lines, source, packet, frame=None):
-        """The picture of a packet of a source after these edits, without the script. `frame` is its frame in the source, if that is known."""
+        """The picture of a packet of a source after these edits, without the script. `frame` is its frame in the
+        source, if that is known.
+        """
         lines = [line for line in lines if first_word(line) != "script"]
         with self.lock:
             self.follow([*lines, *([f"script source {source}"] if source else [])])
@@ -306,7 +303,9 @@ class Preview:
         return self.live is not None
 
     def check(self, lines, first, count, stopped):
-        """What `check` reports of packets of source 0 after these edits. `Stale` if the check was stopped: a closed program is not started again for it."""
+        """What `check` reports of packets of source 0 after these edits. `Stale` if the check was stopped: a closed
+        program is not started again for it.
+        """
         with self.lock:
             if stopped.is_set():
                 raise Stale
@@ -334,7 +333,9 @@ def findings_of(session, first, end):
 
 
 def frame_at(session, source, packet):
-    """The frame that shows a packet of a source, or the next shown one after it, or else the last one, of a script that serves this source."""
+    """The frame that shows a packet of a source, or the next shown one after it, or else the last one, of a script that
+    serves this source.
+    """
     while True:
         found = session.packets(range(packet, packet + PAGE), source)
         frame = next((facts["frame"] for facts in found if facts["frame"] is not None), None)

@@ -8,25 +8,27 @@ import webbrowser
 from typing import NamedTuple
 
 from .. import system
+from ..errors import Ended
+from ..base import rooms
+from ..base.progress import say
 from ..server import serve
-from ..session.errors import Ended
+from ..server.web import Server
 from . import doors, recent
 from .opened import Opened
 from .pages import PageRoutes
-from ..tools import rooms
-from ..tools.progress import say
-from ..server.web import Server
 
 # Browsers that take over the terminal.
 TEXT_BROWSERS = ("www-browser", "links", "elinks", "lynx", "w3m")
 
 
 def stem_of(stream):
-    """The beginning of the names of the list of edits and of the file to save to: next to the stream, or in the state folder if nothing can be
-    written there."""
+    """The beginning of the names of the list of edits and of the file to save to: next to the stream, or in the state
+    folder if nothing can be written there."""
     stem = "stream" if stream == "-" else os.path.splitext(stream)[0]
     if is_copy(stream):
-        return os.path.join(system.state_folder(), f"{os.path.basename(stem)}-{os.path.basename(os.path.dirname(stem))}")
+        return os.path.join(
+            system.state_folder(), f"{os.path.basename(stem)}-{os.path.basename(os.path.dirname(stem))}"
+        )
     if system.is_device(stream):
         stem = os.path.basename(stem)
     if system.is_writable(os.path.dirname(stem)):
@@ -43,8 +45,8 @@ def is_copy(stream):
 
 
 def show(url, folder):
-    """Opens a browser, if there is one with windows. Whether it was started. Its command line, which other users of the machine can read, has a
-    file that leads to the address, and that only this user can read."""
+    """Opens a browser, if there is one with windows. Whether it was started. Its command line, which other users of the
+    machine can read, has a file that leads to the address, and that only this user can read."""
     if not system.has_windows():
         return False
     try:
@@ -59,14 +61,19 @@ def show(url, folder):
 def write_door(url, folder):
     """The file that leads to the page."""
     path = os.path.join(folder, "page.html")
-    with open(os.open(path, os.O_WRONLY | os.O_CREAT | os.O_EXCL | system.BINARY, 0o600), "w", encoding="ascii") as file:
-        file.write(f'<!doctype html><meta charset="utf-8"><meta name="referrer" content="no-referrer"><meta http-equiv="refresh" content="0; url={url}"><title>Wokureti</title><a href="{url}">Wokureti</a>\n')
+    with open(
+        os.open(path, os.O_WRONLY | os.O_CREAT | os.O_EXCL | system.BINARY, 0o600), "w", encoding="ascii"
+    ) as file:
+        file.write(
+            '<!doctype html><meta charset="utf-8"><meta name="referrer" content="no-referrer"><meta'
+            f' http-equiv="refresh" content="0; url={url}"><title>Wokureti</title><a href="{url}">Wokureti</a>\n'
+        )
     return path
 
 
 class How(NamedTuple):
-    """The list of edits and the file to save to, or None; whether packets are saved as with --pad, and with their time stamps; and what is done with
-    sound."""
+    """The list of edits and the file to save to, or None; whether packets are saved as with --pad, and with their time
+    stamps; and what is done with sound."""
 
     edits: object
     save: object
@@ -88,7 +95,9 @@ def run(options, titles, how, port, has_browser):
         live.keeps_stamps, live.sound = how.keeps_stamps, how.sound
     except Ended as error:
         if ": input " in str(error):
-            raise Ended(error.status, f"{error}\n`wokureti repair {titles[0]} OUT` searches the packets of a damaged file") from None
+            raise Ended(
+                error.status, f"{error}\n`wokureti repair {titles[0]} OUT` searches the packets of a damaged file"
+            ) from None
         raise
     if os.path.isfile(titles[0]):
         recent.note(titles[0], path, titles[1:], is_copy(titles[0]))
@@ -138,9 +147,12 @@ def say_where(live, title, usual):
     lines, written = len(edits), edits.written
     if written:
         how = f"`wokureti open {title}`" if edits.path == usual else f"`wokureti open {title} --edits {edits.path}`"
-        say(f"{edits_text(written)} {'is' if written == 1 else 'are'} in {edits.path}: {how} goes on from there")
+        say(f"{edits_text(written)} {'is' if written == 1 else 'are'} in {edits.path}: {how} continues from there")
     if lines > written:
-        say(f"{edits_text(lines - written)} could not be written to {edits.path}, and {'is' if lines - written == 1 else 'are'} lost")
+        say(
+            f"{edits_text(lines - written)} could not be written to {edits.path}, and"
+            f" {'is' if lines - written == 1 else 'are'} lost"
+        )
     for source, done in sorted(live.saves.done.items()):
         of = "" if source == 0 else f"of source {source} "
         say(f"the edited packets {of}were saved to {done.path}")

@@ -1,11 +1,13 @@
-"""Pages of other streams, which a page opens: each is a command of its own, with its list of edits, and ends with this one."""
+"""Pages of other streams, which a page opens: each is a command of its own, with its list of edits, and ends with this
+one.
+"""
 
 import subprocess
 import sys
 import threading
 
 from .. import system
-from .adding import Cannot
+from ..errors import Failed
 
 # Seconds.
 MOST_START, MOST_END = 30, 10
@@ -18,13 +20,28 @@ class Others:
         self.running, self.lock, self.closed = [], threading.Lock(), False
 
     def open(self, path, sources=()):
-        """The address of the page of another stream. `Cannot` with what the command says if it does not start."""
-        words = [sys.executable, "-m", "wokureti", "open", "--no-browser", *(word for source in sources for word in ("--source", source)), "--", path]
+        """The address of the page of another stream. `Failed` with what the command says if it does not start."""
+        words = [
+            sys.executable,
+            "-m",
+            "wokureti",
+            "open",
+            "--no-browser",
+            *(word for source in sources for word in ("--source", source)),
+            "--",
+            path,
+        ]
         with self.lock:
             if self.closed:
-                raise Cannot("the server ends")
+                raise Failed("the server ends")
             process = subprocess.Popen(
-                words, stdin=subprocess.DEVNULL, stdout=subprocess.PIPE, stderr=subprocess.PIPE, text=True, errors="replace", **system.started_apart()
+                words,
+                stdin=subprocess.DEVNULL,
+                stdout=subprocess.PIPE,
+                stderr=subprocess.PIPE,
+                text=True,
+                errors="replace",
+                **system.started_apart(),
             )
             self.running.append(process)
         said = []
@@ -35,7 +52,7 @@ class Others:
         late.cancel()
         if not address:
             process.wait()
-            raise Cannot(" ".join(said) or "it does not start")
+            raise Failed(" ".join(said) or "it does not start")
         return address
 
     def close(self):

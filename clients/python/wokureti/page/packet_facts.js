@@ -1,10 +1,10 @@
 // What vp8list says of the current packet, and of its header.
 
 import { detailsOf, objectsOf } from "./details.js";
+import { find } from "./elements.js";
 import { engine } from "./engine.js";
 import { whyNone } from "./records.js";
 
-const find = (id) => document.getElementById(id);
 const NAMES = [
   ["frame", "Frame"],
   ["stamp", "Time stamp"],
@@ -46,10 +46,9 @@ export class PacketFacts {
     const key = `${revision} ${source} ${packet}`;
     if (key === this.asked) return;
     this.asked = key;
-    const body = find("packet-facts").tBodies[0];
     if (!packets) {
       find("packet-name").textContent = "No packets";
-      body.replaceChildren();
+      writeTable(find("packet-facts"), []);
       return;
     }
     find("packet-name").textContent = `Packet ${packet} of ${packets.toLocaleString("en")}`;
@@ -59,13 +58,8 @@ export class PacketFacts {
     const [facts] = objectsOf(await engine.answer(`list ${packet} 1`, source, { waits: "the facts of the packet" }));
     if (key !== this.asked) return;
     if (!facts) return;
-    body.replaceChildren();
-    for (const [name, text] of NAMES) {
-      if (!(name in facts) || facts[name] === null) continue;
-      const row = body.insertRow();
-      row.insertCell().textContent = text;
-      row.insertCell().textContent = typeof facts[name] === "number" ? facts[name].toLocaleString("en") : facts[name];
-    }
+    const known = NAMES.filter(([name]) => (facts[name] ?? null) !== null);
+    writeTable(find("packet-facts"), known.map(([name, text]) => [text, facts[name].toLocaleString("en")]));
     await this.showHeader(key, source, packet);
   }
 

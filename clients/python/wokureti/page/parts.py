@@ -2,11 +2,14 @@
 
 import time
 
-from ..tools import progress
+from ..errors import Stopped
+from ..base import progress
 
 
 class Part(progress.Watch):
-    """What is done, how much of it by now, and for how long. It ends if `is_gone` says that nobody waits for it any more."""
+    """What is done, how much of it by now, and for how long. It ends if `is_gone` says that nobody waits for it any
+    more.
+    """
 
     def __init__(self, text, is_gone=lambda: False):
         self.is_gone, self.since = is_gone, time.monotonic()
@@ -21,7 +24,12 @@ class Part(progress.Watch):
 
     def check(self):
         if self.is_gone():
-            raise progress.Stopped
+            raise Stopped
 
     def members(self):
-        return {"what": self.text, "done": self.done, "total": self.total, "seconds": round(time.monotonic() - self.since, 1)}
+        return {
+            "what": self.text,
+            "done": self.done,
+            "total": self.total,
+            "seconds": round(time.monotonic() - self.since, 1),
+        }

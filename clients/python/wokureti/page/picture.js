@@ -1,17 +1,16 @@
 // The picture: the frame as it is served, alone or with the frame before the edits.
 
 import { toDifference, toPixels } from "./colours.js";
+import { drag, find } from "./elements.js";
 
-const find = (id) => document.getElementById(id);
+/** What draws on a canvas of this size. */
+function sized(canvas, width, height) {
+  if (canvas.width !== width || canvas.height !== height) Object.assign(canvas, { width, height });
+  return canvas.getContext("2d", { alpha: false });
+}
 
-/** Draws pixels on a canvas of their size. */
-export function draw(canvas, pixels, width, height) {
-  if (canvas.width !== width || canvas.height !== height) {
-    canvas.width = width;
-    canvas.height = height;
-  }
-  const data = new ImageData(new Uint8ClampedArray(pixels.buffer), width, height);
-  canvas.getContext("2d", { alpha: false }).putImageData(data, 0, 0);
+function draw(canvas, pixels, width, height) {
+  sized(canvas, width, height).putImageData(new ImageData(new Uint8ClampedArray(pixels.buffer), width, height), 0, 0);
 }
 
 /** How large a picture is shown: a number of pixels of the page for each sample. */
@@ -40,11 +39,7 @@ function drawVideo(canvas, { width, height, samples }) {
     colorSpace: { matrix: "smpte170m", primaries: "smpte170m", transfer: "smpte170m", fullRange: false },
   });
   try {
-    if (canvas.width !== width || canvas.height !== height) {
-      canvas.width = width;
-      canvas.height = height;
-    }
-    canvas.getContext("2d", { alpha: false }).drawImage(video, 0, 0);
+    sized(canvas, width, height).drawImage(video, 0, 0);
   } finally {
     video.close();
   }
@@ -55,14 +50,8 @@ export class Picture {
     this.stage = find("stage");
     this.canvas = find("now-canvas");
     this.other = find("before-canvas");
-    this.view = "frame";
-    this.plane = "colour";
-    this.size = "fit";
-    this.gain = 8;
-    this.split = 0.5;
-    this.now = null;
-    this.before = null;
-    this.isFirst = true;
+    Object.assign(this, { view: "frame", plane: "colour", size: "fit", gain: 8, split: 0.5 });
+    Object.assign(this, { now: null, before: null, isFirst: true });
     // Called when the picture has another size on the page.
     this.onfit = () => {};
     this.useVideo = hasFrames;
@@ -160,19 +149,10 @@ export class Picture {
 
   drag(event) {
     event.preventDefault();
-    this.handle.setPointerCapture(event.pointerId);
-    const move = (moved) => {
+    drag(this.handle, event, (moved) => {
       const box = this.canvas.getBoundingClientRect();
       this.setSplit((moved.clientX - box.left) / box.width);
-    };
-    const end = () => {
-      this.handle.removeEventListener("pointermove", move);
-      this.handle.removeEventListener("pointerup", end);
-      this.handle.removeEventListener("pointercancel", end);
-    };
-    this.handle.addEventListener("pointermove", move);
-    this.handle.addEventListener("pointerup", end);
-    this.handle.addEventListener("pointercancel", end);
+    });
   }
 
   nudge(event) {

@@ -77,7 +77,6 @@ export class Player {
     this.range = range;
     this.speed = speed;
     this.begin(start);
-    this.viewer.isPlaying = true;
     this.model.isPlaying = true;
     this.model.aside = null;
     this.onchange?.();
@@ -111,7 +110,6 @@ export class Player {
     this.speed = 0;
     this.sound.stop();
     cancelAnimationFrame(this.asked);
-    this.viewer.isPlaying = false;
     this.model.isPlaying = false;
     this.onchange?.();
     this.model.go(this.model.frame).catch(() => {});

@@ -1,11 +1,11 @@
 // The programme: the frames that are shown, in their order. Its selection is of frames, whatever packets they are of.
 
-import { Lane, drag, polygon } from "./lane.js";
+import { drag, find } from "./elements.js";
+import { Lane, polygon } from "./lane.js";
 import { MOST_NODES, lengthOf, nodesFor, shotsOf } from "./shots.js";
 import { timeText } from "./times.js";
 import { stepOf } from "./window.js";
 
-const find = (id) => document.getElementById(id);
 // Pixels of the numbers and of the band of shots; around a handle of a fade; of the narrowest shot that has handles.
 const RULER = 16;
 const BAND = 18;
@@ -184,10 +184,9 @@ export class Programme extends Lane {
     const { source, number } = found;
     const { names } = this.model.session;
     const of = source === 0 && number === frame ? "" : ` · frame ${number} of ${names.length > 1 ? `source ${source}` : names[0]}`;
-    tip.textContent = handle ? `Drag: fade ${handle.name === "fadeIn" ? "in" : "out"}` : `frame ${frame} · ${timeText(frame, this.model.rate, this.model.times)}${of}`;
-    const pixel = this.pixel(event);
-    tip.style.left = pixel > this.window.width / 2 ? "" : `${pixel + 12}px`;
-    tip.style.right = pixel > this.window.width / 2 ? `${this.window.width - pixel + 12}px` : "";
+    const time = timeText(frame, this.model.rate, this.model.times);
+    const fade = handle && `Drag: fade ${handle.name === "fadeIn" ? "in" : "out"}`;
+    this.showTip(tip, fade ?? `frame ${frame} · ${time}${of}`, this.pixel(event));
   }
 
   draw() {
@@ -198,7 +197,9 @@ export class Programme extends Lane {
     canvas.dataset.shots = this.shots.length;
     canvas.dataset.selection = this.selection ? `${this.selection.first} ${this.selection.end}` : "";
     if (!window.count) return;
-    this.thumbs?.draw(context, RULER, height - BAND - RULER);
+    const tall = this.waves?.tall(height) ?? 0;
+    this.thumbs?.draw(context, RULER, height - BAND - RULER - tall);
+    this.waves?.draw(context, height - BAND - tall, tall);
     this.drawNumbers(context);
     this.blocks.forEach((block, place) => {
       if (block.right > 0 && block.left < window.width) this.drawBlock(context, block, place, height);
@@ -206,6 +207,7 @@ export class Programme extends Lane {
     this.drawSelection(context, height);
     this.drawCursor(context, 0, height, [[-6, 0], [6, 0], [0, 8]]);
     this.thumbs?.soon();
+    this.waves?.soon();
   }
 
   drawNumbers(context) {

@@ -16,9 +16,12 @@ def file_of():
 
 
 def noted():
-    """What was opened: for each stream its path, or none if it was a copy, which is gone; its name; its list of edits; its other sources; and when. A file that
-    others may read or write is not believed."""
-    with contextlib.suppress(OSError, ValueError, TypeError), open(os.open(file_of(), os.O_RDONLY | system.NO_LINK | system.BINARY), encoding="utf-8") as file:
+    """What was opened: for each stream its path, or none if it was a copy, which is gone; its name; its list of edits;
+    its other sources; and when. A file that others may read or write is not believed."""
+    with (
+        contextlib.suppress(OSError, ValueError, TypeError),
+        open(os.open(file_of(), os.O_RDONLY | system.NO_LINK | system.BINARY), encoding="utf-8") as file,
+    ):
         if system.is_private(os.fstat(file.fileno())):
             return [entry for entry in json.load(file) if is_entry(entry)][:MOST]
     return []
@@ -26,17 +29,29 @@ def noted():
 
 def is_entry(entry):
     kinds = {"stream": (str, type(None)), "name": str, "list": str, "sources": list, "when": (int, float)}
-    return isinstance(entry, dict) and set(entry) == set(kinds) and all(isinstance(entry[name], kind) for name, kind in kinds.items())
+    return (
+        isinstance(entry, dict)
+        and set(entry) == set(kinds)
+        and all(isinstance(entry[name], kind) for name, kind in kinds.items())
+    )
 
 
 def note(stream, path, sources, is_copy=False):
     """Remembers a stream and its list of edits. If that fails, the page is there all the same."""
-    entry = {"stream": None if is_copy else os.path.abspath(stream), "name": os.path.basename(stream), "list": os.path.abspath(path), "sources": [os.path.abspath(one) for one in sources], "when": time.time()}
+    entry = {
+        "stream": None if is_copy else os.path.abspath(stream),
+        "name": os.path.basename(stream),
+        "list": os.path.abspath(path),
+        "sources": [os.path.abspath(one) for one in sources],
+        "when": time.time(),
+    }
     with contextlib.suppress(OSError):
         found = [entry, *(one for one in noted() if one["list"] != entry["list"])][:MOST]
         os.makedirs(system.state_folder(), mode=0o700, exist_ok=True)
         new = f"{file_of()}.{os.getpid()}"
-        with open(os.open(new, os.O_WRONLY | os.O_CREAT | os.O_TRUNC | system.BINARY, 0o600), "w", encoding="utf-8") as file:
+        with open(
+            os.open(new, os.O_WRONLY | os.O_CREAT | os.O_TRUNC | system.BINARY, 0o600), "w", encoding="utf-8"
+        ) as file:
             json.dump(found, file)
         os.replace(new, file_of())
 
@@ -57,5 +72,13 @@ def offered():
         edits = edits_in(entry["list"])
         is_there = entry["stream"] is None or os.path.isfile(entry["stream"])
         if is_there and (edits or entry["stream"]):
-            found.append({"number": number, "name": entry["name"], "folder": entry["stream"] and os.path.dirname(entry["stream"]), "edits": edits or 0, "when": entry["when"]})
+            found.append(
+                {
+                    "number": number,
+                    "name": entry["name"],
+                    "folder": entry["stream"] and os.path.dirname(entry["stream"]),
+                    "edits": edits or 0,
+                    "when": entry["when"],
+                }
+            )
     return found

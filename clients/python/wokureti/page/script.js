@@ -1,15 +1,19 @@
 // The script as text, a node a line; a refusal is shown at its node.
 
+import { find, make } from "./elements.js";
 import { engine, offer } from "./engine.js";
 import { notice } from "./status.js";
-
-const find = (id) => document.getElementById(id);
 
 /** The nodes of a text: separated by lines or by `;`. Empty ones at the end go. */
 export function nodesOf(text) {
   const nodes = text.split(/[;\n]/).map((node) => node.trim().replace(/\s+/g, " "));
   while (nodes.length && nodes[nodes.length - 1] === "") nodes.pop();
   return nodes;
+}
+
+/** The nodes of a script as it is in a session. */
+export function nodesIn(script) {
+  return script === "-" ? [] : nodesOf(script);
 }
 
 /** The request line of a text. */
@@ -19,7 +23,7 @@ export function lineOf(text) {
 
 /** The text of a script, a node a line. */
 export function textOf(script) {
-  return script === "-" ? "" : nodesOf(script).join("\n");
+  return nodesIn(script).join("\n");
 }
 
 /** The node that a reason names, counted from 1, or null. */
@@ -47,10 +51,7 @@ export function rangeOf(text, node) {
 
 export class ScriptPanel {
   constructor(model, editing) {
-    this.model = model;
-    this.editing = editing;
-    this.text = find("script-text");
-    this.shown = null;
+    Object.assign(this, { model, editing, text: find("script-text"), shown: null });
     model.addEventListener("session", () => this.follow());
     find("script-form").addEventListener("submit", (event) => {
       event.preventDefault();
@@ -82,7 +83,7 @@ export class ScriptPanel {
     const [file] = find("cuts-file").files;
     if (!file) return;
     try {
-      const script = await engine.scriptOfCuts(await file.text());
+      const { script } = await engine.task("cuts", { text: await file.text() }, { waits: "the list of cuts" });
       await this.editing.make([`script ${script}`], `the parts of ${file.name} are shown`);
     } catch (error) {
       notice(error.message, { isBad: true, id: "cuts" });
@@ -141,16 +142,13 @@ export class ScriptPanel {
 
   /** Numbers the lines by their nodes. */
   number(bad = null) {
-    const list = find("script-numbers");
-    list.replaceChildren();
     let node = 1;
-    for (const line of this.text.value.split("\n")) {
+    const lines = this.text.value.split("\n").map((line) => {
       const count = Math.max(1, line.split(";").length);
-      const entry = document.createElement("li");
-      entry.textContent = count > 1 ? `${node}+` : node;
-      entry.classList.toggle("bad", bad !== null && bad >= node && bad < node + count);
-      list.append(entry);
+      const isBad = bad !== null && bad >= node && bad < node + count;
       node += count;
-    }
+      return make("li", { textContent: `${node - count}${count > 1 ? "+" : ""}`, className: isBad ? "bad" : "" });
+    });
+    find("script-numbers").replaceChildren(...lines);
   }
 }

@@ -1,6 +1,6 @@
 // The shots of a script of trims, splices, parts and fades: parts of sources, one after the other. A script that is written anew from them has no nodes left over.
 
-import { nodesOf } from "./script.js";
+import { nodesIn } from "./script.js";
 
 /** Nodes that a script may have. */
 export const MOST_NODES = 16;
@@ -69,7 +69,8 @@ function ofParts(results, numbers) {
   return found;
 }
 
-function unfaded(shots) {
+/** Shots without their fades. */
+export function unfaded(shots) {
   return shots.map((one) => ({ ...one, fadeIn: 0, fadeOut: 0 }));
 }
 
@@ -96,11 +97,6 @@ function resultsOf(script, frames) {
     results.push(found || without());
   }
   return { results, isAll };
-}
-
-/** The nodes of a script as it is in a session. */
-function nodesIn(script) {
-  return script === "-" ? [] : nodesOf(script);
 }
 
 /** The shots of a script, and whether they are all of it: a crop, or a fade in the middle, is not in them. `frames` has the number of frames of each source. */

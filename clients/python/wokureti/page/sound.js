@@ -1,8 +1,8 @@
 // The sound of playback at the stream's own speed, forward, if a stream has some. The picture is the clock: sound that parts from it is set again.
 
+import { find } from "./elements.js";
 import { engine } from "./engine.js";
 
-const find = (id) => document.getElementById(id);
 // Seconds by which sound and picture may part.
 const MOST_APART = 0.12;
 

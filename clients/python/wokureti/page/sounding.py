@@ -1,11 +1,13 @@
-"""The sound of playback: that of the frames which the script shows, as a WebM file without a picture, made when it is asked for."""
+"""The sound of playback: that of the frames which the script shows, as a WebM file without a picture, made when it is
+asked for.
+"""
 
 import contextlib
 import os
 import threading
 
-from ..tools import excerpts, muxing
-from ..tools.exports import Frames
+from ..media import excerpts, muxing
+from ..session.exports import Frames
 
 
 def has_sound(contents):

@@ -1,8 +1,8 @@
 // The page of `wokureti open` without a stream: it opens a file of the browser's dialog, which the server copies, or a stream that was open before.
 
+import { find } from "./elements.js";
 import { writeRecent } from "./recent.js";
 
-const find = (id) => document.getElementById(id);
 const BASE = new URL("../", document.baseURI);
 // Bytes of a piece of a file.
 const PIECE = 3 << 20;

@@ -1,23 +1,24 @@
-"""wokureti open without a stream: a page that opens a file of the browser's dialog, or a stream that was opened before."""
+"""wokureti open without a stream: a page that opens a file of the browser's dialog, or a stream that was opened
+before.
+"""
 
 import base64
 import binascii
 import hashlib
-import json
 import os
 import re
 import secrets
 import threading
 
 from .. import system
+from ..errors import Failed, Refuse
+from ..base import rooms
+from ..base.progress import say
 from ..server import serve
 from ..server.routes import Routes
-from ..server.web import Refuse, Response, as_json
-from ..tools import rooms
-from ..tools.progress import say
+from ..server.web import as_json
 from . import others, recent
-from .adding import Cannot
-from .pages import PageRoutes, files_of_page
+from .pages import PageRoutes, files_of_page, parse_body
 
 # Bytes of a piece of a file that is copied, at most: a body has 8 MiB, and these are written as base64.
 MOST_PIECE = 4 << 20
@@ -43,7 +44,9 @@ class Start:
             return self.addresses[path]
 
     def take(self, copy, name, at, data, is_last):
-        """Takes a piece of a file. Its folder has the name of a number until it is whole, and then of its bytes, as has the list of its edits."""
+        """Takes a piece of a file. Its folder has the name of a number until it is whole, and then of its bytes, as has
+        the list of its edits.
+        """
         folder = os.path.join(self.folder, copy)
         path = os.path.join(folder, name)
         if at == 0:
@@ -70,7 +73,7 @@ class Start:
 class StartRoutes(Routes):
     """The routes of the start page."""
 
-    is_entry = PageRoutes.is_entry
+    is_entry, page_file = PageRoutes.is_entry, PageRoutes.page_file
 
     def __init__(self, start, server, token):
         super().__init__(start, server, token)
@@ -79,11 +82,9 @@ class StartRoutes(Routes):
         self.posts = {("pages",): self.open_page, ("piece",): self.piece}
 
     def read(self, request, parts):
-        if len(parts) > 1 and parts[0] == "page":
-            kind, text = self.files.get("/".join(parts[1:]) or "start.html", (None, None))
-            if kind is not None:
-                self.only(request)
-                return Response(200, kind, text)
+        found = self.page_file(request, parts, "start.html")
+        if found is not None:
+            return found
         if parts in self.reads:
             return self.reads[parts](request)
         raise Refuse(404, "there is nothing here")
@@ -94,25 +95,26 @@ class StartRoutes(Routes):
         return as_json({"recent": recent.offered(), "folder": system.state_folder()})
 
     def open_page(self, request):
-        """Opens a stream that was open before, by its number, or a file that was copied, and answers with the address of its page."""
-        members, sources = members_of(request), []
-        number, copy, name = members.get("recent"), members.get("copy"), members.get("name")
-        if isinstance(number, int) and 0 <= number < len(noted := recent.noted()) and noted[number]["stream"]:
+        """Opens a stream that was open before, by its number, or a file that was copied, and answers with the address
+        of its page.
+        """
+        members, sources = parse_body(request.body, {"recent": int, "copy": str, "name": str}), []
+        number, copy = members.get("recent"), members.get("copy", "")
+        path = os.path.join(self.start.folder, copy, named(members.get("name", "")))
+        if number is not None and number < len(noted := recent.noted()) and noted[number]["stream"]:
             path, sources = noted[number]["stream"], noted[number]["sources"]
-        elif isinstance(copy, str) and MARK.fullmatch(copy) and isinstance(name, str) and os.path.isfile(path := os.path.join(self.start.folder, copy, named(name))):
-            pass
-        else:
+        elif not MARK.fullmatch(copy) or not os.path.isfile(path):
             raise Refuse(404, "there is no such stream")
         try:
             return as_json({"address": self.start.open(path, sources)})
-        except Cannot as error:
+        except Failed as error:
             raise Refuse(409, str(error)) from None
 
     def piece(self, request):
         """Takes a piece of a file that is opened, and answers with the name of the copy."""
-        members = members_of(request)
+        members = parse_body(request.body, {"copy": str, "name": str, "at": int, "data": str, "last": bool})
         copy, name, at, text = (members.get(one) for one in ("copy", "name", "at", "data"))
-        if not (isinstance(name, str) and isinstance(at, int) and at >= 0 and isinstance(text, str) and (at == 0 or isinstance(copy, str) and MARK.fullmatch(copy))):
+        if None in (name, at, text) or (at and not MARK.fullmatch(copy or "")):
             raise Refuse(400, "a piece has copy, name, at and data")
         try:
             data = base64.b64decode(text, validate=True)
@@ -120,23 +122,14 @@ class StartRoutes(Routes):
             raise Refuse(400, "data is not base64") from None
         if len(data) > MOST_PIECE:
             raise Refuse(413, f"a piece has at most {MOST_PIECE} bytes")
-        return as_json({"copy": self.start.take(secrets.token_hex(8) if at == 0 else copy, named(name), at, data, members.get("last") is True)})
+        mark = copy if at else secrets.token_hex(8)
+        return as_json({"copy": self.start.take(mark, named(name), at, data, members.get("last", False))})
 
 
 def named(name):
     """The name of a copy: that of the file, without a folder."""
     refused = r'[\0-\37/\\:*?"<>|]' if system.IS_WINDOWS else r"[\0-\37/]"
     return re.sub(refused, "-", name).lstrip(".")[-60:] or "stream"
-
-
-def members_of(request):
-    try:
-        members = json.loads(request.body)
-    except ValueError:
-        raise Refuse(400, "the body is not JSON") from None
-    if not isinstance(members, dict):
-        raise Refuse(400, "the body is not an object")
-    return members
 
 
 def run(port, show):

@@ -1,17 +1,14 @@
 // The line that says what goes on, and notices.
 
+import { find, make } from "./elements.js";
 import { OPENING, engine, waiting } from "./engine.js";
 
-const find = (id) => document.getElementById(id);
 // Milliseconds after which a request that is not answered is shown.
 const SOON = 300;
 
 export class Status {
   constructor() {
-    this.text = "";
-    this.restarts = null;
-    this.until = 0;
-    this.polling = false;
+    Object.assign(this, { text: "", until: 0, polling: false });
     setInterval(() => this.look(), 150);
   }
 
@@ -55,42 +52,35 @@ export class Status {
     this.isBusy = true;
     const seconds = `${(passed / 1000).toFixed(1)} s`;
     if (oldest.what === "edit") {
-      this.ask(seconds);
+      this.ask(`an edit is being applied: ${seconds}`, (found) => this.tellEdit(found));
     } else if (oldest.what === OPENING) {
-      this.askOpening(seconds);
+      this.ask(`waiting for ${OPENING}: ${seconds}`, (found) => this.tellOpening(found));
     } else {
       this.write(`${oldest.what.startsWith("frame") ? "decoding" : "waiting for"} ${oldest.what}: ${seconds}`, null);
     }
   }
 
-  /** How much of a container was read of a stream that is opened. */
-  async askOpening(seconds) {
+  /** Says how far the engine is, if `tell` says it, or else a text. */
+  async ask(text, tell) {
     if (this.polling) return;
     this.polling = true;
     try {
-      const { opening } = await engine.progress();
-      if (opening?.total) this.share(opening.what, opening.done / opening.total);
-      else this.write(`waiting for ${OPENING}: ${seconds}`, null);
+      if (!tell(await engine.progress())) this.write(text, null);
     } catch {
-      this.write(`waiting for ${OPENING}: ${seconds}`, null);
+      this.write(text, null);
     } finally {
       this.polling = false;
     }
   }
 
-  /** How far the server is with an edit. */
-  async ask(seconds) {
-    if (this.polling) return;
-    this.polling = true;
-    try {
-      const { doing } = await engine.progress();
-      if (doing && doing.total > 1) this.progress("edits made", doing.done, doing.total);
-      else this.write(`an edit is being applied: ${seconds}`, null);
-    } catch {
-      this.write(`waiting for the edit: ${seconds}`, null);
-    } finally {
-      this.polling = false;
-    }
+  tellEdit({ doing }) {
+    if (doing?.total > 1) this.progress("edits made", doing.done, doing.total);
+    return doing?.total > 1;
+  }
+
+  tellOpening({ opening }) {
+    if (opening?.total) this.share(opening.what, opening.done / opening.total);
+    return opening?.total;
   }
 }
 
@@ -117,27 +107,14 @@ export function notice(text, { isBad = false, id = "", stays = false, act = null
   const place = find("notices");
   // The same sentence is there once, also if two tabs were told it.
   for (const old of [...place.children]) if ((id && old.dataset.id === id) || old.querySelector("span").textContent === text) old.remove();
-  const box = document.createElement("div");
-  box.className = `notice${isBad ? " bad" : ""}`;
-  box.dataset.id = id;
-  const said = document.createElement("span");
-  said.textContent = text;
-  const close = document.createElement("button");
-  close.textContent = "×";
-  close.setAttribute("aria-label", "Close");
-  close.addEventListener("click", () => box.remove());
-  box.append(said);
-  if (act) {
-    const offered = document.createElement("button");
-    offered.className = "offered";
-    [offered.textContent] = act;
-    offered.addEventListener("click", () => {
-      box.remove();
-      act[1]();
-    });
-    box.append(offered);
-  }
-  box.append(close);
+  const said = make("span", { textContent: text });
+  const box = make("div", { className: `notice${isBad ? " bad" : ""}`, "data-id": id }, said);
+  const press = () => {
+    box.remove();
+    act[1]();
+  };
+  if (act) box.append(make("button", { className: "offered", textContent: act[0], onclick: press }));
+  box.append(make("button", { textContent: "×", "aria-label": "Close", onclick: () => box.remove() }));
   place.append(box);
   while (place.children.length > 4) place.firstChild.remove();
   if (!isBad && !stays) setTimeout(() => box.remove(), 6000);

@@ -1,10 +1,10 @@
 // Small pictures of the frames that are shown, along the programme. Each is that of a frame in its place: a key frame if there is one, since that is decoded by itself.
 
 import { toColour } from "./colours.js";
+import { find } from "./elements.js";
 import { engine } from "./engine.js";
 import { nodesOf } from "./script.js";
 
-const find = (id) => document.getElementById(id);
 // Pixels of a place, and how many pictures are stored.
 const WIDE = 76;
 const MOST_PICTURES = 300;
@@ -18,7 +18,7 @@ const MOST_LOOKED = 256;
 
 /** The frames of the places that the programme has room for: pairs of the first one and the one after the last. */
 export function placesOf(window) {
-  const found = [];
+  const found = /** @type {[number, number][]} */ ([]);
   for (let left = 0; left + WIDE / 2 <= window.width; left += WIDE) {
     const [first, end] = [left, left + WIDE].map((pixel) => Math.min(window.count, Math.max(0, window.packetAt(pixel))));
     if (first >= window.count) break;
@@ -28,7 +28,7 @@ export function placesOf(window) {
 }
 
 /** What of a session changes the pictures of its packets. */
-function packetsOf({ instance, edits, edits_before: before }) {
+export function packetsOf({ instance, edits, edits_before: before }) {
   return `${instance} ${before} ${edits.filter((line) => !line.startsWith("script")).join("\n")}`;
 }
 
@@ -84,6 +84,11 @@ export class Thumbs {
     programme.redraw();
     clearTimeout(this.timer);
     this.timer = setTimeout(() => this.fetch(key).catch(() => {}), QUIET);
+  }
+
+  /** Whether pictures that are shown are still to come, or it is not known yet which ones. */
+  get isWanting() {
+    return this.isOn && (!this.key || this.wanted.some((one) => one && !this.found.has(one.name)));
   }
 
   /** Pictures of packets that were edited since are fetched again once nothing is done. */

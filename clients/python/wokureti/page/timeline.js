@@ -1,12 +1,13 @@
 // The lane of packets: a bar a packet of a source, or a column for several.
 
+import { drag, find } from "./elements.js";
+import { firstAt } from "./engines/views.js";
 import { NAMES } from "./kinds.js";
-import { Lane, drag, polygon } from "./lane.js";
+import { Lane, polygon } from "./lane.js";
 import { COLUMNS, Tiles, perOf } from "./tiles.js";
 import { timeText } from "./times.js";
 import { bytesText, stepOf } from "./window.js";
 
-const find = (id) => document.getElementById(id);
 const RULER = 20;
 const MARKS = 14;
 // Tiles that are drawn, at most, besides that of the whole stream.
@@ -115,7 +116,7 @@ export class Timeline extends Lane {
   }
 
   moved() {
-    if (this.isPlaying) this.window.follow(this.model.packet);
+    if (this.model.isPlaying) this.window.follow(this.model.packet);
     else if (!this.isHeld) this.window.reveal(this.model.packet);
     this.describe();
     this.redraw();
@@ -148,10 +149,9 @@ export class Timeline extends Lane {
     if (!found) return;
     const { per, first, kind, bytes, frame } = found;
     const end = Math.min(first + per, this.window.count) - 1;
-    tip.textContent = per === 1 ? `packet ${first} · frame ${frame} · ${timeText(frame, this.model.rate, this.model.times)} · ${NAMES[kind]} · ${bytesText(bytes)}` : `packets ${first} to ${end} · ${NAMES[kind]} · up to ${bytesText(bytes)}`;
-    const pixel = this.pixel(event);
-    tip.style.left = pixel > this.window.width / 2 ? "" : `${pixel + 12}px`;
-    tip.style.right = pixel > this.window.width / 2 ? `${this.window.width - pixel + 12}px` : "";
+    const one = `packet ${first} · frame ${frame} · ${timeText(frame, this.model.rate, this.model.times)}`;
+    const some = `packets ${first} to ${end} · ${NAMES[kind]} · up to ${bytesText(bytes)}`;
+    this.showTip(tip, per === 1 ? `${one} · ${NAMES[kind]} · ${bytesText(bytes)}` : some, this.pixel(event));
     tip.style.top = "4px";
   }
 
@@ -356,15 +356,4 @@ export class Timeline extends Lane {
 function mark(context, x, y, colour) {
   context.fillStyle = colour;
   polygon(context, [[x - 4, y - 5], [x + 4, y - 5], [x, y + 1]]);
-}
-
-/** The place of the first number that is at least a value, in a list that ascends. */
-export function firstAt(list, value) {
-  let [low, high] = [0, list.length];
-  while (low < high) {
-    const middle = (low + high) >> 1;
-    if (list[middle] < value) low = middle + 1;
-    else high = middle;
-  }
-  return low;
 }

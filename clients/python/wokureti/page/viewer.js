@@ -1,11 +1,11 @@
 // What is shown in the picture: the current frame, its comparison with the frame before the edits, or a preview.
 
 import { compared } from "./colours.js";
+import { drag, find, walk } from "./elements.js";
 import { Refusal, engine } from "./engine.js";
 import { Loupe } from "./loupe.js";
 import { Picture } from "./picture.js";
 
-const find = (id) => document.getElementById(id);
 // Frames after which a search says how far it is.
 const SHOWN_EVERY = 16;
 
@@ -22,21 +22,16 @@ export function comparison({ psnr, differing, samples }, other = "before the edi
 
 export class Viewer {
   constructor(model, frames, status) {
-    this.model = model;
-    this.frames = frames;
-    this.status = status;
+    Object.assign(this, { model, frames, status, isStale: false, showing: null });
     this.picture = new Picture();
     this.loupe = new Loupe(this.picture);
     // The edits of a preview, or null.
     this.preview = null;
-    this.isStale = false;
-    this.showing = null;
-    this.isPlaying = false;
     // What the other picture is: the frame before the edits, or that of a source as it was opened.
     this.against = "before";
     // Called when another picture is shown.
     this.onshown = () => {};
-    model.addEventListener("frame", () => this.isPlaying || this.show());
+    model.addEventListener("frame", () => model.isPlaying || this.show());
     model.addEventListener("session", () => this.show());
     this.choices("view", (view) => {
       this.picture.view = view;
@@ -80,15 +75,8 @@ export class Viewer {
     buttons.forEach((button, place) => {
       button.tabIndex = place ? -1 : 0;
       button.addEventListener("click", () => this[`choose_${name}`](button.dataset[name]));
-      button.addEventListener("keydown", (event) => {
-        const step = { ArrowRight: 1, ArrowDown: 1, ArrowLeft: -1, ArrowUp: -1 }[event.key];
-        if (!step) return;
-        event.preventDefault();
-        event.stopPropagation();
-        const other = buttons[(place + step + buttons.length) % buttons.length];
-        other.focus();
-        this[`choose_${name}`](other.dataset[name]);
-      });
+      const choose = (other) => this[`choose_${name}`](other.dataset[name]);
+      button.addEventListener("keydown", (event) => walk(buttons, place, event, choose));
     });
   }
 
@@ -98,16 +86,7 @@ export class Viewer {
     const isLarger = stage.scrollWidth > stage.clientWidth || stage.scrollHeight > stage.clientHeight;
     if (event.button !== 0 || !isLarger || event.target.closest("#split-handle")) return;
     const [left, top] = [stage.scrollLeft + event.clientX, stage.scrollTop + event.clientY];
-    stage.setPointerCapture(event.pointerId);
-    const move = (moved) => stage.scrollTo(left - moved.clientX, top - moved.clientY);
-    const end = () => {
-      stage.removeEventListener("pointermove", move);
-      stage.removeEventListener("pointerup", end);
-      stage.removeEventListener("pointercancel", end);
-    };
-    stage.addEventListener("pointermove", move);
-    stage.addEventListener("pointerup", end);
-    stage.addEventListener("pointercancel", end);
+    drag(stage, event, (moved) => stage.scrollTo(left - moved.clientX, top - moved.clientY));
   }
 
   get needsBefore() {
@@ -172,7 +151,7 @@ export class Viewer {
       return;
     }
     const [now, before] = await Promise.all([this.nowOf(frame, aside), this.needsBefore || this.preview ? this.beforeOf(frame, aside) : null]);
-    if (this.isPlaying || (this.isStale && look !== this.model.look)) return;
+    if (this.model.isPlaying || (this.isStale && look !== this.model.look)) return;
     if (now.frame) {
       this.picture.show(now.frame, this.needsBefore ? (before?.frame ?? null) : null);
     } else {

@@ -1,4 +1,6 @@
-"""The files of a mounted stream, as they are at a revision: nothing is written, and each part of a file is made when it is read."""
+"""The files of a mounted stream, as they are at a revision: nothing is written, and each part of a file is made when it
+is read.
+"""
 
 import bisect
 import os
@@ -9,23 +11,25 @@ from collections import OrderedDict
 from itertools import accumulate
 
 from .. import system
-from ..tools import ivf, png
-from ..session.errors import Refused
-from ..session.frames import MARK, frame_of
-from ..session.lines import EDITS as EDIT_WORDS
-from ..session.lines import first_word, lines_in, lines_of
-from .live import Changed
-from ..session.outcomes import TooMany
-from .virtual import Cannot, Clip
+from ..errors import Changed, Refused, TooManyRuns, Unreadable, Unserved
+from ..base.lines import EDITS as EDIT_WORDS, first_word, lines_in, lines_of
+from ..media import ivf, png
+from ..media.y4m import MARK
+from ..session.frames import frame_of
+from .virtual import Clip
 
 # Bytes of pictures that are kept for the next read: programs read a frame in many pieces.
 MOST_KEPT = 64 << 20
-CLIP, PACKETS, EDITS, ERROR, FINDINGS, FACTS, FRAMES = "clip.y4m", "clip.ivf", "edits.txt", "edits.err", "findings.txt", "packets.jsonl", "frames"
+CLIP, PACKETS, EDITS, ERROR, FINDINGS, FACTS, FRAMES = (
+    "clip.y4m",
+    "clip.ivf",
+    "edits.txt",
+    "edits.err",
+    "findings.txt",
+    "packets.jsonl",
+    "frames",
+)
 CONTAINERS = ("clip.webm", "clip.mkv")
-
-
-class Unreadable(Exception):
-    """These bytes cannot be made: a frame of them is refused."""
 
 
 class Text:
@@ -50,7 +54,9 @@ class OnDisk:
 
 
 class Packets:
-    """The packets of source 0 as an IVF file with new time stamps: any of its bytes, made of the records that they touch."""
+    """The packets of source 0 as an IVF file with new time stamps: any of its bytes, made of the records that they
+    touch.
+    """
 
     def __init__(self, contents):
         self.contents, self.numbers = contents, array("I", contents.streams[0])
@@ -78,7 +84,11 @@ class Frames:
 
     def frame(self, number):
         found = self.kept.get((self.clip.revision, number))
-        return found if found is not None else self.kept.put((self.clip.revision, number), bytes(self.clip.frames([number])[0]))
+        return (
+            found
+            if found is not None
+            else self.kept.put((self.clip.revision, number), bytes(self.clip.frames([number])[0]))
+        )
 
     def read(self, start, end):
         head, size = self.clip.header, self.clip.frame_size
@@ -166,15 +176,27 @@ class Revision:
             return Text("".join(f"{line}\n" for line in (*self.refused(), *live.findings()[1])).encode())
         folder, _, number = name.partition("/")
         number, _, ending = number.partition(".")
-        if folder != FRAMES or ending != "png" or not number.isdecimal() or name != picture_name(int(number)) or int(number) >= self.outcomes.count:
+        if (
+            folder != FRAMES
+            or ending != "png"
+            or not number.isdecimal()
+            or name != picture_name(int(number))
+            or int(number) >= self.outcomes.count
+        ):
             raise KeyError(name)
         outcome = self.outcomes.of_frame(int(number))
-        return Picture(live, self.number, int(number), outcome if isinstance(outcome, tuple) else self.outcomes.size or (1, 1), self.kept)
+        return Picture(
+            live,
+            self.number,
+            int(number),
+            outcome if isinstance(outcome, tuple) else self.outcomes.size or (1, 1),
+            self.kept,
+        )
 
     def clip(self):
         try:
             clip = Clip(self.live, "error")
-        except (Cannot, TooMany):
+        except (Unserved, TooManyRuns):
             # No frame is served: there is no size.
             return Text(b"")
         if clip.revision != self.number:
@@ -228,16 +250,20 @@ class Folder:
         return revision, revision.file(name)
 
     def read(self, revision, file, start, size):
-        """Bytes of a file. `Changed` if the stream was edited since it was opened, `Unreadable` if a frame is refused."""
+        """Bytes of a file. `Changed` if the stream was edited since it was opened, `Unreadable` if a frame is
+        refused.
+        """
         if revision is not None and revision.number != self.live.revision:
             raise Changed
         try:
             return bytes(file.read(start, min(file.size, start + size))) if start < file.size else b""
-        except (Refused, Cannot) as refused:
+        except (Refused, Unserved) as refused:
             raise Unreadable(str(refused)) from None
 
     def edit(self, text):
-        """Makes the list of edits this text. `ValueError` if an edit is refused; the list is then as it was, and the reason is in a file."""
+        """Makes the list of edits this text. `ValueError` if an edit is refused; the list is then as it was, and the
+        reason is in a file.
+        """
         lines = [line.strip() for line in lines_in(text)]
         lines = [line for line in lines if line and not line.startswith("#")]
         try:
@@ -253,9 +279,13 @@ class Folder:
 
 
 def replace_edits(live, lines):
-    """Makes the edits of a session these lines: those that both begin with stay, the others are undone. If one is refused, all are as before."""
+    """Makes the edits of a session these lines: those that both begin with stay, the others are undone. If one is
+    refused, all are as before.
+    """
     before = list(live.session.edits)
-    common = next((place for place, pair in enumerate(zip(before, lines)) if pair[0] != pair[1]), min(len(before), len(lines)))
+    common = next(
+        (place for place, pair in enumerate(zip(before, lines)) if pair[0] != pair[1]), min(len(before), len(lines))
+    )
     while len(live.session.edits) > common:
         live.run("undo")
     more = lines[len(live.session.edits) :]

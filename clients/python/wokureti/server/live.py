@@ -1,4 +1,6 @@
-"""An edited stream that several clients look at while it is edited: a session, its revision, and what starts it again when it ends."""
+"""An edited stream that several clients look at while it is edited: a session, its revision, and what starts it again
+when it ends.
+"""
 
 import contextlib
 import os
@@ -6,15 +8,16 @@ import re
 import secrets
 import threading
 
-from ..tools import containers, facts, muxing, rooms, webm
-from ..session.edit_files import NotWritten
-from ..session.errors import Ended, Lost, Refused
+from ..errors import Changed, Ended, Lost, NotWritten, Refused
+from ..base import rooms
+from ..base.progress import say
+from ..media import containers, facts, muxing, webm
 from ..session.outcomes import Outcomes
-from ..tools.progress import say
-from .saves import Saves
 from ..session.session import Session
+from .saves import Saves
 
-# Frames of another size than the first one that a program served are refused: so each size has a program of its own, at most so many.
+# Frames of another size than the first one that a program served are refused: so each size has a program of its own, at
+# most so many.
 MOST_VIEWERS = 3
 # Seconds that one request may take.
 MOST_TIME = 120
@@ -22,12 +25,10 @@ MOST_TIME = 120
 MOST_NOTICES = 100
 
 
-class Changed(Exception):
-    """The stream is no more that of the revision."""
-
-
 def with_damage(lines, contents):
-    """The lines of `vp8list --check` of the packets of source 0, with the damage of its file, which these packets do not have."""
+    """The lines of `vp8list --check` of the packets of source 0, with the damage of its file, which these packets do
+    not have.
+    """
     item = contents.inputs.all[0]
     texts = item.damage_around() if contents.is_edited(0, contents.streams[0]) else item.damage()
     if not texts or not lines:
@@ -59,7 +60,8 @@ class Viewer:
 class Live:
     """The stream. A call waits until the one before it is done."""
 
-    # Whether packets are saved as with --pad, whether they keep their time stamps, and what is done with sound (`sounds.outputs`).
+    # Whether packets are saved as with --pad, whether they keep their time stamps, and what is done with sound
+    # (`sounds.outputs`).
     pad, keeps_stamps, sound = False, False, None
     # Whether frames are repeated or left out, so that all last as long.
     is_constant = False
@@ -90,7 +92,9 @@ class Live:
         return session
 
     def tell_damage(self):
-        """Says which files end in the middle or are damaged. What was said when a container was read is said to the page only."""
+        """Says which files end in the middle or are damaged. What was said when a container was read is said to the
+        page only.
+        """
         for item in self.session.edits.contents().inputs.all:
             for text in item.damage():
                 if text not in self.told:
@@ -144,8 +148,8 @@ class Live:
         self.changed.notify_all()
 
     def add_source(self, path, stem, ending):
-        """Opens another stream as the last source: the program is started again, from the list of edits. If it does not read the stream, all is as
-        before."""
+        """Opens another stream as the last source: the program is started again, from the list of edits. If it does not
+        read the stream, all is as before."""
         with self.lock:
             before, edits = self.options, self.alive().edits
             # A list without edits is removed when its session ends.
@@ -170,7 +174,9 @@ class Live:
 
     @property
     def changes(self):
-        """How often something was changed: an edit, a save, or the program started again. Who knows the number knows all."""
+        """How often something was changed: an edit, a save, or the program started again. Who knows the number knows
+        all.
+        """
         return self.revision + len(self.events) + self.saves.count
 
     def tell(self):
@@ -179,13 +185,20 @@ class Live:
         self.changed.notify_all()
 
     def run(self, line):
-        """Makes an edit, `undo`, `redo` or `save`, and returns the reply, or the lines that were undone or made again."""
+        """Makes an edit, `undo`, `redo` or `save`, and returns the reply, or the lines that were undone or made
+        again.
+        """
         return self.make(lambda: self.run_one(line))
 
     def run_step(self, lines, title=""):
-        """Makes edits as one step for `undo`, and returns the reply to the last one. If one is refused, none is made."""
+        """Makes edits as one step for `undo`, and returns the reply to the last one. If one is refused, none is
+        made.
+        """
+
         def step():
-            reply = self.session.edits.run_step(lines, progress=lambda done: self.on_progress(done, len(lines)), title=title)
+            reply = self.session.edits.run_step(
+                lines, progress=lambda done: self.on_progress(done, len(lines)), title=title
+            )
             self.tell()
             return reply
 
@@ -207,7 +220,9 @@ class Live:
         return reply
 
     def make(self, edit):
-        """What a function returns that edits the session. If the program ends, it is started again, and the edit is not made."""
+        """What a function returns that edits the session. If the program ends, it is started again, and the edit is not
+        made.
+        """
         with self.lock:
             if self.session.is_over:
                 self.again("before this edit")
@@ -225,7 +240,9 @@ class Live:
         """Writes the packets of a source, and returns the name of the file."""
         contents = self.contents()
         restamps = not self.keeps_stamps and contents.is_edited(source, contents.streams[source])
-        path = self.saves.save(source, contents, lambda path: self.session.save(path, self.pad, source, restamps, self.sound, self.notice))
+        path = self.saves.save(
+            source, contents, lambda path: self.session.save(path, self.pad, source, restamps, self.sound, self.notice)
+        )
         self.changed.notify_all()
         return path
 
@@ -255,6 +272,7 @@ class Live:
 
     def pictures(self, numbers, revision=None):
         """The same of several frames of one size."""
+
         def view(session):
             if revision is not None and revision != self.revision:
                 raise Changed
@@ -332,7 +350,10 @@ class Live:
                 path = os.path.join(self.room.name, "checked.ivf")
                 with open(path, "wb") as file:
                     file.writelines(contents.pieces(0))
-            lines = [line.decode(errors="replace").rstrip("\n") for line in facts.run(contents.lister, path, "--check", statuses=(0, 1))]
+            lines = [
+                line.decode(errors="replace").rstrip("\n")
+                for line in facts.run(contents.lister, path, "--check", statuses=(0, 1))
+            ]
             lines = with_damage(lines, contents)
             with contextlib.suppress(OSError):
                 os.unlink(path)

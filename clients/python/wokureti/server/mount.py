@@ -1,4 +1,6 @@
-"""wokureti mount: a folder in which the edited stream is a file of each kind, for programs that open files by a path."""
+"""wokureti mount: a folder in which the edited stream is a file of each kind, for programs that open files by a
+path.
+"""
 
 import contextlib
 import errno
@@ -9,28 +11,41 @@ import sys
 import threading
 
 from .. import system
-from ..session.errors import Ended, Lost
-from .folders import EDITS, FRAMES, Folder, Unreadable
-from .live import Changed
-from ..tools import waits
-from ..tools.progress import say
+from ..errors import Changed, Ended, Failed, Lost, Unreadable
+from ..base import waits
+from ..base.progress import say
+from .folders import EDITS, FRAMES, Folder
 
 WRITES = os.O_WRONLY | os.O_RDWR
 # Seconds between two looks at whether a folder is unmounted.
 OFTEN = 0.02
 # The operations that are answered, and those that would change the folder.
-DONE = ("init", "destroy", "getattr", "readdir", "open", "read", "write", "truncate", "flush", "fsync", "release", "statfs", "access", "utimens")
+DONE = (
+    "init",
+    "destroy",
+    "getattr",
+    "readdir",
+    "open",
+    "read",
+    "write",
+    "truncate",
+    "flush",
+    "fsync",
+    "release",
+    "statfs",
+    "access",
+    "utimens",
+)
 REFUSED = ("chmod", "chown", "create", "mkdir", "unlink", "rmdir", "rename", "symlink", "link", "mknod")
-
-
-class Missing(ValueError):
-    """What mounts a folder is not installed."""
 
 
 def fuse_module():
     """The module fusepy, which Debian calls so and PyPI calls fuse."""
     if system.IS_WINDOWS:
-        raise Missing("mount needs FUSE, which Windows does not have: `wokureti serve` has the same frames for programs that open an address")
+        raise Failed(
+            "mount needs FUSE, which Windows does not have: `wokureti serve` has the same frames for programs that open"
+            " an address"
+        )
     for name in ("fusepy", "fuse"):
         try:
             found = __import__(name)
@@ -39,8 +54,12 @@ def fuse_module():
         # python3-fuse, another module, has the second name too.
         if hasattr(found, "FuseOSError"):
             return found
-    what = "macFUSE and fusepy (pip install fusepy)" if system.IS_MACOS else "python3-fusepy and fuse3 (or pip install fusepy)"
-    raise Missing(f"to mount a folder, install {what}, or use `wokureti serve`")
+    what = (
+        "macFUSE and fusepy (pip install fusepy)"
+        if system.IS_MACOS
+        else "python3-fusepy and fuse3 (or pip install fusepy)"
+    )
+    raise Failed(f"to mount a folder, install {what}, or use `wokureti serve`")
 
 
 class Open:
@@ -91,11 +110,28 @@ class Operations:
         name, (user, group) = path[1:], system.owner()
         if name in ("", FRAMES):
             when = self.folder.now().time
-            return {"st_mode": stat.S_IFDIR | 0o755, "st_nlink": 2, "st_mtime": when, "st_ctime": when, "st_atime": when, "st_uid": user, "st_gid": group}
+            return {
+                "st_mode": stat.S_IFDIR | 0o755,
+                "st_nlink": 2,
+                "st_mtime": when,
+                "st_ctime": when,
+                "st_atime": when,
+                "st_uid": user,
+                "st_gid": group,
+            }
         revision, file = self.folder.open(name)
         when = self.folder.failed if revision is None else revision.time
         mode = 0o644 if name == EDITS else 0o444
-        return {"st_mode": stat.S_IFREG | mode, "st_nlink": 1, "st_size": file.size, "st_mtime": when, "st_ctime": when, "st_atime": when, "st_uid": user, "st_gid": group}
+        return {
+            "st_mode": stat.S_IFREG | mode,
+            "st_nlink": 1,
+            "st_size": file.size,
+            "st_mtime": when,
+            "st_ctime": when,
+            "st_atime": when,
+            "st_uid": user,
+            "st_gid": group,
+        }
 
     def readdir(self, path, handle):
         return [".", "..", *(self.folder.names() if path == "/" else self.folder.pictures())]
@@ -133,7 +169,11 @@ class Operations:
             raise self.fail(errno.EACCES)
         with self.counting:
             # A file that is opened to be written anew is cut right after or before that, by its name.
-            writers = [found for found in self.opened.values() if found.text is not None] if handle is None else [self.opened[handle]]
+            writers = (
+                [found for found in self.opened.values() if found.text is not None]
+                if handle is None
+                else [self.opened[handle]]
+            )
         self.is_cut = not writers and length == 0
         for found in writers:
             found.text = found.text[:length] + bytes(max(0, length - len(found.text)))
@@ -176,7 +216,9 @@ def clear(folder):
 
 
 class Mount:
-    """A folder that a thread of its own mounts. In the main thread libfuse takes the signals over, and one that comes right before that ends the process."""
+    """A folder that a thread of its own mounts. In the main thread libfuse takes the signals over, and one that comes
+    right before that ends the process.
+    """
 
     def __init__(self, operations, mounts):
         self.operations, self.mounts, self.gone, self.error = operations, mounts, threading.Event(), None
@@ -208,17 +250,29 @@ class Mount:
 
 
 def run(live, folder, others=False, server=None):
-    """Mounts the folder until it is unmounted or the process is interrupted. `server` serves the same session meanwhile."""
+    """Mounts the folder until it is unmounted or the process is interrupted. `server` serves the same session
+    meanwhile.
+    """
     module = fuse_module()
     clear(folder)
     if not os.path.isdir(folder):
-        raise ValueError(f"{folder} is no folder: make it first")
+        raise ValueError(f"{folder} is not a folder: make it first")
     if os.listdir(folder):
         raise ValueError(f"{folder} is not empty: mount in an empty folder")
     options = {"allow_other": True} if others else {}
     mount = Mount(
         Operations(Folder(live), module),
-        lambda operations: module.FUSE(operations, folder, foreground=True, direct_io=True, attr_timeout=0, entry_timeout=0, auto_unmount=True, fsname="wokureti", **options),
+        lambda operations: module.FUSE(
+            operations,
+            folder,
+            foreground=True,
+            direct_io=True,
+            attr_timeout=0,
+            entry_timeout=0,
+            auto_unmount=True,
+            fsname="wokureti",
+            **options,
+        ),
     )
     try:
         if server is not None:

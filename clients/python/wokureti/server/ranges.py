@@ -2,11 +2,12 @@
 
 import re
 
-from .web import Refuse
+from ..errors import Refuse
 
 
 def parse_range(text, length):
-    """The first byte and the end of a Range header, or None if all bytes are to be sent: several ranges, or other units.
+    """The first byte and the end of a Range header, or None if all bytes are to be sent: several ranges, or other
+    units.
 
     `Refuse` with 416 if the range begins after the end.
     """

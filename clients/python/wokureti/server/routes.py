@@ -1,19 +1,19 @@
-"""The routes of `wokureti serve`: clients/README.md says what each of them answers."""
+"""The routes of `wokureti serve`: docs/reference/http.md says what each of them answers."""
 
 import hmac
 import json
 import re
 import time
 
-from . import ranges
-from ..tools import png
-from ..session.errors import Ended, Lost, Refused, sentence
+from ..errors import Dropped, Ended, Lost, Refuse, Refused, TooManyRuns, Unserved, sentence
+from ..base.lines import EDITS, first_word, is_edit
+from ..media import png
+from ..media.y4m import header_of
 from ..session.frames import frame_of
-from ..session.lines import EDITS, first_word, is_edit
-from ..session.outcomes import TooMany
 from ..session.session import Session
-from .virtual import ENDINGS, MODES, Cannot, Clip, header_of
-from .web import Dropped, Refuse, Response, as_json
+from . import ranges
+from .virtual import ENDINGS, MODES, Clip
+from .web import Response, as_json
 
 MOST_PACKETS = 10000
 NUMBER = re.compile("[0-9]{1,18}")
@@ -23,7 +23,9 @@ WORDS = ("undo", "redo", "save")
 
 
 class Routes:
-    """What is served of a stream, below a path that has the token; or another one, `reading`, with which nothing can be changed."""
+    """What is served of a stream, below a path that has the token; or another one, `reading`, with which nothing can be
+    changed.
+    """
 
     reading = None
 
@@ -42,7 +44,9 @@ class Routes:
     def check(self, request):
         """Refuses a request before its body is read."""
         given = request.parts[0].encode()
-        changes, reads = (token is not None and hmac.compare_digest(given, token.encode()) for token in (self.token, self.reading))
+        changes, reads = (
+            token is not None and hmac.compare_digest(given, token.encode()) for token in (self.token, self.reading)
+        )
         if not (changes or reads) or len(request.parts) < 2:
             raise Refuse(404, "there is nothing here")
         if request.method == "POST":
@@ -126,9 +130,9 @@ class Routes:
             raise Refuse(400, "refused is repeat or black")
         try:
             clip = Clip(self.live, mode)
-        except Cannot as cannot:
+        except Unserved as cannot:
             raise Refuse(409, f"frame {cannot.frame}: {cannot.reply}", frame=cannot.frame, reply=cannot.reply) from None
-        except TooMany:
+        except TooManyRuns:
             raise Refuse(409, "the script changes between frames of different kinds too often") from None
         headers = [("Accept-Ranges", "bytes"), ("ETag", clip.etag)]
         condition = request.headers.get("if-match")
@@ -145,7 +149,9 @@ class Routes:
         if found:
             headers.append(("Content-Range", f"bytes {start}-{end - 1}/{clip.length}"))
         status = 206 if found else 200
-        return Response(status, "video/x-yuv4mpeg", length=end - start, headers=headers, pieces=until_ended(clip.pieces(start, end)))
+        return Response(
+            status, "video/x-yuv4mpeg", length=end - start, headers=headers, pieces=until_ended(clip.pieces(start, end))
+        )
 
     def tag_of(self, revision):
         """The ETag of frames of a revision."""
@@ -166,7 +172,9 @@ class Routes:
         if kind == "i420":
             return Response(200, "application/octet-stream", bytes(samples), headers=headers)
         if kind == "y4m":
-            return Response(200, "video/x-yuv4mpeg", header_of((width, height), rate) + b"FRAME\n" + samples, headers=headers)
+            return Response(
+                200, "video/x-yuv4mpeg", header_of((width, height), rate) + b"FRAME\n" + samples, headers=headers
+            )
         matrix, full = request.query.get("matrix", "601"), request.query.get("full", "0")
         if matrix not in ("601", "709") or full not in ("0", "1"):
             raise Refuse(400, "matrix is 601 or 709, full is 0 or 1")
@@ -239,7 +247,9 @@ class Routes:
         return Response(200, "text/event-stream", length=None, pieces=pieces() if request.method == "GET" else iter(()))
 
     def beats(self, news=lambda: ((), None)):
-        """The revisions, the current one first, and what `news` has: it returns events, and the seconds until there may be more, or None."""
+        """The revisions, the current one first, and what `news` has: it returns events, and the seconds until there may
+        be more, or None.
+        """
         told, restarts, changes = None, len(self.live.events), self.live.changes
         said, patience = time.monotonic(), None
         while not self.server.ended:

@@ -8,7 +8,9 @@ from .. import system
 
 
 class Saved(NamedTuple):
-    """A file that was written, which file it is, and the packets that are in it, as numbers of the contents of this name."""
+    """A file that was written, which file it is, and the packets that are in it, as numbers of the contents of this
+    name.
+    """
 
     path: str
     identity: tuple
@@ -50,8 +52,9 @@ def identity(path):
 
 
 class Saves:
-    """What was saved of each source. Source 0 goes to the file `named`, if there is one, which is replaced. Otherwise a source goes to a new file
-    of its stem and ending, that no other program has, and only this file is replaced later."""
+    """What was saved of each source. Source 0 goes to the file `named`, if there is one, which is replaced. Otherwise a
+    source goes to a new file of its stem and ending, that no other program has, and only this file is replaced
+    later."""
 
     def __init__(self, named=None, stems=(), endings=()):
         self.named, self.stems = None if named is None else os.fspath(named), list(zip(stems, endings))
@@ -80,7 +83,9 @@ class Saves:
             if is_new:
                 os.unlink(path)
             state = "nothing was written" if is_new or not os.path.lexists(path) else "the file is as it was"
-            raise OSError(error.errno, f"{path}: {error.strerror or error}: not saved, and {state}; the edits are in their list") from None
+            raise OSError(
+                error.errno, f"{path}: {error.strerror or error}: not saved, and {state}; the edits are in their list"
+            ) from None
         except BaseException:
             if is_new:
                 os.unlink(path)

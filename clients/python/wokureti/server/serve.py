@@ -4,7 +4,8 @@ import secrets
 import sys
 import threading
 
-from ..tools import paces, waits
+from ..base import waits
+from ..tools import paces
 from .live import Live
 from .routes import Routes
 from .web import Server
@@ -12,6 +13,7 @@ from .web import Server
 
 def serve(live, port=0, out=None):
     """Serves a stream until the process is interrupted."""
+
     def announce(address, reading):
         # A player's command line, which other users of the machine see, has an address that only reads.
         print(f"{reading}clip.y4m\n{address}edits", file=out or sys.stdout, flush=True)
@@ -25,7 +27,9 @@ def opened(port):
 
 
 def serve_with(live, port, routes, announce, open_server=opened):
-    """Serves a stream with these routes until the process is interrupted. `announce` is called with the address, and the one that only reads."""
+    """Serves a stream with these routes until the process is interrupted. `announce` is called with the address, and
+    the one that only reads.
+    """
     server, token, reading = open_server(port)
     server.routes = routes(live, server, token)
     server.routes.reading = reading

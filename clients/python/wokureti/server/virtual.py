@@ -1,21 +1,24 @@
-"""The frames of a stream as one YUV4MPEG2 file that is never written: any range of its bytes is made of the frames that it touches."""
+"""The frames of a stream as one YUV4MPEG2 file that is never written: any range of its bytes is made of the frames that
+it touches.
+"""
 
 import queue
 import threading
 
+from ..errors import Changed, Lost, Refused, Unserved
+from ..media.y4m import MARK, header_of, size_of
 from ..tools import paces
-from ..session.errors import Lost, Refused
-from ..session.frames import MARK, size_of
-from .live import Changed
 
-# Frames that are asked for at a time, at most, and the bytes of those that are made for all readers together and not sent yet: a reader has
-# up to three groups of them.
+# Frames that are asked for at a time, at most, and the bytes of those that are made for all readers together and not
+# sent yet: a reader has up to three groups of them.
 AT_ONCE, MOST_BYTES = 8, 192 << 20
 MODES = ("repeat", "black")
 
 
 class Ahead:
-    """The bytes that may be made ahead for all readers together. A reader that gets none of them has one frame at a time."""
+    """The bytes that may be made ahead for all readers together. A reader that gets none of them has one frame at a
+    time.
+    """
 
     def __init__(self):
         self.taken, self.lock = 0, threading.Lock()
@@ -35,22 +38,9 @@ class Ahead:
 AHEAD = Ahead()
 
 
-class Cannot(Exception):
-    """The file cannot be served: the first frame that is refused, and its reply."""
-
-    def __init__(self, frame, reply):
-        super().__init__(reply)
-        self.frame, self.reply = frame, reply
-
-
-def header_of(size, rate):
-    """The first line of the text, as vp8serve writes it."""
-    return b"YUV4MPEG2 W%d H%d F%d:%d Ip C420jpeg\n" % (*size, *rate)
-
-
 class Clip:
-    """The file of one revision. `mode` says what is in the place of a frame that is refused: None, the file cannot be served; `repeat`, the
-    frame before it; `black`, a black frame; `error`, none: the other frames are served."""
+    """The file of one revision. `mode` says what is in the place of a frame that is refused: None, the file cannot be
+    served; `repeat`, the frame before it; `black`, a black frame; `error`, none: the other frames are served."""
 
     def __init__(self, live, mode=None):
         self.live, self.mode = live, mode
@@ -62,9 +52,9 @@ class Clip:
         size = self.outcomes.size
         refused = self.outcomes.first_refused()
         if refused is not None and (mode is None or size is None):
-            raise Cannot(*refused)
+            raise Unserved(*refused)
         if size is None:
-            raise Cannot(0, "refused NoSuchFrame")
+            raise Unserved(0, "refused NoSuchFrame")
         self.header = header_of(size, live.rate())
         self.samples = size_of(*size)
         self.frame_size = len(MARK) + self.samples
@@ -91,7 +81,7 @@ class Clip:
         if self.mode == "error" and None in sources:
             number = list(numbers)[sources.index(None)]
             number = number if self.order is None else self.order[number]
-            raise Cannot(number, self.outcomes.reply(self.outcomes.of_frame(number)))
+            raise Unserved(number, self.outcomes.reply(self.outcomes.of_frame(number)))
         return [self.black if source is None else found[source][2] for source in sources]
 
     def in_order(self, first, end):

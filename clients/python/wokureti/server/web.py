@@ -1,7 +1,8 @@
 """A small HTTP server for one person on one machine: requests are bounded in size, number and time.
 
-It answers on 127.0.0.1 alone. A request must name the address that was given out in its Host header, so a page of another site cannot reach it
-under a name of its own (DNS rebinding); and where a browser says in Origin which site a request comes from, it must be this one.
+It answers on 127.0.0.1 alone. A request must name the address that was given out in its Host header, so a page of
+another site cannot reach it under a name of its own (DNS rebinding); and where a browser says in Origin which site a
+request comes from, it must be this one.
 """
 
 import contextlib
@@ -14,12 +15,14 @@ import time
 import urllib.parse
 
 from .. import system
+from ..errors import Dropped, Refuse
 
 MOST_HEAD = 16 << 10
 MOST_BODY = 8 << 20
 # Connections whose last request had the token, and those that have not sent one yet.
 MOST_CONNECTIONS, MOST_STRANGERS = 64, 64
-# Seconds: for the head and the body of a request; for a connection without a request; for a client that takes nothing of a response.
+# Seconds: for the head and the body of a request; for a connection without a request; for a client that takes nothing
+# of a response.
 READ_TIME, IDLE_TIME, WRITE_TIME = 10, 30, 600
 # A connection with the token that made no progress for so long makes room for another one.
 STALLED = 5
@@ -34,25 +37,14 @@ SAFE = (
 )
 REASONS = {
     200: "OK", 206: "Partial Content", 304: "Not Modified", 400: "Bad Request", 403: "Forbidden", 404: "Not Found",
-    405: "Method Not Allowed", 409: "Conflict", 411: "Length Required", 412: "Precondition Failed", 413: "Content Too Large",
+    405: "Method Not Allowed", 409: "Conflict", 411: "Length Required",
+    412: "Precondition Failed", 413: "Content Too Large",
     414: "URI Too Long", 415: "Unsupported Media Type", 416: "Range Not Satisfiable", 421: "Misdirected Request",
-    431: "Request Header Fields Too Large", 500: "Internal Server Error", 501: "Not Implemented", 503: "Service Unavailable",
+    431: "Request Header Fields Too Large", 500: "Internal Server Error", 501: "Not Implemented",
+    503: "Service Unavailable",
     505: "HTTP Version Not Supported",
 }  # fmt: skip
 TOKEN = re.compile(rb"[!#$%&'*+.^_`|~0-9A-Za-z-]+")
-
-
-class Refuse(Exception):
-    """A request is answered with this status and a text; the connection then ends."""
-
-    def __init__(self, status, text, **more):
-        super().__init__(text)
-        self.status = status
-        self.members = {"error": text, **more}
-
-
-class Dropped(Exception):
-    """The client is gone, or too slow."""
 
 
 class Response:
@@ -75,7 +67,9 @@ def as_text(refuse):
 
 def is_opened(request):
     """Whether a browser opens the request as a page."""
-    return request.headers.get("sec-fetch-dest") == "document" or request.headers.get("accept", "").startswith("text/html")
+    return request.headers.get("sec-fetch-dest") == "document" or request.headers.get("accept", "").startswith(
+        "text/html"
+    )
 
 
 class Request:
@@ -198,8 +192,9 @@ class Connection:
         if not re.fullmatch("[0-9]{1,18}", text):
             raise Refuse(400, "Content-Length is not a number")
         length = int(text)
-        if length > MOST_BODY:
-            raise Refuse(413, f"a body has at most {MOST_BODY} bytes")
+        most = getattr(self.server.routes, "most_body", MOST_BODY)
+        if length > most:
+            raise Refuse(413, f"a body has at most {most} bytes")
         # What must not be answered is refused before its body is read.
         request = self.asked = Request(method, target, version, headers)
         self.server.check(request)
@@ -220,7 +215,11 @@ class Connection:
             request.is_gone = self.is_gone
             response = self.server.answer(request)
         except Refuse as refuse:
-            response = as_text(refuse) if self.asked is not None and is_opened(self.asked) else as_json(refuse.members, refuse.status)
+            response = (
+                as_text(refuse)
+                if self.asked is not None and is_opened(self.asked)
+                else as_json(refuse.members, refuse.status)
+            )
             keeps = False
         else:
             keeps = request.keeps
@@ -283,7 +282,9 @@ class Connection:
 
 
 class Server:
-    """Listens on a port of 127.0.0.1. `routes` has check(request), which raises `Refuse`, and answer(request), which returns a `Response`."""
+    """Listens on a port of 127.0.0.1. `routes` has check(request), which raises `Refuse`, and answer(request), which
+    returns a `Response`.
+    """
 
     def __init__(self, port=0):
         self.listener = socket.create_server(("127.0.0.1", port), backlog=128)
@@ -297,11 +298,19 @@ class Server:
     def check(self, request):
         """Refuses what is not from this machine's own client."""
         if request.headers.get("host") != self.host:
-            raise Refuse(421, f"this address is not {self.origin}/, where the server is: open that. With ssh, forward the same port, and open that: ssh -L {self.port}:{self.host} MACHINE")
+            raise Refuse(
+                421,
+                (
+                    f"this address is not {self.origin}/, where the server is: open that. With ssh, forward the same"
+                    f" port, and open that: ssh -L {self.port}:{self.host} MACHINE"
+                ),
+            )
         origin = request.headers.get("origin")
         if origin is not None and origin != self.origin:
             raise Refuse(403, "the request comes from another site")
-        if request.headers.get("sec-fetch-site", "none") not in ("same-origin", "none") and not self.routes.is_entry(request):
+        if request.headers.get("sec-fetch-site", "none") not in ("same-origin", "none") and not self.routes.is_entry(
+            request
+        ):
             raise Refuse(403, "the request comes from another site")
         self.routes.check(request)
 
@@ -314,8 +323,8 @@ class Server:
             self.strangers.pop(connection, None)
 
     def meet(self, connection):
-        """Takes a connection that has not sent a token yet. If there are too many of these, the oldest one goes: it is no client of ours, which
-        sends its first request at once."""
+        """Takes a connection that has not sent a token yet. If there are too many of these, the oldest one goes: it is
+        no client of ours, which sends its first request at once."""
         oldest = None
         with self.lock:
             if len(self.strangers) >= MOST_STRANGERS:
@@ -326,7 +335,9 @@ class Server:
             oldest.shut()
 
     def admit(self, connection):
-        """Gives a connection whose request has the token a place. If there is none, the one that is stalled for the longest time goes."""
+        """Gives a connection whose request has the token a place. If there is none, the one that is stalled for the
+        longest time goes.
+        """
         stalled = None
         with self.lock:
             if connection in self.connections:

@@ -1,5 +1,6 @@
-"""Which packet of which file each packet of a session is now. No question of the session says that, nor how long a packet is shown, so edits are followed
-here as far as these need it; all else of a packet is what the session answers."""
+"""Which packet of which file each packet of a session is now. No question of the session says that, nor how long a
+packet is shown, so edits are followed here as far as these need it; all else of a packet is what the session
+answers."""
 
 import bisect
 import contextlib
@@ -12,13 +13,14 @@ import tempfile
 from array import array
 from typing import NamedTuple
 
-from . import checks
 from .. import system
-from ..tools import excerpts, files, ivf, muxing, runs, times
+from ..base import checks, files
+from ..base.lines import LOSING, first_word, rest_of, spaced, words_of
+from ..base.progress import say
+from ..media import excerpts, ivf, muxing, times
+from . import runs
 from .inputs import is_input
-from .lines import LOSING, first_word, rest_of, spaced, words_of
 from .listing import Listing
-from ..tools.progress import say
 
 # Packets that are read together, and those that are asked for together, at most.
 MOST_TOGETHER, MOST_ASKED = 1 << 16, 256
@@ -29,8 +31,10 @@ NOTHING = {"insert": "0 -", "replace": "-"}
 
 
 class Operation(NamedTuple):
-    """A change of the packets of a source that was made, or that takes one back: a request line without what it inserts. `packet` is the number of the packet
-    that is inserted, and `text` what the line has of it: its time stamp and its bytes, or a script. Of a packet of a file it is empty until it is needed."""
+    """A change of the packets of a source that was made, or that takes one back: a request line without what it
+    inserts. `packet` is the number of the packet that is inserted, and `text` what the line has of it: its time stamp
+    and its bytes, or a script. Of a packet of a file it is empty until it is needed.
+    """
 
     word: str
     numbers: tuple
@@ -62,7 +66,9 @@ class Plan(NamedTuple):
 
 
 class Made(NamedTuple):
-    """A packet that an edit made: the number of the packet whose time it has, or None; the source that it was made in; and whether it was forged."""
+    """A packet that an edit made: the number of the packet whose time it has, or None; the source that it was made in;
+    and whether it was forged.
+    """
 
     timed: object
     source: int
@@ -86,7 +92,9 @@ def packet_of(text):
 
 
 class Kept:
-    """The records of packets of files, in a file without a name: those that follow each other are one part of it, which has the place of each record and its end."""
+    """The records of packets of files, in a file without a name: those that follow each other are one part of it, which
+    has the place of each record and its end.
+    """
 
     def __init__(self, contents):
         self.contents, self.file, self.firsts, self.parts = contents, None, [], []
@@ -106,7 +114,10 @@ class Kept:
                     place = bisect.bisect(self.firsts, first)
                     sizes = item.index.sizes[index : index + stop - first]
                     self.firsts.insert(place, first)
-                    self.parts.insert(place, array("Q", itertools.accumulate((ivf.RECORD.size + size for size in sizes), initial=start)))
+                    self.parts.insert(
+                        place,
+                        array("Q", itertools.accumulate((ivf.RECORD.size + size for size in sizes), initial=start)),
+                    )
                 first = stop
 
     def place(self, number):
@@ -124,7 +135,9 @@ class Kept:
 
 
 def parts_of(numbers):
-    """Numbers in ascending order as ranges of those that follow each other: the first one, and the one after the last."""
+    """Numbers in ascending order as ranges of those that follow each other: the first one, and the one after the
+    last.
+    """
     first = end = None
     for number in numbers:
         if number != end:
@@ -139,8 +152,9 @@ def parts_of(numbers):
 class Contents:
     """The packets of all sources.
 
-    Each packet has a number: those of the files first, then each one that an edit made, a copy too. A stream is a list of such numbers, so an edit moves
-    numbers, and a number is in one stream at most, once: it says which packet is meant, wherever that is now. The bytes of a number stay the same.
+    Each packet has a number: those of the files first, then each one that an edit made, a copy too. A stream is a list
+    of such numbers, so an edit moves numbers, and a number is in one stream at most, once: it says which packet is
+    meant, wherever that is now. The bytes of a number stay the same.
     """
 
     def __init__(self, session, edits_path):
@@ -161,7 +175,8 @@ class Contents:
         # The bytes of packets of files that edits took away: a file may be overwritten before they are wanted again.
         self.kept = Kept(self)
         self.stamped = (None, None, None)
-        # Whether a packet that an edit took away was inserted again: the engine then takes its duration for that of a new packet.
+        # Whether a packet that an edit took away was inserted again: the engine then takes its duration for that of a
+        # new packet.
         self.has_inserted_again = False
         self.listing = Listing(self)
 
@@ -184,7 +199,9 @@ class Contents:
         return self.perform(Operation(word, tuple(map(int, rest))))
 
     def apply_all(self, lines):
-        """Makes accepted edits, and returns what takes each of them back. Packets that are deleted one after the other go together."""
+        """Makes accepted edits, and returns what takes each of them back. Packets that are deleted one after the other
+        go together.
+        """
         found = []
         for line, group in itertools.groupby(lines):
             count = len(list(group))
@@ -201,7 +218,9 @@ class Contents:
         return found
 
     def perform_all(self, operations):
-        """Makes changes, and returns what takes each of them back. Packets that are inserted at one index go in together: the last one comes first."""
+        """Makes changes, and returns what takes each of them back. Packets that are inserted at one index go in
+        together: the last one comes first.
+        """
         found = []
         for (word, numbers), group in itertools.groupby(operations, lambda operation: operation[:2]):
             group = list(group)
@@ -236,7 +255,9 @@ class Contents:
         return Operation("replace", (at,), before)
 
     def whole_by(self, inverse, lost):
-        """What takes an edit back, with what the edit lost, if that was asked for. A packet that an edit made is in no file."""
+        """What takes an edit back, with what the edit lost, if that was asked for. A packet that an edit made is in no
+        file.
+        """
         if not lost:
             return inverse
         if inverse.packet is not None and inverse.packet >= self.of_files:
@@ -253,7 +274,7 @@ class Contents:
         return number >= self.of_files and self.made[number - self.of_files].is_forged
 
     @property
-    def script(self):
+    def script(self) -> str:
         """The current script."""
         return spaced(rest_of(self.session.ask("script")))
 
@@ -266,17 +287,25 @@ class Contents:
         """Whether the packet that an edit takes away is one of a file, so that it need not be asked for."""
         word, *rest = words_of(line)
         try:
-            return word in LOSING and self.streams[self.current][int(rest[0])] < self.of_files and not self.is_overwritten()
+            return (
+                word in LOSING
+                and self.streams[self.current][int(rest[0])] < self.of_files
+                and not self.is_overwritten()
+            )
         except (IndexError, ValueError):
             # It is refused.
             return False
 
     def planned(self, lines):
-        """Follows edits that are about to be made: a `Plan`. None if one will be refused, or if they reach packets that edits made: if one is refused, others may
-        take these away where packets of a file were thought to be."""
+        """Follows edits that are about to be made: a `Plan`. None if one will be refused, or if they reach packets that
+        edits made: if one is refused, others may take these away where packets of a file were thought to be."""
         after = copy.copy(self)
         try:
-            if len(lines) > 1 and self.made and any(max(stream, default=0) >= self.of_files for stream in self.reach(lines)):
+            if (
+                len(lines) > 1
+                and self.made
+                and any(max(stream, default=0) >= self.of_files for stream in self.reach(lines))
+            ):
                 return None
             after.streams, after.made = [array("I", stream) for stream in self.streams], list(self.made)
             return Plan(after, after.apply_all(lines))
@@ -296,10 +325,12 @@ class Contents:
         return [self.streams[self.current][min(places) : max(places) + len(places)]]
 
     def has_whole(self, operation, new=None):
-        """Whether what an operation inserts is known. It does not matter of a packet whose number is `new` or a later one: a step that made it and took it away
-        is taken back, so that it goes again."""
+        """Whether what an operation inserts is known. It does not matter of a packet whose number is `new` or a later
+        one: a step that made it and took it away is taken back, so that it goes again."""
         packet = operation.packet
-        return not operation.is_lost or (packet is not None and (packet < self.of_files or (new is not None and packet >= new)))
+        return not operation.is_lost or (
+            packet is not None and (packet < self.of_files or (new is not None and packet >= new))
+        )
 
     def whole(self, operation):
         """An operation with what it inserts."""
@@ -315,18 +346,22 @@ class Contents:
 
     def where(self, number):
         """The file and the index of a packet of a file."""
-        source = max(place for place, base in enumerate(self.bases) if base <= number and len(self.inputs.all[place].index))
+        source = max(
+            place for place, base in enumerate(self.bases) if base <= number and len(self.inputs.all[place].index)
+        )
         return self.inputs.all[source], number - self.bases[source]
 
     def timed(self, number):
-        """The packet of a file that a packet has its time from: itself, or the one that it was copied from or is in the place of; else None."""
+        """The packet of a file that a packet has its time from: itself, or the one that it was copied from or is in the
+        place of; else None.
+        """
         while number is not None and number >= self.of_files:
             number = self.made[number - self.of_files].timed
         return number
 
     def lasting(self, number):
-        """How long a packet is shown, and the file in whose time base that is: as in its file; for one that has no time the median step of the source that it was
-        made in."""
+        """How long a packet is shown, and the file in whose time base that is: as in its file; for one that has no time
+        the median step of the source that it was made in."""
         made_in = None
         while number is not None and number >= self.of_files:
             number, made_in, _ = self.made[number - self.of_files]
@@ -343,13 +378,19 @@ class Contents:
         return array("Q", (self.duration(number, source) for number in stream))
 
     def stamps(self, source, stream):
-        """New time stamps for packets in the order of a source, and the end of the last one. They are kept for what is asked next of the same packets."""
+        """New time stamps for packets in the order of a source, and the end of the last one. They are kept for what is
+        asked next of the same packets.
+        """
         known = self.stamped
         if known[:2] != (source, stream):
             self.listing.learn()
             lasting = ((number, *self.lasting(number)) for number in stream)
             packets = ((self.is_shown(number), ticks, times.base_of(item.head)) for number, ticks, item in lasting)
-            known = self.stamped = (source, array("I", stream), times.stamps_of(packets, times.base_of(self.inputs.all[source].head)))
+            known = self.stamped = (
+                source,
+                array("I", stream),
+                times.stamps_of(packets, times.base_of(self.inputs.all[source].head)),
+            )
         return known[2]
 
     # Facts
@@ -386,7 +427,9 @@ class Contents:
         return next(self.data([number]))
 
     def data(self, numbers):
-        """The bytes of packets, one after the other. Those of a file are read from it, the others are asked for together."""
+        """The bytes of packets, one after the other. Those of a file are read from it, the others are asked for
+        together.
+        """
         place = 0
         while place < len(numbers):
             if numbers[place] < self.of_files:
@@ -433,11 +476,24 @@ class Contents:
             return [packet_of(found[number] or self.lost[number]) for number in numbers]
 
     def places(self, numbers):
-        """Where packets are: for each of the numbers the source and the index. Those that edits took away are left out."""
+        """Where packets are: for each of the numbers the source and the index. Those that edits took away are left
+        out.
+        """
         if len(numbers) == 1:
             [number] = numbers
-            return {number: (source, stream.index(number)) for source, stream in enumerate(self.streams) if number in stream}
-        return {number: (source, index) for source, stream in enumerate(self.streams) for index, number in enumerate(stream) if number in numbers} if numbers else {}
+            return {
+                number: (source, stream.index(number)) for source, stream in enumerate(self.streams) if number in stream
+            }
+        return (
+            {
+                number: (source, index)
+                for source, stream in enumerate(self.streams)
+                for index, number in enumerate(stream)
+                if number in numbers
+            }
+            if numbers
+            else {}
+        )
 
     def is_edited(self, source, stream):
         """Whether the packets of a source are others than those of its file."""
@@ -460,8 +516,8 @@ class Contents:
 
     @property
     def rate(self):
-        """Rate and scale of the frames that are served: those of the container that source 0 was in; else those of its header, whose time base may be
-        finer than a frame, over the step of its time stamps."""
+        """Rate and scale of the frames that are served: those of the container that source 0 was in; else those of its
+        header, whose time base may be finer than a frame, over the step of its time stamps."""
         media = self.inputs.all[0].media
         if media is not None and media.rate is not None:
             return media.rate
@@ -470,7 +526,9 @@ class Contents:
     def shown_kinds(self, source):
         """For each shown packet of a source its kind, `key` or `inter`."""
         self.listing.learn()
-        return ["key" if self.has_key_tag(number) else "inter" for number in self.streams[source] if self.is_shown(number)]
+        return [
+            "key" if self.has_key_tag(number) else "inter" for number in self.streams[source] if self.is_shown(number)
+        ]
 
     def pieces(self, source=0):
         """The text of an IVF file of the packets of a source, piece by piece."""
@@ -522,13 +580,22 @@ class Contents:
             raise ValueError(f"{path!r} is the list of the edits: name another file")
 
     def save(self, path, pad=False, source=0, restamp=False, sound=None, say=say):
-        """Writes the packets of a source as an IVF file; with `restamp` with new time stamps. A file .webm or .mkv always has these, and the sound."""
+        """Writes the packets of a source as an IVF file; with `restamp` with new time stamps. A file .webm or .mkv
+        always has these, and the sound.
+        """
         self.check_output(path)
         source = self.source(source)
         is_container = muxing.ending_of(path) is not None
         pieces = self.restamped(source) if restamp or is_container else self.pieces(source)
         pieces = runs.padded(self.program, pieces) if pad else pieces
         if is_container:
-            excerpts.save(path, pieces, self.inputs.all[source], excerpts.of_numbers(self, self.streams[source], source), sound, say)
+            excerpts.save(
+                path,
+                pieces,
+                self.inputs.all[source],
+                excerpts.of_numbers(self, self.streams[source], source),
+                sound,
+                say,
+            )
         else:
             files.write_whole(path, pieces)

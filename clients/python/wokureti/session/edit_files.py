@@ -1,9 +1,14 @@
-"""The file of a list of edits: locked, so that one session has it at a time, and compared with what is at its path before each write."""
+"""The file of a list of edits: locked, so that one session has it at a time, and compared with what is at its path
+before each write.
+"""
+
+from __future__ import annotations
 
 import errno
 import os
 import stat
 import time
+from typing import Optional, Union
 
 from .. import system
 
@@ -13,24 +18,10 @@ LOCK_TIME = 1
 MOST_NAMES = 10000
 
 
-class NotWritten(OSError):
-    """Edits that were made, and are not in the file of the list. They are kept, and written with the next one."""
-
-    def __init__(self, error, path, count, written, why=None):
-        edits = "the last edit is" if count == 1 else f"the last {count} edits are"
-        safe = "no edit is in it" if written == 0 else "the edit before it is safe" if written == 1 else f"the {written} edits before are safe in it"
-        text = f"{why or path}: {os.strerror(error.errno) if error.errno else error}: {edits} made but not on the disk; {safe}. Make room: the next edit writes all"
-        super().__init__(error.errno, text)
-        self.text = text
-
-    def __str__(self):
-        return self.text
-
-
 class EditFile:
     """The file of a list."""
 
-    def __init__(self, path, is_fresh=False):
+    def __init__(self, path: Union[str, "os.PathLike[str]"], is_fresh: bool = False) -> None:
         self.path = os.fspath(path)
         self.descriptor, self.is_new = open_locked(self.path, is_fresh)
         if self.is_new:
@@ -40,7 +31,7 @@ class EditFile:
         self.known = signature(os.fstat(self.descriptor))
 
     @classmethod
-    def beside(cls, path):
+    def beside(cls, path: str) -> EditFile:
         """A new file of this name if there is none any more, else with a number after it."""
         for number in range(MOST_NAMES):
             try:
@@ -52,7 +43,7 @@ class EditFile:
                 continue
         raise FileExistsError(errno.EEXIST, "there are too many lists of this name")
 
-    def change(self):
+    def change(self) -> Optional[str]:
         """What somebody else did to the file, or None."""
         try:
             there = os.stat(self.path)
@@ -64,11 +55,11 @@ class EditFile:
             return "was replaced by another file"
         return None if signature(there) == self.known else "was changed by another program"
 
-    def text(self):
+    def text(self) -> str:
         """What is in the file."""
         return system.pread_all(self.descriptor, self.size, 0).decode()
 
-    def write(self, data, at):
+    def write(self, data: bytes, at: int) -> None:
         """Writes bytes at a place, where the file then ends. If that fails, the file ends at the place."""
         os.ftruncate(self.descriptor, at)
         self.size = at
@@ -85,7 +76,7 @@ class EditFile:
             self.known = signature(os.fstat(self.descriptor))
         self.size = at
 
-    def close(self):
+    def close(self) -> None:
         """A file that was made here goes if it has nothing, as long as it is locked: nobody else has it then."""
         if self.is_new and not self.size and self.change() is None:
             system.remove_and_close(self.path, self.descriptor)
@@ -93,11 +84,11 @@ class EditFile:
             os.close(self.descriptor)
 
 
-def signature(found):
+def signature(found: os.stat_result) -> tuple[int, int, int, int]:
     return found.st_dev, found.st_ino, found.st_size, found.st_mtime_ns
 
 
-def open_locked(path, is_fresh):
+def open_locked(path: str, is_fresh: bool) -> tuple[int, bool]:
     """The descriptor of a file, locked, and whether the file was made here. `ValueError` if another session has it."""
     while True:
         descriptor, is_new = open_or_make(path, is_fresh)
@@ -117,7 +108,7 @@ def open_locked(path, is_fresh):
         os.close(descriptor)
 
 
-def open_or_make(path, is_fresh):
+def open_or_make(path: str, is_fresh: bool) -> tuple[int, bool]:
     flags = os.O_RDWR | os.O_CREAT | system.BINARY
     try:
         # What somebody edits is for them alone.
@@ -128,14 +119,14 @@ def open_or_make(path, is_fresh):
     return os.open(path, flags, 0o600), False
 
 
-def is_at(path, descriptor):
+def is_at(path: str, descriptor: int) -> bool:
     try:
         return os.path.samestat(os.stat(path), os.fstat(descriptor))
     except FileNotFoundError:
         return False
 
 
-def lock(descriptor):
+def lock(descriptor: int) -> None:
     """A process that another thread starts has the files of this one for a moment, so the lock is tried for a while."""
     limit = time.monotonic() + LOCK_TIME
     while True:

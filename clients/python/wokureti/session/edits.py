@@ -1,8 +1,10 @@
-"""The list of the accepted edits of a session: `vp8serve IN LIST` runs it, and it is all that there is to save of an edit.
+"""The list of the accepted edits of a session: `vp8serve IN LIST` runs it, and it is all that there is to save of an
+edit.
 
-A line of the list is a request line, as in docs/requests.md: `delete 3`, `use 1`, `script trim 0 0 50`. If the list has a file, each edit
-is in it before the call that made it returns. Comments and empty lines of the file are left where they are. Two comments are read: the first
-line says which stream the list is of, and `# step 3 Repair all` that the next three edits are one step for `undo`.
+A line of the list is a request line, as in docs/reference/requests.md: `delete 3`, `use 1`, `script trim 0 0 50`. If
+the list has a file, each edit is in it before the call that made it returns. Comments and empty lines of the file are
+left where they are. Two comments are read: the first line says which stream the list is of, and `# step 3 Repair all`
+that the next three edits are one step for `undo`.
 """
 
 from __future__ import annotations
@@ -13,48 +15,57 @@ import os
 import re
 import warnings
 from itertools import accumulate
-from typing import Callable, Iterable, Iterator, Optional, Union
+from typing import TYPE_CHECKING, Callable, Iterable, Iterator, Optional, Sequence, Tuple, Union
 
+from ..errors import NotWritten, OtherStream, Refused, sentence
+from ..base.checks import AnyPath
+from ..base.files import write_whole
+from ..base.lines import first_word, is_edit, lines_in, plain, question_before, rest_of, words_of
 from . import named
-from .contents import Contents
-from .edit_files import EditFile, NotWritten
-from .errors import OtherStream, Refused, sentence
-from ..tools.files import write_whole
-from .lines import first_word, is_edit, lines_in, plain, question_before, rest_of, words_of
+from .contents import Contents, Operation, Plan
+from .edit_files import EditFile
+
+if TYPE_CHECKING:
+    from .session import Session
 
 STEP = re.compile(r"# step (\d{1,9})(?: (.*))?")
 STREAM = re.compile(r"# wokureti: edits of (\d+) packets, (\d+) bytes, sha256 ([0-9a-f]{64})")
+# The reply to an edit, which may be a refusal, and what the edit lost.
+Answered = Tuple[Union[str, Refused], str]
 # Characters of the title of a step.
 MOST_TITLE = 100
 
 
 class Entry:
-    """An edit: its line, the lines of the file before it, the step that it belongs to, what it lost, and what takes it back, once that is known.
-    The first edit of a step has its title."""
+    """An edit: its line, the lines of the file before it, the step that it belongs to, what it lost, and what takes it
+    back, once that is known. The first edit of a step has its title."""
 
-    def __init__(self, line, step, before="", title="", lost=""):
+    def __init__(self, line: str, step: int, before: str = "", title: str = "", lost: str = "") -> None:
         self.line = line
         self.step = step
         self.before = before
         self.title = title
         self.lost = lost
-        self.inverse = None
+        self.inverse: Optional[Operation] = None
         # The sources that the comments before it name.
-        self.sources = ()
+        self.sources: tuple[int, ...] = ()
 
     @property
-    def text(self):
+    def text(self) -> str:
         return f"{self.before}{self.line}\n"
 
     @property
-    def is_use(self):
+    def is_use(self) -> bool:
         return first_word(self.line) == "use"
 
 
-def parsed(text, step=0):
-    """The edits of the text of a list as entries, the number of the line of each, and the lines after the last one. Steps are numbered from
-    `step` + 1 on."""
-    entries, numbers, before, left, title, sources = [], [], "", 0, "", []
+def parsed(text: str, step: int = 0) -> tuple[list[Entry], list[int], str]:
+    """The edits of the text of a list as entries, the number of the line of each, and the lines after the last one.
+    Steps are numbered from `step` + 1 on."""
+    entries: list[Entry] = []
+    numbers: list[int] = []
+    sources: list[int] = []
+    before, left, title = "", 0, ""
     for number, line in enumerate(lines_in(text), 1):
         if not is_edit(line):
             before += f"{line}\n"
@@ -77,27 +88,29 @@ def parsed(text, step=0):
 class EditList:
     """The accepted edits of a session, in their order."""
 
-    def __init__(self, session, path=None, anyway=False):
+    def __init__(self, session: Session, path: Optional[AnyPath] = None, anyway: bool = False) -> None:
         self._session = session
         self._anyway = anyway
-        self._entries = []
-        self._undone = []
+        self._entries: list[Entry] = []
+        self._undone: list[list[Entry]] = []
         self._after = ""
-        self._contents = None
+        self._contents: Optional[Contents] = None
         self._step = 0
         self._depth = 0
         # How many entries the file has, and where each of them ends in it.
-        self._ends = []
+        self._ends: list[int] = []
         # The file that was named, the one that has the edits, and what is known of it once it is closed.
-        self._named, self._path, self._known = None, None, None
-        self._file = None
+        self._named: Optional[str] = None
+        self._path: Optional[str] = None
+        self._known: Optional[tuple[int, int, int, int]] = None
+        self._file: Optional[EditFile] = None
         # Called with a sentence if the file is another one than was thought; without it that is a warning.
         self.on_notice: Optional[Callable[[str], None]] = None
         if path is not None:
             self._use(EditFile(path))
             self._named = self._path
 
-    def _use(self, file):
+    def _use(self, file: EditFile) -> None:
         self._file, self._path = file, file.path
         if self._contents is not None:
             self._contents.edits_path = file.path
@@ -109,7 +122,7 @@ class EditList:
         return len(self._entries)
 
     @property
-    def entries(self):
+    def entries(self) -> list[Entry]:
         """The edits, with their steps: those of one step are taken back together."""
         return self._entries
 
@@ -136,7 +149,7 @@ class EditList:
         """The lines that `redo` makes again, the next one first."""
         return [entry.line for group in reversed(self._undone) for entry in group]
 
-    def close(self):
+    def close(self) -> None:
         """The file stays as it is, unless somebody replaced it, or edits are not in it yet."""
         if self._file is None:
             return
@@ -149,20 +162,23 @@ class EditList:
         self._known = file.known
         file.close()
 
-    def _say(self, text):
+    def _say(self, text: str) -> None:
         if self.on_notice is not None:
             self.on_notice(text)
         else:
             warnings.warn(text, RuntimeWarning, stacklevel=3)
 
-    def load(self):
+    def load(self) -> None:
         """Makes the edits of the file."""
         if self._file is None:
             return
         text = self._file.text()
         if text and not text.endswith("\n"):
             last = lines_in(text)[-1]
-            raise ValueError(f"{self.path}: the last line has no newline, so it may be cut off: {last[:80]!r}. End the line, or delete it")
+            raise ValueError(
+                f"{self.path}: the last line has no newline, so it may be cut off: {last[:80]!r}. End the line, or"
+                " delete it"
+            )
         entries, numbers, after = self._parsed(text, self.path)
         plan = self._replay(entries, self.path, numbers)
         self._entries, self._after = entries, after
@@ -175,16 +191,25 @@ class EditList:
             self._ends.append(place)
 
     def run(self, path: Union[str, bytes, os.PathLike[str], os.PathLike[bytes]]) -> None:
-        """Makes the edits of a list, which is only read. `ValueError` if one is refused: those that were made by then are in this list."""
+        """Makes the edits of a list, which is only read. `ValueError` if one is refused: those that were made by then
+        are in this list.
+        """
         with open(path, encoding="utf-8") as file:
             text = file.read()
         entries, numbers, _ = self._parsed(text, path)
         with self._session.turn():
             replies, plan = self._send([entry.line for entry in entries])
-            self.accept([(entry.line, lost) for entry, (reply, lost) in zip(entries, replies) if not isinstance(reply, Refused)], plan)
+            self.accept(
+                [
+                    (entry.line, lost)
+                    for entry, (reply, lost) in zip(entries, replies)
+                    if not isinstance(reply, Refused)
+                ],
+                plan,
+            )
             check(entries, path, numbers, replies)
 
-    def _parsed(self, text, path):
+    def _parsed(self, text: str, path: str) -> tuple[list[Entry], list[int], str]:
         """The entries of a list, which must be of this stream."""
         found = STREAM.fullmatch(text.split("\n", 1)[0].removesuffix("\r"))
         if found and not self._anyway:
@@ -196,7 +221,7 @@ class EditList:
             self._check_sources(text, path)
         return parsed(text, self._step)
 
-    def _check_sources(self, text, path):
+    def _check_sources(self, text: str, path: str) -> None:
         """The sources that a list names must be those of the session, as far as it has them."""
         for one in {one.number: one for one in map(named.of_line, lines_in(text)) if one is not None}.values():
             if not 1 <= one.number < len(self._session._inputs.all):
@@ -205,15 +230,17 @@ class EditList:
             if (one.packets, one.size) != item.extent() or one.digest != item.digest():
                 raise OtherStream(path, (one.packets, one.size), item.extent(), one.number, one.path)
 
-    def _replay(self, entries, path, numbers):
+    def _replay(self, entries: list[Entry], path: str, numbers: Iterable[int]) -> Optional[Plan]:
         replies, plan = self._send([entry.line for entry in entries])
         check(entries, path, numbers, replies)
         for entry, (_, lost) in zip(entries, replies):
             entry.lost = lost
         return plan
 
-    def resume(self, other):
-        """Goes on with the list of a session that ended: with its edits, those too that its file does not have, and with what was undone."""
+    def resume(self, other: EditList) -> None:
+        """Goes on with the list of a session that ended: with its edits, those too that its file does not have, and
+        with what was undone.
+        """
         plan = self._replay(other._entries, other.path or "the list of edits", range(1, len(other._entries) + 1))
         self._entries, self._undone, self._after, self._step = other._entries, other._undone, other._after, other._step
         for entry in self._entries:
@@ -233,7 +260,7 @@ class EditList:
         except OSError as error:
             self._say(sentence(error))
 
-    def contents(self):
+    def contents(self) -> Contents:
         """Which packets there are after the edits, which is found when it is needed first."""
         if self._contents is None:
             contents = Contents(self._session, self.path)
@@ -242,14 +269,20 @@ class EditList:
         return self._contents
 
     @staticmethod
-    def _know(contents, entries, plan=None):
-        """Follows accepted edits in the contents, if these were needed before, and finds what takes each of them back."""
+    def _know(contents: Optional[Contents], entries: Sequence[Entry], plan: Optional[Plan] = None) -> None:
+        """Follows accepted edits in the contents, if these were needed before, and finds what takes each of them
+        back.
+        """
         if contents is None:
             return
         inverses = contents.apply_all([entry.line for entry in entries]) if plan is None else contents.adopt(plan)
         for entry, inverse in zip(entries, inverses):
             entry.inverse = contents.whole_by(inverse, entry.lost)
-        contents.kept.add(entry.inverse.packet for entry in entries if entry.inverse.is_lost and entry.inverse.packet is not None and entry.inverse.packet < contents.of_files)
+        contents.kept.add(
+            entry.inverse.packet
+            for entry in entries
+            if entry.inverse.is_lost and entry.inverse.packet is not None and entry.inverse.packet < contents.of_files
+        )
 
     @property
     def current(self) -> int:
@@ -258,9 +291,12 @@ class EditList:
             return self._contents.current
         return next((int(words_of(entry.line)[1]) for entry in reversed(self._entries) if entry.is_use), 0)
 
-    def _send(self, lines, timeout=None, progress=None):
-        """Sends edits, each after the question what it loses. For each that was sent the reply, which may be a refusal, and what was lost; and the plan that was
-        made of them, if none was refused. `progress` is called with how many were made."""
+    def _send(
+        self, lines: Sequence[str], timeout: Optional[float] = None, progress: Optional[Callable[[int], None]] = None
+    ) -> tuple[list[Answered], Optional[Plan]]:
+        """Sends edits, each after the question what it loses. For each that was sent the reply, which may be a refusal,
+        and what was lost; and the plan that was made of them, if none was refused. `progress` is called with how many
+        were made."""
         questions, plan = list(map(question_before, lines)), None
         count = sum(question is not None for question in questions)
         if count > 1 or (count and self._contents is not None):
@@ -270,7 +306,13 @@ class EditList:
         replies = self._ask(questions, lines, timeout, progress)
         return replies, None if refusal_of(replies) else plan
 
-    def _ask(self, questions, lines, timeout, progress=None):
+    def _ask(
+        self,
+        questions: Sequence[Optional[str]],
+        lines: Iterable[str],
+        timeout: Optional[float],
+        progress: Optional[Callable[[int], None]] = None,
+    ) -> list[Answered]:
         """Sends edits, each after a question, if there is one. For each that was sent the reply, and what was lost."""
         sent = (text for pair in zip(questions, lines) for text in pair if text is not None)
         ends = list(accumulate(1 + (question is not None) for question in questions))
@@ -284,13 +326,15 @@ class EditList:
             found.append((reply, rest_of(answer) if isinstance(answer, str) else ""))
         return found
 
-    def question(self, line):
+    def question(self, line: str) -> Optional[str]:
         """The question what an edit loses, or None if it loses nothing, or a packet that a file has."""
         return None if self._contents is not None and self._contents.takes_of_file(line) else question_before(line)
 
     @contextlib.contextmanager
     def step(self, title: str = "") -> Iterator[None]:
-        """Edits in the block are one step for `undo`, which may have a title. They are in the file when the block ends."""
+        """Edits in the block are one step for `undo`, which may have a title. They are in the file when the block
+        ends.
+        """
         if self._depth == 0:
             self._step += 1
             start = len(self._entries)
@@ -303,20 +347,22 @@ class EditList:
                 self._name(self._entries[start:], title)
                 self._write()
 
-    def _name(self, group, title):
+    def _name(self, group: list[Entry], title: str) -> None:
         """Puts the comment before the edits of a step that says how many they are."""
         title = " ".join(title.split())[:MOST_TITLE]
         if len(group) > 1:
             group[0].title = title
             group[0].before += f"# step {len(group)} {title}".rstrip() + "\n"
 
-    def _new_step(self):
+    def _new_step(self) -> None:
         if self._depth == 0:
             self._step += 1
 
-    def accept(self, edits, plan=None):
-        """Adds edits that the program accepted, pairs of a line and what it lost. They are followed here, unless that was planned."""
-        entries = []
+    def accept(self, edits: Iterable[tuple[str, str]], plan: Optional[Plan] = None) -> None:
+        """Adds edits that the program accepted, pairs of a line and what it lost. They are followed here, unless that
+        was planned.
+        """
+        entries: list[Entry] = []
         for line, lost in edits:
             self._new_step()
             before = self._after or ("" if self._entries or entries else self._first_line())
@@ -329,7 +375,7 @@ class EditList:
         self._undone.clear()
         self._write()
 
-    def _first_line(self):
+    def _first_line(self) -> str:
         """The comment that says which stream a list is of. A stream that was overwritten since has none."""
         if self._file is None:
             return ""
@@ -339,19 +385,23 @@ class EditList:
         except OSError:
             return ""
 
-    def _unnamed(self):
+    def _unnamed(self) -> dict[int, str]:
         """The comments for the sources that the list does not name yet, by their numbers."""
         items = self._session._inputs.all
         if self._file is None or len(items) == 1:
             return {}
-        known, folder, found = {source for entry in self._entries for source in entry.sources}, os.path.dirname(os.path.realpath(self._path)), {}
+        known, folder, found = (
+            {source for entry in self._entries for source in entry.sources},
+            os.path.dirname(os.path.realpath(self._path)),
+            {},
+        )
         for number, item in enumerate(items[1:], 1):
             if number not in known and item.descriptor is not None:
                 with contextlib.suppress(OSError):
                     found[number] = named.line_of(number, item, folder)
         return found
 
-    def _write(self):
+    def _write(self) -> None:
         """Brings the file up to date. `NotWritten` if that fails: the next edit tries again."""
         if self._path is None or self._depth:
             return
@@ -370,15 +420,17 @@ class EditList:
             raise NotWritten(error, self._path, len(new), self.written) from None
         self._extend(new)
 
-    def _extend(self, new):
+    def _extend(self, new: list[bytes]) -> None:
         """The file has these entries more."""
         place = self._ends[-1] if self._ends else 0
         for text in new:
             place += len(text)
             self._ends.append(place)
 
-    def _move(self, why):
-        """Writes the whole list to another file, since the one that it had is no more its own: what somebody else wrote is left as it is."""
+    def _move(self, why: str) -> None:
+        """Writes the whole list to another file, since the one that it had is no more its own: what somebody else wrote
+        is left as it is.
+        """
         new = [entry.text.encode() for entry in self._entries]
         self._ends = []
         try:
@@ -395,19 +447,31 @@ class EditList:
         self._use(file)
         self._extend(new)
         count = len(new)
-        self._say(f"{why} while it was open: {'the edit is' if count == 1 else f'all {count} edits are'} in {self._path} now")
+        self._say(
+            f"{why} while it was open: {'the edit is' if count == 1 else f'all {count} edits are'} in {self._path} now"
+        )
 
-    def run_step(self, lines: Iterable[str], timeout: Optional[float] = None, progress: Optional[Callable[[int], None]] = None, title: str = "") -> str:
-        """Makes edits as one step, and returns the reply to the last one. If one is refused, none is made, and what was undone can be made
-        again as before. `progress` is called with the number of edits that were made."""
+    def run_step(
+        self,
+        lines: Iterable[str],
+        timeout: Optional[float] = None,
+        progress: Optional[Callable[[int], None]] = None,
+        title: str = "",
+    ) -> str:
+        """Makes edits as one step, and returns the reply to the last one. If one is refused, none is made, and what was
+        undone can be made again as before. `progress` is called with the number of edits that were made."""
         with self._session.turn(timeout):
             return self._run_step(list(lines), timeout, progress, title)
 
-    def _run_step(self, lines, timeout, progress, title):
+    def _run_step(
+        self, lines: list[str], timeout: Optional[float], progress: Optional[Callable[[int], None]], title: str
+    ) -> str:
         count, undone, after = len(self._entries), list(self._undone), self._after
         # After a refusal the program may have made some of the edits that follow it: those are taken back too.
         replies, plan = self._send(lines, timeout, progress)
-        refused, made = refusal_of(replies), [(plain(line), lost) for line, (reply, lost) in zip(lines, replies) if not isinstance(reply, Refused)]
+        refused, made = refusal_of(replies), [
+            (plain(line), lost) for line, (reply, lost) in zip(lines, replies) if not isinstance(reply, Refused)
+        ]
         if refused is None:
             with self.step(title):
                 self.accept(made, plan)
@@ -421,11 +485,12 @@ class EditList:
             self._undone, self._after = undone, after
         finally:
             self._depth -= 1
-            # If there is no memory to take them back, the edits before the refused one stay, in the program and in the list.
+            # If there is no memory to take them back, the edits before the refused one stay, in the program and in the
+            # list.
             self._write()
         raise refused
 
-    def _last_group(self):
+    def _last_group(self) -> int:
         """How many entries the last step has, with the `use` lines after it."""
         count, step = 0, None
         for entry in reversed(self._entries):
@@ -436,7 +501,7 @@ class EditList:
             count += 1
         return count
 
-    def undo(self, timeout=None):
+    def undo(self, timeout: Optional[float] = None) -> list[str]:
         """Takes back the last step, and returns its lines."""
         if not self._entries:
             return []
@@ -447,23 +512,29 @@ class EditList:
         self._write()
         return [entry.line for entry in group]
 
-    def _take_back(self, group, timeout, new=None):
+    def _take_back(self, group: list[Entry], timeout: Optional[float], new: Optional[int] = None) -> None:
         """Takes back the last entries, the last one first."""
         # What takes an entry back is found when the contents are.
         self.contents()
         self._perform([entry.inverse for entry in reversed(group)], timeout, new)
 
-    def _perform(self, operations, timeout, new=None):
-        """Makes changes that are not listed, and returns what takes each of them back. If one is refused because memory ran out,
-        those that were made are taken back."""
+    def _perform(
+        self, operations: Sequence[Operation], timeout: Optional[float], new: Optional[int] = None
+    ) -> list[Operation]:
+        """Makes changes that are not listed, and returns what takes each of them back. If one is refused because memory
+        ran out, those that were made are taken back."""
         contents = self.contents()
         if not all(contents.has_whole(operation, new) for operation in operations):
             raise Refused("refused NoMemory", "there was no memory to ask for what the edit took away")
-        contents.has_inserted_again = contents.has_inserted_again or any(operation.word == "insert" for operation in operations)
+        contents.has_inserted_again = contents.has_inserted_again or any(
+            operation.word == "insert" for operation in operations
+        )
         texts = (contents.whole(operation).line for operation in operations)
         # What is taken away here was made by edits, so it is asked for.
         replies = self._ask([question_before(operation.line) for operation in operations], texts, timeout)
-        refused, made = refusal_of(replies), [(operation, lost) for operation, (reply, lost) in zip(operations, replies) if not isinstance(reply, Refused)]
+        refused, made = refusal_of(replies), [
+            (operation, lost) for operation, (reply, lost) in zip(operations, replies) if not isinstance(reply, Refused)
+        ]
         inverses = contents.perform_all([operation for operation, _ in made])
         done = [contents.whole_by(inverse, lost) for inverse, (_, lost) in zip(inverses, made)]
         if refused is not None:
@@ -473,7 +544,7 @@ class EditList:
             raise refused
         return done
 
-    def redo(self, timeout=None):
+    def redo(self, timeout: Optional[float] = None) -> list[str]:
         """Makes the step again that was taken back last, and returns its lines."""
         if not self._undone:
             return []
@@ -495,19 +566,27 @@ class EditList:
         return [entry.line for entry in group]
 
 
-def check(entries, path, numbers, replies):
+def check(entries: Iterable[Entry], path: str, numbers: Iterable[int], replies: Iterable[Answered]) -> None:
     """`ValueError` if an edit of a list was refused, which names its line."""
     for entry, number, (reply, _) in zip(entries, numbers, replies):
         if isinstance(reply, Refused):
-            why = "Another stream is missing: name it with --source" if names_source(entry.line, reply) else "The list is not of this stream"
+            why = (
+                "Another stream is missing: name it with --source"
+                if names_source(entry.line, reply)
+                else "The list is not of this stream"
+            )
             raise ValueError(f"{path}, line {number}: {entry.line[:80]}: {reply}. {why}") from None
 
 
-def names_source(line, refused):
+def names_source(line: str, refused: Refused) -> bool:
     """Whether an edit was refused that names a source which may not be there."""
-    return refused.word == "Source" or (first_word(line) == "script" and refused.word in ("Reference", "Number") and "source" in words_of(line.replace(";", " ")))
+    return refused.word == "Source" or (
+        first_word(line) == "script"
+        and refused.word in ("Reference", "Number")
+        and "source" in words_of(line.replace(";", " "))
+    )
 
 
-def refusal_of(replies):
+def refusal_of(replies: Iterable[Answered]) -> Optional[Refused]:
     """The first refusal of pairs of a reply and what was lost, or None."""
     return next((reply for reply, _ in replies if isinstance(reply, Refused)), None)

@@ -1,5 +1,7 @@
 """The files that a session was opened with, kept open so that the bytes of their packets can be read later."""
 
+from __future__ import annotations
+
 import errno
 import functools
 import hashlib
@@ -9,19 +11,23 @@ import stat
 import tempfile
 import threading
 import weakref
+from typing import Optional
 
-from . import checks
 from .. import system
-from ..tools import containers, convert, ivf, looks, programs, rooms, times, webm
-from .errors import NotVideo
+from ..errors import NotIvf, NotVideo
+from ..base import checks, programs, rooms
+from ..base.progress import Copied, Reading
+from ..media import containers, ivf, looks, times, webm
+from . import convert
 
-# Bytes that are read at a time.
-WINDOW = 1 << 20
+# Bytes that are read at a time, and of a file that is read whole.
+WINDOW, PART = 1 << 20, 1 << 26
 
 
 class Input:
-    """A stream of a session: the word that the program gets for it, and its packets. Both read the same file: IVF, or WebM, of which `facts` are those of its
-    beginning. It is closed when it is collected. `tools` are vp8serve and vp8list."""
+    """A stream of a session: the word that the program gets for it, and its packets. Both read the same file: IVF, or
+    WebM, of which `facts` are those of its beginning. It is closed when it is collected. `tools` are vp8serve and
+    vp8list."""
 
     def __init__(self, path, tools=None):
         self.path = self.word = path
@@ -31,7 +37,13 @@ class Input:
         self.head = ivf.EMPTY
         self.index = None
         self.lock = threading.Lock()
-        self.found_digest, self.digesting, self.found_step, self.found_durations, self.found_left = None, threading.Lock(), None, None, None
+        self.found_digest, self.digesting, self.found_step, self.found_durations, self.found_left = (
+            None,
+            threading.Lock(),
+            None,
+            None,
+            None,
+        )
         self.found_rate, self.found_damage, self.damaging = None, None, threading.Lock()
         self.is_shared, self.room = False, None
         if path == "-":
@@ -54,14 +66,16 @@ class Input:
         """What the container has, or had, besides the packets of the video; None if there is none."""
         return containers.media_of(self.path) if self.facts is None else webm.Around(self.path, self.facts, self)
 
-    def folder(self):
+    def folder(self) -> str:
         """A folder for files that are made of this one, which goes when it is closed."""
         with self.lock:
             self.room = self.room or rooms.Room()
         return self.room.name
 
     def readable(self):
-        """The path by which a program that is started reads the file that is open here, and the descriptors that it has to get for that."""
+        """The path by which a program that is started reads the file that is open here, and the descriptors that it has
+        to get for that.
+        """
         if system.HAS_DESCRIPTOR_PATHS:
             return system.descriptor_path(self.opened()), (self.opened(),)
         self.check_opened()
@@ -73,8 +87,10 @@ class Input:
             self.closing()
         self.descriptor, self.closing = descriptor, weakref.finalize(self, os.close, descriptor)
 
-    def share(self, is_file):
-        """Makes the program able to open what was opened here: by its descriptor, or as a copy where that has no path."""
+    def share(self, is_file: bool) -> None:
+        """Makes the program able to open what was opened here: by its descriptor, or as a copy where that has no
+        path.
+        """
         if not system.HAS_DESCRIPTOR_PATHS:
             self.room = rooms.Room()
             self.word = os.path.join(self.room.name, "copied.ivf")
@@ -90,7 +106,7 @@ class Input:
     def spool(self, file, path):
         """Copies a pipe to a file, and opens that by its path."""
         with open(self.descriptor, "rb", closefd=False) as pipe:
-            shutil.copyfileobj(pipe, file, 1 << 20)
+            Copied(containers.name_of(self.path)).copy(pipe, file)
         file.flush()
         self.hold(os.open(path, os.O_RDONLY | system.BINARY))
 
@@ -98,16 +114,16 @@ class Input:
     def sign(found):
         return found.st_dev, found.st_ino, found.st_size, found.st_mtime_ns
 
-    def is_changed(self):
+    def is_changed(self) -> bool:
         """Whether the file is no more the one that the program read."""
         return self.descriptor is not None and self.sign(os.fstat(self.descriptor)) != self.signature
 
-    def check(self):
+    def check(self) -> None:
         """`OSError` if the file is no more the one that the program read."""
         if self.is_changed():
             raise OSError(f"{self.path} was changed since the session was opened")
 
-    def check_opened(self):
+    def check_opened(self) -> None:
         """The same right after the program read the file by its path."""
         self.check()
         if self.descriptor is not None and not self.is_shared and self.sign(os.stat(self.word)) != self.signature:
@@ -126,7 +142,7 @@ class Input:
             return ivf.Index()
         try:
             if self.facts is not None:
-                return webm.index_of(self.tools[1], *self.readable(), self.signature)
+                return webm.index_of(self.tools[1], *self.readable(), self.signature, containers.name_of(self.path))
             self.head, index = ivf.read_index(self.descriptor)
             return index
         finally:
@@ -159,18 +175,18 @@ class Input:
             self.found_durations = times.durations(index.stamps, index.tags, self.step())
         return self.found_durations
 
-    def extent(self):
+    def extent(self) -> tuple[int, int]:
         """The number of packets, and of their bytes."""
         index = self.records()
         return len(index), sum(index.sizes)
 
-    def damage(self):
+    def damage(self) -> list[str]:
         """Sentences about a file that ends in the middle, or whose container is damaged."""
         if self.descriptor is None:
             return []
         return [*self.damage_around(), *ivf.damage_text(self.path, self.records(), self.left())]
 
-    def damage_around(self):
+    def damage_around(self) -> list[str]:
         """Sentences about the damage of the container, in which the packets are, or were."""
         if self.facts is None or self.descriptor is None:
             return containers.damage_of(self.path)
@@ -187,8 +203,10 @@ class Input:
             self.found_left = ivf.left_after(self.opened(), self.records())
         return self.found_left
 
-    def digest(self):
-        """The SHA-256 of the packets, each after its size: what they are called and what their time stamps are does not matter. Read once."""
+    def digest(self) -> str:
+        """The SHA-256 of the packets, each after its size: what they are called and what their time stamps are does not
+        matter. Read once.
+        """
         with self.digesting:
             if self.found_digest is None:
                 self.found_digest = self.read_digest()
@@ -207,14 +225,14 @@ class Input:
             raise OSError(f"{self.path} is not open any more")
         return self.descriptor
 
-    def bytes_at(self, size, place):
+    def bytes_at(self, size: int, place: int) -> bytes:
         """Bytes of the file. `OSError` if it is no more the one that the program read."""
         try:
             return system.pread_all(self.opened(), size, place)
         finally:
             self.check()
 
-    def read(self, number, size=None):
+    def read(self, number: int, size: Optional[int] = None) -> bytes:
         """The bytes of a packet, or the first ones of them."""
         index = self.records()
         count = index.sizes[number]
@@ -258,9 +276,14 @@ class Input:
         """The bytes of the whole file, at most so many; those of an empty stream if there is none."""
         if self.path == "-":
             return ivf.EMPTY.text(0)
-        return self.bytes_at(min(most, os.fstat(self.opened()).st_size), 0)
+        size, pieces, done = min(most, os.fstat(self.opened()).st_size), [], 0
+        with Reading(lambda: (containers.name_of(self.path), done, size)):
+            while done < size:
+                pieces.append(self.bytes_at(min(PART, size - done), done))
+                done += len(pieces[-1])
+        return b"".join(pieces)
 
-    def close(self):
+    def close(self) -> None:
         if self.descriptor is not None:
             self.closing()
             self.descriptor = None
@@ -269,7 +292,9 @@ class Input:
 
 
 class Inputs:
-    """The streams of a session, source 0 first. `tools` are vp8serve and vp8list; `reads_webm` returns whether the engine reads WebM files."""
+    """The streams of a session, source 0 first. `tools` are vp8serve and vp8list; `reads_webm` returns whether the
+    engine reads WebM files.
+    """
 
     def __init__(self, paths, tools, reads_webm):
         self.all, self.room, self.paths = [], None, []
@@ -283,7 +308,9 @@ class Inputs:
             raise
 
     def written(self, content):
-        """The path of a file with what was given in place of a path: the bytes of a file, or one that is open for reading, from where it is."""
+        """The path of a file with what was given in place of a path: the bytes of a file, or one that is open for
+        reading, from where it is.
+        """
         if self.room is None:
             self.room = rooms.Room()
         path = os.path.join(self.room.name, f"given-{len(self.paths)}")
@@ -297,7 +324,7 @@ class Inputs:
         try:
             if convert.kind_of(head) is None:
                 ivf.parse_head(head)
-        except ivf.NotIvf as error:
+        except NotIvf as error:
             # The file has no name that says anything, and is gone when the program has reported it.
             name = f"source {len(self.paths)}" if self.paths else "the stream"
             raise NotVideo(1, looks.sentence(path, name, error)) from None
@@ -315,20 +342,20 @@ class Inputs:
         return convert.as_ivf(path, self.room.name, is_quiet=True)
 
     @property
-    def words(self):
+    def words(self) -> list[str]:
         """What the program gets for each stream."""
         return [item.word for item in self.all]
 
     @property
-    def shared(self):
+    def shared(self) -> tuple[int, ...]:
         """The descriptors that the program opens by number."""
         return tuple(item.descriptor for item in self.all if item.is_shared)
 
-    def check(self):
+    def check(self) -> None:
         for item in self.all:
             item.check_opened()
 
-    def close(self):
+    def close(self) -> None:
         for item in self.all:
             item.close()
         if self.room is not None:

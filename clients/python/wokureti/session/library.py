@@ -3,6 +3,8 @@
 A session of the library stays on the thread that opened it, so each has a worker, and callers wait for it.
 """
 
+from __future__ import annotations
+
 import ctypes
 import functools
 import os
@@ -12,18 +14,26 @@ import re
 import threading
 import time
 import weakref
-from typing import NamedTuple
+from typing import TYPE_CHECKING, Any, Callable, NamedTuple, Optional, Sequence, Tuple, TypeVar
 
 from .. import system
-from . import checks
-from ..tools import ivf, programs, versions
-from ..tools.files import write_whole
-from .frames import MARK, size_of
-from .lines import is_refusal, words_of
-from .pipes import Gone, Late, Strange
+from ..errors import Gone, Late, NotExported, Strange
+from ..base import checks, programs, versions
+from ..base.files import write_whole
+from ..base.lines import is_refusal, words_of
+from ..media import ivf
+from ..media.y4m import MARK, size_of
 
+if TYPE_CHECKING:
+    # What a worker is asked for: a call and where its result goes, or None to end.
+    Asked = queue.SimpleQueue[Any]
+
+Result = TypeVar("Result")
+# The width, height and samples of a frame; and a reply with the frame that it serves.
+Picture = Tuple[int, int, memoryview]
+Answer = Tuple[str, Optional[Picture]]
 ENGINES = ("library", "program")
-# Bytes of stack that a worker has at least: the library needs 64 KB.
+# Bytes of stack that a worker has at least: the library needs 128 KB (WK_STACK).
 LEAST_STACK = 1 << 20
 STARTING = threading.Lock()
 CACHE = 32
@@ -39,7 +49,20 @@ FAULTS = {
 }
 # Bytes of a file, at most.
 MOST_FILE = 1 << 30
-CAUSES = ("", "Header", "Magic", "FourCc", "HeaderLength", "TooMany", "NoMemory", "DocType", "NoTracks", "NoVideo", "Encoded", "Scale")
+CAUSES = (
+    "",
+    "Header",
+    "Magic",
+    "FourCc",
+    "HeaderLength",
+    "TooMany",
+    "NoMemory",
+    "DocType",
+    "NoTracks",
+    "NoVideo",
+    "Encoded",
+    "Scale",
+)
 
 
 class Shown(ctypes.Structure):
@@ -64,37 +87,45 @@ class Fault(ctypes.Structure):
 class Unwritten(ctypes.Structure):
     """`wk_unexported` of the header."""
 
-    _fields_ = [("frame", ctypes.c_uint64), ("node", ctypes.c_uint64), ("source", ctypes.c_uint64), ("packet", ctypes.c_uint64)]
+    _fields_ = [
+        ("frame", ctypes.c_uint64),
+        ("node", ctypes.c_uint64),
+        ("source", ctypes.c_uint64),
+        ("packet", ctypes.c_uint64),
+    ]
 
 
-class NotExported(Exception):
-    """What `wk_export` returned, and what it reported."""
-
-    def __init__(self, status, frame, node):
-        super().__init__(status)
-        self.frame = frame
-        self.is_refused = status in REFUSALS
-        if status == CHANGED:
-            self.text = f"frame {frame} is changed by node {node}"
-        else:
-            self.text = "too many packets" if status == FULL else "no packet repeats a frame of this size"
+def not_exported(status: int, frame: int, node: int) -> NotExported:
+    """What `wk_export` returned and reported, as an exception."""
+    if status == CHANGED:
+        text = f"frame {frame} is changed by node {node}"
+    else:
+        text = "too many packets" if status == FULL else "no packet repeats a frame of this size"
+    return NotExported(text, frame, status in REFUSALS)
 
 
-def room_of(size):
+def room_of(size: int) -> bytearray:
     """A bytearray of this size. The engine writes each of its bytes, so they are not set before."""
     make = getattr(getattr(ctypes, "pythonapi", None), "PyByteArray_FromStringAndSize", None)
     if make is None:
         return bytearray(size)
     make.argtypes, make.restype = [ctypes.c_char_p, ctypes.c_ssize_t], ctypes.py_object
-    return make(None, size)
+    made: bytearray = make(None, size)
+    return made
 
 
-def find():
-    """The path of the library: that of the variable LIBWOKURETI, or installed with this package, or built in this tree; None if it is nowhere."""
+def find() -> Optional[str]:
+    """The path of the library: that of the variable LIBWOKURETI, or installed with this package, or built in this tree;
+    None if it is nowhere.
+    """
     named = os.environ.get("LIBWOKURETI")
     if named:
         return named
-    places = [folder / "lib/wokureti" / place / system.LIBRARY for folder in programs.HERE.parents for place in system.library_places()] + [programs.TREE / "bin" / system.LIBRARY]
+    places = [
+        folder / "lib/wokureti" / place / system.LIBRARY
+        for folder in programs.HERE.parents
+        for place in system.library_places()
+    ] + [programs.TREE / "bin" / system.LIBRARY]
     return next((str(path) for path in places if path.is_file()), None)
 
 
@@ -104,14 +135,14 @@ class Folders(NamedTuple):
     header: str
     library: str
 
-    def cflags(self):
+    def cflags(self) -> str:
         return f"-I{self.header}"
 
-    def libs(self):
+    def libs(self) -> str:
         return f"-L{self.library} -lwokureti -Wl,-rpath,{self.library}"
 
 
-def folders():
+def folders() -> Folders:
     """The folders of the header and of the library that is found here. `OSError` if one has no header."""
     path = find()
     if path is None:
@@ -123,28 +154,33 @@ def folders():
     for header in (folder, folder.parent.parent / "include"):
         if (header / "wokureti.h").is_file():
             return Folders(str(header), str(folder))
-    raise OSError(f"{folder} has the library, but wokureti.h is not next to it: ./serve.sh or ./build.py --library puts it into bin/")
+    raise OSError(
+        f"{folder} has the library, but wokureti.h is not next to it: ./serve.sh or ./build.py --library puts it into"
+        " bin/"
+    )
 
 
-def number_of(version):
+def number_of(version: str) -> int:
     """The number of a version, as `wk_version` returns it."""
     first, second, third = map(int, version.split("."))
     return 10000 * first + 100 * second + third
 
 
-def is_ready():
+def is_ready() -> bool:
     """Whether the library is found, can be loaded here, and is of the version of this package."""
     path = find()
     if path is None:
         return False
     try:
-        return load(path).wk_version() == number_of(versions.version())
+        return bool(load(path).wk_version() == number_of(versions.version()))
     except (OSError, AttributeError, ValueError):
         return False
 
 
-def engine_of(named, program):
-    """What answers: what is named, in the call or in the variable WOKURETI_ENGINE, or the program where one is named; else the library where it is ready."""
+def engine_of(named: Optional[str], program: Optional[str]) -> str:
+    """What answers: what is named, in the call or in the variable WOKURETI_ENGINE, or the program where one is named;
+    else the library where it is ready.
+    """
     engine = named or ("program" if program and system.HAS_PIPES else os.environ.get("WOKURETI_ENGINE"))
     if not system.HAS_PIPES:
         if named == "program":
@@ -157,11 +193,13 @@ def engine_of(named, program):
     return engine
 
 
-def load(path=None):
+def load(path: Optional[str] = None) -> ctypes.CDLL:
     """The library. `OSError` if it is nowhere, or is not one."""
     path = path or find()
     if path is None:
-        raise OSError(f"{system.LIBRARY} is not there: ./build.py --library makes it, or name it in the variable LIBWOKURETI")
+        raise OSError(
+            f"{system.LIBRARY} is not there: ./build.py --library makes it, or name it in the variable LIBWOKURETI"
+        )
     found, size, data, pointer = ctypes.CDLL(path), ctypes.c_size_t, ctypes.c_char_p, ctypes.c_void_p
     calls = {
         "wk_version": [],
@@ -172,21 +210,18 @@ def load(path=None):
         "wk_why": [pointer, pointer],
         "wk_save": [pointer, ctypes.c_bool, pointer],
         "wk_text": [pointer, pointer, size, pointer],
-    }
-    # Earlier versions have not all of these.
-    later = {
         "wk_open_bytes": [pointer, data, size, pointer, size, ctypes.c_uint64, data, size, pointer],
         "wk_save_source": [pointer, size, ctypes.c_bool, ctypes.c_bool, pointer],
         "wk_export": [pointer, ctypes.c_bool, pointer, pointer],
     }
-    for name, types in (calls | {name: types for name, types in later.items() if hasattr(found, name)}).items():
+    for name, types in calls.items():
         call = getattr(found, name)
         call.argtypes, call.restype = types, None if name == "wk_close" else ctypes.c_uint32
     return found
 
 
 @functools.lru_cache
-def reads_webm():
+def reads_webm() -> bool:
     """Whether the library reads WebM files: one of version 0.14 or earlier takes them for IVF files of another kind."""
     handle, fault, text = (ctypes.c_void_p * 1)(), Fault(), b"\x1a\x45\xdf\xa3" + bytes(60)
     library, ends = load(), (ctypes.c_size_t * 1)(len(text))
@@ -197,8 +232,18 @@ def reads_webm():
 class Engine:
     """A session of the library. All its calls are made on one thread."""
 
-    def __init__(self, library, files, states, tables, explains, most_bytes=None):
-        self.library, self.explains, self.lines, self.reasons = library, explains, 0, []
+    def __init__(
+        self,
+        library: ctypes.CDLL,
+        files: Sequence[bytes],
+        states: Optional[int],
+        tables: bytes,
+        explains: bool,
+        most_bytes: Optional[int] = None,
+    ) -> None:
+        self.library, self.explains, self.lines = library, explains, 0
+        # The number of each line that was refused, and why.
+        self.reasons: list[tuple[int, Optional[str]]] = []
         self.handle = (ctypes.c_void_p * 1)()
         self.shown, self.length = Shown(), ctypes.c_size_t()
         self.size = (0, 0)
@@ -207,26 +252,26 @@ class Engine:
             total += len(file)
             ends[place] = total
         fault = Fault()
-        # An earlier library has no limit in bytes: few states then.
-        has_limit = most_bytes is not None and hasattr(library, "wk_open_bytes")
-        opens, most = (library.wk_open_bytes, most_bytes) if has_limit else (library.wk_open, states or CACHE)
-        status = opens(self.handle, b"".join(files), total, ends, len(files), most, tables, len(tables), ctypes.byref(fault))
+        opens, most = (library.wk_open, states or CACHE) if most_bytes is None else (library.wk_open_bytes, most_bytes)
+        status = opens(
+            self.handle, b"".join(files), total, ends, len(files), most, tables, len(tables), ctypes.byref(fault)
+        )
         self.trouble = None if status == OK else (status, fault.source, fault.cause)
 
-    def text(self):
+    def text(self) -> bytes:
         """The text that the last call left."""
         room = ctypes.create_string_buffer(max(1, self.length.value))
         self.library.wk_text(self.handle, room, self.length.value, ctypes.byref(self.length))
         return room.raw[: self.length.value]
 
-    def answer(self, line):
+    def answer(self, line: bytes) -> Answer:
         """The reply to a line, and the picture if it is served."""
         # A carriage return before the newline is no part of a line.
         line = line.removesuffix(b"\n").removesuffix(b"\r")
         self.lines += 1
         found = FRAME.fullmatch(line)
-        number = int(found.group(1)) if found else None
-        picture = self.picture(number) if found and number <= checks.MOST else None
+        number = int(found.group(1)) if found else checks.MOST + 1
+        picture = self.picture(number) if number <= checks.MOST else None
         if picture is not None:
             return f"served {number}", picture
         # Why it is refused is in the reply alone.
@@ -242,7 +287,7 @@ class Engine:
                 raise Strange(f"{reply}, and then not")
         return reply, picture
 
-    def picture(self, number):
+    def picture(self, number: int) -> Optional[Picture]:
         """A frame, in new memory, or None if it is refused."""
         while True:
             width, height = self.size
@@ -260,44 +305,50 @@ class Engine:
                 return None
             self.size = (self.shown.width, self.shown.height)
 
-    def reason(self):
-        """Why the last line was refused, as the program explains it, without the number of the line: frames are not counted there."""
+    def reason(self) -> Optional[str]:
+        """Why the last line was refused, as the program explains it, without the number of the line: frames are not
+        counted there.
+        """
         if self.library.wk_why(self.handle, ctypes.byref(self.length)) != OK:
             return None
         return self.text().decode(errors="replace").rstrip("\n").partition(": ")[2] or None
 
-    def saved(self, pads, source=0, restamps=False):
+    def saved(self, pads: bool, source: int = 0, restamps: bool = False) -> bytes:
         """The IVF file of the current packets of a source."""
         if source or restamps:
-            status = self.library.wk_save_source(self.handle, source, bool(pads), bool(restamps), ctypes.byref(self.length))
+            status = self.library.wk_save_source(
+                self.handle, source, bool(pads), bool(restamps), ctypes.byref(self.length)
+            )
         else:
             status = self.library.wk_save(self.handle, bool(pads), ctypes.byref(self.length))
         if status != OK:
             raise MemoryError("out of memory for the file of the packets")
         return self.text()
 
-    def exported(self, pads):
+    def exported(self, pads: bool) -> bytes:
         """The IVF file of the frames of the current script."""
         found = Unwritten()
         status = self.library.wk_export(self.handle, bool(pads), ctypes.byref(self.length), ctypes.byref(found))
         if status in (MEMORY, NO_MEMORY):
             raise MemoryError("out of memory for the file of the frames")
         if status != OK:
-            raise NotExported(status, found.frame, found.node)
+            raise not_exported(status, found.frame, found.node)
         return self.text()
 
-    def close(self):
+    def close(self) -> None:
         self.library.wk_close(self.handle)
 
 
 class Header:
     """The line before the frames, and the size of a frame, as a reader of them knows them."""
 
-    def __init__(self, rate):
-        self.rate_of, self.rate, self.size = rate, None, None
+    def __init__(self, rate: Callable[[], tuple[int, int]]) -> None:
+        self.rate_of = rate
+        self.rate: Optional[tuple[int, int]] = None
+        self.size: Optional[tuple[int, int]] = None
 
     @property
-    def header(self):
+    def header(self) -> bytes:
         if self.size is None:
             return b""
         self.rate = self.rate or self.rate_of()
@@ -305,11 +356,12 @@ class Header:
         return f"YUV4MPEG2 W{self.size[0]} H{self.size[1]} F{rate} Ip C420jpeg\n".encode()
 
     @property
-    def frame_size(self):
+    def frame_size(self) -> int:
+        assert self.size is not None
         return len(MARK) + size_of(*self.size)
 
 
-def work(asked):
+def work(asked: Asked) -> None:
     """Makes the calls that are asked for, one after the other, until it is told to end."""
     while True:
         item = asked.get()
@@ -324,8 +376,10 @@ def work(asked):
         del item, call, answers
 
 
-def start_worker(asked):
-    """Starts a thread for the calls of a session, also where `threading.stack_size` gives threads less than the library needs."""
+def start_worker(asked: Asked) -> None:
+    """Starts a thread for the calls of a session, also where `threading.stack_size` gives threads less than the library
+    needs.
+    """
     with STARTING:
         given = threading.stack_size()
         if given:
@@ -337,36 +391,52 @@ def start_worker(asked):
                 threading.stack_size(given)
 
 
-def rate_in(text):
+def rate_in(text: bytes) -> tuple[int, int]:
     """The rate in the header of an IVF file."""
     head, _ = ivf.parse_head(text)
     return head.rate, head.scale
 
 
 class Library:
-    """A running session. `files` are the bytes of its sources; `save` gets the packets of source 0 when it is finished. So many states are cached, or as
-    many as have pictures of `most_bytes`. `rate` returns the frames a second in the first line of the frames; else they are those of an IVF file's header."""
+    """A running session. `files` are the bytes of its sources; `save` gets the packets of source 0 when it is finished.
+    So many states are cached, or as many as have pictures of `most_bytes`. `rate` returns the frames a second in the
+    first line of the frames; else they are those of an IVF file's header.
+    """
 
-    def __init__(self, files, states=CACHE, most_bytes=None, tables=b"", save=None, pad=False, explains=False, rate=None):
+    def __init__(
+        self,
+        files: Sequence[bytes],
+        states: Optional[int] = CACHE,
+        most_bytes: Optional[int] = None,
+        tables: bytes = b"",
+        save: Optional[str] = None,
+        pad: bool = False,
+        explains: bool = False,
+        rate: Optional[Callable[[], tuple[int, int]]] = None,
+    ) -> None:
         library = load()
         self.owner = os.getpid()
-        self.asked = queue.SimpleQueue()
+        self.asked: Asked = queue.SimpleQueue()
         start_worker(self.asked)
-        self.engine, self.is_over, self.save, self.pad = None, False, save, pad
+        self.is_over, self.save, self.pad = False, save, pad
         self.finalizer = weakref.finalize(self, self.asked.put, None)
         self.engine = self.call(lambda: Engine(library, files, states, tables, explains, most_bytes))
         if self.engine.trouble:
             status, source, cause = self.engine.trouble
             self.finalizer()
-            raise Gone(f"{f'source {source}' if source else 'input'} {CAUSES[cause]}" if status == FILE else FAULTS[status])
+            raise Gone(
+                f"{f'source {source}' if source else 'input'} {CAUSES[cause]}" if status == FILE else FAULTS[status]
+            )
         # The worker closes the session, whatever ends first.
         self.finalizer.detach()
         self.finalizer = weakref.finalize(self, end, self.asked, self.engine)
         self.reader = Header(rate or functools.partial(rate_in, files[0][: ivf.HEAD.size]))
 
-    def call(self, function, deadline=None):
-        """What a call returns that the worker makes. `Late` after the deadline: the worker is left to it, and the session is over."""
-        answers = queue.SimpleQueue()
+    def call(self, function: Callable[[], Result], deadline: Optional[float] = None) -> Result:
+        """What a call returns that the worker makes. `Late` after the deadline: the worker is left to it, and the
+        session is over.
+        """
+        answers: queue.SimpleQueue[tuple[Result, Optional[BaseException]]] = queue.SimpleQueue()
         self.asked.put((function, answers))
         try:
             result, error = answers.get(timeout=None if deadline is None else max(0.0, deadline - time.monotonic()))
@@ -380,7 +450,7 @@ class Library:
             raise error
         return result
 
-    def exchange(self, lines, deadline):
+    def exchange(self, lines: Sequence[bytes], deadline: Optional[float]) -> list[Answer]:
         """The reply to each of these lines, and the picture if the reply is `served`. `Gone` if the session is over."""
         if self.is_over:
             raise Gone
@@ -390,50 +460,45 @@ class Library:
                 self.reader.size = picture[:2]
         return found
 
-    @property
-    def has_files(self):
-        """Whether the library makes the files of all sources, and of the frames. Version 0.11.0 does not."""
-        return hasattr(self.engine.library, "wk_export")
-
-    def saved(self, pads, source, restamps, deadline):
+    def saved(self, pads: bool, source: int, restamps: bool, deadline: Optional[float]) -> bytes:
         """The IVF file of the current packets of a source."""
         return self.call(lambda: self.engine.saved(pads, source, restamps), deadline)
 
-    def exported(self, pads, deadline):
+    def exported(self, pads: bool, deadline: Optional[float]) -> bytes:
         """The IVF file of the frames of the current script."""
         return self.call(lambda: self.engine.exported(pads), deadline)
 
-    def explanation(self, number):
+    def explanation(self, number: int) -> Optional[str]:
         """The text that explains the refusal of request line `number`; those of earlier lines are dropped."""
         reasons, self.engine.reasons = self.engine.reasons, []
         return next((reason for line, reason in reasons if line == number), None)
 
-    def owner_is_here(self):
+    def owner_is_here(self) -> bool:
         """Whether this is the process that opened the session, and not a forked copy, in which the worker is not."""
         return os.getpid() == self.owner
 
-    def kill(self):
+    def kill(self) -> None:
         """Ends the session, once the call that it is in the middle of has ended."""
         self.is_over = True
         self.finalizer()
 
-    def finish(self, deadline):
+    def finish(self, deadline: Optional[float]) -> tuple[int, str]:
         """Saves the packets, if that was asked for, and ends the session: its status, and what went wrong."""
-        try:
-            if self.save is not None:
+        if self.save is not None:
+            try:
                 write_whole(self.save, [self.call(lambda: self.engine.saved(self.pad), deadline)])
-        except (OSError, MemoryError) as error:
-            self.kill()
-            return 1, f"libwokureti: cannot write {os.fsdecode(self.save)}: {error}"
+            except (OSError, MemoryError) as error:
+                self.kill()
+                return 1, f"libwokureti: cannot write {os.fsdecode(self.save)}: {error}"
         self.kill()
         return 0, ""
 
-    def collect(self):
+    def collect(self) -> tuple[int, str]:
         """The status of a session that is over, and what went wrong."""
         return 0, ""
 
 
-def end(asked, engine):
+def end(asked: Asked, engine: Engine) -> None:
     """Tells the worker to close the session, and then to end."""
     asked.put((engine.close, queue.SimpleQueue()))
     asked.put(None)

@@ -1,33 +1,52 @@
-"""The facts of the packets of a session, as `list` reports them: kept for each packet, and asked again only where edits changed the packets."""
+"""The facts of the packets of a session, as `list` reports them: kept for each packet, and asked again only where edits
+changed the packets.
+"""
+
+from __future__ import annotations
 
 import re
 from array import array
-from typing import NamedTuple
+from typing import TYPE_CHECKING, NamedTuple, Sequence
 
 
-from ..tools.ivf import KEY, NO_BYTES, SHOWN
+from ..media.ivf import KEY, NO_BYTES, SHOWN
+
+if TYPE_CHECKING:
+    from .contents import Contents
 
 # Packets that are asked for at a time, at least and at most, and the characters of an answer that are read together.
 PAGE, MOST_PAGE, PIECE = 4096, 1 << 17, 1 << 20
 # What is used of an object of `list`.
-FACTS = re.compile(r'"stamp":(\d+),"byte":\d+,"bytes":(\d+),"kind":(?:null|"(\w+)"),"show":"(\w+)"[^\n]*?,"size":(?:null|"(\d+)x(\d+)")[^\n]*,"cause":(?:null|"([^"\n]+)")}')
+FACTS = re.compile(
+    r'"stamp":(\d+),"byte":\d+,"bytes":(\d+),"kind":(?:null|"(\w+)"),"show":"(\w+)"'
+    r'[^\n]*?,"size":(?:null|"(\d+)x(\d+)")[^\n]*,"cause":(?:null|"([^"\n]+)")}'
+)
 # The tags of a packet by its kind, whether it is shown, and whether it has no bytes, as the index of a file has them.
-TAGS = {(kind, show, is_empty): KEY * (kind == "key") | SHOWN * (show == "shown") | NO_BYTES * is_empty for kind in ("", "key", "inter") for show in ("shown", "hidden") for is_empty in (False, True)}
+TAGS = {
+    (kind, show, is_empty): KEY * (kind == "key") | SHOWN * (show == "shown") | NO_BYTES * is_empty
+    for kind in ("", "key", "inter")
+    for show in ("shown", "hidden")
+    for is_empty in (False, True)
+}
 # The number of the cause of packets that are not decoded because of an earlier one.
 LOST = 1
 
 
 class Seen(NamedTuple):
-    """The packets of a source as they were listed, as numbers, and for each the number of the cause against it, 0 if it is decoded."""
+    """The packets of a source as they were listed, as numbers, and for each the number of the cause against it, 0 if it
+    is decoded.
+    """
 
-    stream: array
+    stream: array[int]
     causes: bytearray
 
 
 class Listing:
-    """The facts of the packets of `Contents`. Until a source is listed, the tags, sizes and time stamps of its packets are those that the file has."""
+    """The facts of the packets of `Contents`. Until a source is listed, the tags, sizes and time stamps of its packets
+    are those that the file has.
+    """
 
-    def __init__(self, contents):
+    def __init__(self, contents: Contents) -> None:
         self.contents = contents
         self.tags, self.sizes, self.stamps = bytearray(), array("I"), array("Q")
         for item in contents.inputs.all:
@@ -36,25 +55,27 @@ class Listing:
             self.sizes += index.sizes
             self.stamps += index.stamps
         # The size of the pictures of key packets, and the packets of which nothing is known yet.
-        self.pictures, self.unknown = {}, set()
+        self.pictures: dict[int, tuple[int, int]] = {}
+        self.unknown: set[int] = set()
         self.causes = ["", "lost"]
         # What is listed of each source, and of those that are not wholly listed the beginning.
-        self.seen, self.begun = {}, {}
+        self.seen: dict[int, Seen] = {}
+        self.begun: dict[int, Seen] = {}
 
-    def __contains__(self, number):
+    def __contains__(self, number: int) -> bool:
         return number < len(self.tags) and number not in self.unknown
 
     @property
-    def is_whole(self):
+    def is_whole(self) -> bool:
         """Whether all sources were listed."""
         return len(self.seen) == len(self.contents.streams)
 
-    def learn(self):
+    def learn(self) -> None:
         """Lists what is new in all sources."""
         for source in range(len(self.contents.streams)):
             self.look(source)
 
-    def look(self, source):
+    def look(self, source: int) -> Seen:
         """What is listed of a source, as it is now."""
         with self.contents.session.turn():
             while source not in self.seen:
@@ -64,8 +85,10 @@ class Listing:
                 self.seen[source] = Seen(array("I", stream), self.causes_now(source, old, stream))
             return self.seen[source]
 
-    def go_on(self, source):
-        """Lists the next packets of a source that is not wholly listed. Edits may come before the next call, and others have the session while the answer is read."""
+    def go_on(self, source: int) -> None:
+        """Lists the next packets of a source that is not wholly listed. Edits may come before the next call, and others
+        have the session while the answer is read.
+        """
         with self.contents.session.turn():
             if source in self.seen:
                 return
@@ -86,9 +109,11 @@ class Listing:
                 if known.stream == self.contents.streams[source]:
                     self.seen[source] = self.begun.pop(source)
 
-    def causes_now(self, source, old, stream):
-        """The causes of packets of which others were listed. A packet that was there, and has the cause that it had, leaves those after it as they were: what
-        decoding refuses depends on the packets from the last key packet on, and on these only by whether one of them is refused."""
+    def causes_now(self, source: int, old: Seen, stream: array[int]) -> bytearray:
+        """The causes of packets of which others were listed. A packet that was there, and has the cause that it had,
+        leaves those after it as they were: what decoding refuses depends on the packets from the last key packet on,
+        and on these only by whether one of them is refused.
+        """
         first = common(old.stream, stream)
         rest = len(stream) - common(old.stream[first:], stream[first:], -1)
         shift = len(old.stream) - len(stream)
@@ -97,21 +122,24 @@ class Listing:
             place = len(causes)
             causes += self.ask(source, place, min(PAGE, max(rest - place, 0) + after, len(stream) - place))
             after = 256
-            same = next((at for at in range(max(place, rest), len(causes)) if causes[at] == old.causes[at + shift]), None)
+            same = next(
+                (at for at in range(max(place, rest), len(causes)) if causes[at] == old.causes[at + shift]), None
+            )
             if same is not None:
                 return causes[:same] + old.causes[same + shift :]
         return causes
 
-    def ask(self, source, first, count):
+    def ask(self, source: int, first: int, count: int) -> bytearray:
         """Asks for packets of a source, and returns the number of the cause of each."""
         return self.read(self.reply(source, first, count), self.contents.streams[source][first : first + count])
 
-    def reply(self, source, first, count):
+    def reply(self, source: int, first: int, count: int) -> str:
         """What `list` answers of packets of a source."""
         self.grow()
-        return self.contents.session.ask(f"list {first} {count}", source)
+        reply: str = self.contents.session.ask(f"list {first} {count}", source)
+        return reply
 
-    def read(self, reply, numbers):
+    def read(self, reply: str, numbers: array[int]) -> bytearray:
         """Stores what is answered of these packets, and returns the number of the cause of each."""
         causes, place = bytearray(), 0
         while place >= 0:
@@ -124,7 +152,7 @@ class Listing:
             raise OSError("vp8serve and the client do not find the same packets")
         return causes
 
-    def take(self, numbers, found):
+    def take(self, numbers: array[int], found: list[tuple[str, ...]]) -> bytearray:
         """Stores the facts of packets, and returns the number of the cause of each."""
         stamps, sizes, kinds, shows, widths, heights, causes = zip(*found)
         tags = bytes(map(TAGS.__getitem__, zip(kinds, shows, map("0".__eq__, sizes))))
@@ -133,7 +161,7 @@ class Listing:
             self.pictures[numbers[at]] = (int(widths[at]), int(heights[at]))
         return bytearray(map(self.number_of, causes)) if any(causes) else bytearray(len(causes))
 
-    def put(self, numbers, tags, sizes, stamps):
+    def put(self, numbers: array[int], tags: bytes, sizes: array[int], stamps: array[int]) -> None:
         """Stores the facts of packets."""
         start, end = numbers[0], numbers[0] + len(numbers)
         if len(numbers) > 1 and numbers[-1] == end - 1 and numbers == array("I", range(start, end)):
@@ -144,7 +172,7 @@ class Listing:
         if self.unknown:
             self.unknown.difference_update(numbers)
 
-    def grow(self):
+    def grow(self) -> None:
         """Makes room for the packets that edits made."""
         count = self.contents.of_files + len(self.contents.made)
         new = range(len(self.tags), count)
@@ -153,17 +181,20 @@ class Listing:
         self.stamps.extend(new)
         self.unknown.update(new)
 
-    def number_of(self, cause):
+    def number_of(self, cause: str) -> int:
         """The number of a cause."""
         if cause not in self.causes:
             self.causes.append(cause)
         return self.causes.index(cause)
 
 
-def common(one, other, step=1):
+def common(one: Sequence[int], other: Sequence[int], step: int = 1) -> int:
     """How many items two arrays have in common at the beginning, or at the end if the step is -1."""
     low, high = 0, min(len(one), len(other))
-    part = (lambda items, start, stop: items[start:stop]) if step > 0 else (lambda items, start, stop: items[len(items) - stop : len(items) - start])
+
+    def part(items: Sequence[int], start: int, stop: int) -> Sequence[int]:
+        return items[start:stop] if step > 0 else items[len(items) - stop : len(items) - start]
+
     while low < high:
         middle = (low + high + 1) // 2
         if part(one, low, middle) == part(other, low, middle):

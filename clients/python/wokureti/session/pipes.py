@@ -1,17 +1,21 @@
-"""A vp8serve that runs with --live, and the pipes to it: one line is written, and its reply and picture are read. A reply is one line, or `lines K`
-and K lines.
+"""A vp8serve that runs with --live, and the pipes to it: one line is written, and its reply and picture are read. A
+reply is one line, or `lines K` and K lines.
 
-No thread reads in the background. The caller waits for all pipes together, so the program never waits for room in one of them, and what
-goes wrong is raised where the request was made.
+No thread reads in the background. The caller waits for all pipes together, so the program never waits for room in one
+of them, and what goes wrong is raised where the request was made.
 """
+
+from __future__ import annotations
 
 import os
 import subprocess
 import time
 import weakref
+from typing import Iterable, Optional, Sequence, Tuple
 
 from .. import system
-from ..tools import programs
+from ..errors import Gone, Late, Strange
+from ..base import programs
 from .frames import FrameReader
 
 AT_ONCE = 1 << 18
@@ -21,21 +25,11 @@ PIPE_BYTES = 1 << 20
 GRACE = 1.0
 # Bytes of standard error that are stored.
 MOST_ERRORS = 1 << 20
+# The width, height and samples of a frame.
+Picture = Tuple[int, int, memoryview]
 
 
-class Gone(Exception):
-    """The program closed its standard output."""
-
-
-class Strange(Exception):
-    """What the program wrote is no reply, or no frame."""
-
-
-class Late(Exception):
-    """The time of a request is over."""
-
-
-def end(process, descriptors, owner):
+def end(process: subprocess.Popen[bytes], descriptors: list[int], owner: int) -> None:
     """Ends the program and closes the pipes. A copy of them in a forked process is only closed."""
     if os.getpid() == owner:
         kill(process)
@@ -49,7 +43,7 @@ def end(process, descriptors, owner):
         process.wait()
 
 
-def kill(process):
+def kill(process: subprocess.Popen[bytes]) -> None:
     """Ends the program, and what it started, if it is a script around vp8serve."""
     if process.poll() is None:
         system.kill_group(process)
@@ -58,16 +52,19 @@ def kill(process):
 class Pipes:
     """A running program. `words` is its command line, in which `{frames}` is the path of the pipe for frames."""
 
-    # Those that are open, for a forked child, which closes its copies: else the program would not see the end of its input.
-    opened = weakref.WeakSet()
+    # Those that are open, for a forked child, which closes its copies: else the program would not see the end of its
+    # input.
+    opened: weakref.WeakSet[Pipes] = weakref.WeakSet()
 
-    def __init__(self, words, pass_fds=()):
+    def __init__(self, words: list[str], pass_fds: Iterable[int] = ()) -> None:
         self.owner = os.getpid()
-        ends = []
+        ends: list[int] = []
         try:
             for _ in range(4):
                 ends += os.pipe()
-            lines, stdin, stdout, replies, stderr, errors, frames, out = (ends[place] for place in (1, 0, 3, 2, 5, 4, 6, 7))
+            lines, stdin, stdout, replies, stderr, errors, frames, out = (
+                ends[place] for place in (1, 0, 3, 2, 5, 4, 6, 7)
+            )
             words = [word.replace("{frames}", system.descriptor_path(out)) for word in words]
             self.process = subprocess.Popen(
                 words, stdin=stdin, stdout=stdout, stderr=stderr, pass_fds=(*pass_fds, out), start_new_session=True
@@ -93,15 +90,17 @@ class Pipes:
         self.open = {replies, errors, frames}
         Pipes.opened.add(self)
 
-    def exchange(self, lines, deadline):
-        """The reply to each of these lines, and the picture if the reply is `served`. `Gone` if the program ended, `Late` after the deadline."""
+    def exchange(self, lines: Sequence[bytes], deadline: Optional[float]) -> list[tuple[str, Optional[Picture]]]:
+        """The reply to each of these lines, and the picture if the reply is `served`. `Gone` if the program ended,
+        `Late` after the deadline.
+        """
         self.write(memoryview(b"".join(lines)), deadline)
         found = [self.answer(deadline) for _ in lines]
         if self.read:
             raise Strange(f"more replies than requests: {bytes(self.read[:80])!r}")
         return found
 
-    def answer(self, deadline):
+    def answer(self, deadline: Optional[float]) -> tuple[str, Optional[Picture]]:
         """The next reply with all its lines, and its picture."""
         reply = self.line(deadline)
         if reply.startswith("lines "):
@@ -115,7 +114,7 @@ class Pipes:
             self.wait(deadline, [self.frames])
         return reply, self.reader.take()
 
-    def line(self, deadline):
+    def line(self, deadline: Optional[float]) -> str:
         """The next line of the replies."""
         start = 0
         while True:
@@ -129,8 +128,10 @@ class Pipes:
         del self.read[: end + 1]
         return line
 
-    def lines_after(self, count, deadline):
-        """The next lines of the replies, each after a newline: there may be many, so they are counted as they come and taken together."""
+    def lines_after(self, count: int, deadline: Optional[float]) -> str:
+        """The next lines of the replies, each after a newline: there may be many, so they are counted as they come and
+        taken together.
+        """
         end, counted = 0, 0
         while True:
             there = self.read.count(b"\n", end)
@@ -145,7 +146,7 @@ class Pipes:
         del self.read[:end]
         return f"\n{text}" if count else ""
 
-    def write(self, left, deadline):
+    def write(self, left: memoryview, deadline: Optional[float]) -> None:
         """Writes a line. The program may not read it: it may have ended, or wait for room to explain something."""
         while left:
             try:
@@ -156,12 +157,12 @@ class Pipes:
             except BrokenPipeError:
                 raise Gone from None
 
-    def check(self):
+    def check(self) -> None:
         """`Gone` if the program closed its standard output."""
         if self.replies not in self.open:
             raise Gone
 
-    def wait(self, deadline, descriptors, writing=False):
+    def wait(self, deadline: Optional[float], descriptors: Iterable[int], writing: bool = False) -> None:
         """Waits until one of these pipes is ready, and reads from those that are."""
         reading = [descriptor for descriptor in descriptors if descriptor != self.frames or not self.reader.is_whole]
         readable, writable = system.ready(reading, [self.lines] if writing else [], time_left(deadline))
@@ -170,7 +171,7 @@ class Pipes:
         for descriptor in readable:
             self.take(descriptor)
 
-    def take(self, descriptor):
+    def take(self, descriptor: int) -> None:
         """Reads what a pipe has."""
         try:
             if descriptor == self.frames:
@@ -186,8 +187,10 @@ class Pipes:
         if len(self.said) > MOST_ERRORS:
             del self.said[: -MOST_ERRORS // 2]
 
-    def explanation(self, number):
-        """The text that explains the refusal of request line `number`, if standard error has it; what is before it is dropped."""
+    def explanation(self, number: int) -> Optional[str]:
+        """The text that explains the refusal of request line `number`, if standard error has it; what is before it is
+        dropped.
+        """
         while self.errors in self.open:
             before = len(self.said)
             self.take(self.errors)
@@ -200,16 +203,18 @@ class Pipes:
         self.said.clear()
         return found
 
-    def owner_is_here(self):
+    def owner_is_here(self) -> bool:
         """Whether this is the process that started the program, and not a forked copy."""
         return os.getpid() == self.owner
 
-    def kill(self):
+    def kill(self) -> None:
         """Ends the program."""
         kill(self.process)
 
-    def finish(self, deadline):
-        """Ends the input, and waits for the program to end: its status, and what is left of standard error. `Late` after the deadline."""
+    def finish(self, deadline: Optional[float]) -> tuple[int, str]:
+        """Ends the input, and waits for the program to end: its status, and what is left of standard error. `Late`
+        after the deadline.
+        """
         os.close(self.lines)
         self.descriptors.remove(self.lines)
         while self.replies in self.open:
@@ -219,7 +224,7 @@ class Pipes:
             self.wait(deadline, self.open)
         return self.collect(deadline)
 
-    def collect(self, deadline=None):
+    def collect(self, deadline: Optional[float] = None) -> tuple[int, str]:
         """The status of a program that closed its output or was killed, and the rest of standard error."""
         limit = time.monotonic() + GRACE
         while self.errors in self.open:
@@ -233,22 +238,22 @@ class Pipes:
         self.close()
         return self.process.returncode, bytes(self.said).decode(errors="replace").strip()
 
-    def close(self):
+    def close(self) -> None:
         """Ends the program if it runs, and closes the pipes."""
         self.finalizer()
         Pipes.opened.discard(self)
 
-    def forget(self):
+    def forget(self) -> None:
         """In a forked child: closes its copies of the pipes."""
         self.finalizer()
 
 
-def time_left(deadline):
+def time_left(deadline: Optional[float]) -> Optional[int]:
     """Milliseconds up to a deadline, for poll; None if there is none."""
     return None if deadline is None else max(0, int(1000 * (deadline - time.monotonic())) + 1)
 
 
-def forget_all():
+def forget_all() -> None:
     """In a forked child: the sessions belong to the parent."""
     for pipes in list(Pipes.opened):
         pipes.forget()

@@ -1,40 +1,35 @@
-"""The records of macroblocks and headers: what vp8serve answers of a packet of a session, and vp8list of one of a file, for which `wokureti compare` has no session."""
+"""The records of macroblocks and headers: what vp8serve answers of a packet of a session, and vp8list of one of a file,
+for which `wokureti compare` has no session.
+"""
+
+from __future__ import annotations
 
 import json
+from typing import Any, Optional
 
-from . import checks
-from ..tools import facts
-
-
-class Refused(Exception):
-    """A packet that decoding refuses, itself or because of an earlier one."""
-
-    def __init__(self, packet, cause):
-        super().__init__(f"packet {packet} is refused: {cause}")
-        self.packet, self.cause = packet, cause
+from ..errors import NoBytes, PacketRefused
+from ..base import checks
+from ..base.checks import AnyPath
+from ..media import facts
 
 
-class NoBytes(Exception):
-    """A packet of no bytes, which shows the last frame again."""
-
-
-def of_file(lister, path, option, packet, tables=None):
+def of_file(lister: str, path: AnyPath, option: str, packet: int, tables: Optional[AnyPath] = None) -> list[str]:
     """The JSON lines of one packet of a file, for `--macroblocks` or `--header`."""
     words = [] if tables is None else ["--tables", checks.path(tables)]
     return checked(list(facts.run(lister, path, option, str(packet), "--json", *words)))
 
 
-def checked(lines):
+def checked(lines: list[str]) -> list[str]:
     """The lines, if they are those of a packet that is decoded."""
     members = json.loads(lines[0]) if len(lines) == 1 else {}
     if "refused" in members:
-        raise Refused(members["refused"], members["cause"])
+        raise PacketRefused(members["refused"], members["cause"])
     if members.get("repeats"):
         raise NoBytes
     return lines
 
 
-def header(lines):
+def header(lines: list[str]) -> dict[str, Any]:
     """The fields of a header, and the probabilities that it changes."""
     fields, *changes = map(json.loads, lines)
     fields.pop("packet")
@@ -43,8 +38,10 @@ def header(lines):
     return {"fields": fields, "changes": changes}
 
 
-def words_of(record):
-    """A record of a macroblock as words, as `wokureti compare` prints it: what it has not, and its position, is left out."""
+def words_of(record: dict[str, Any]) -> Any:
+    """A record of a macroblock as words, as `wokureti compare` prints it: what it has not, and its position, is left
+    out.
+    """
     found = []
     for name, value in record.items():
         if value is None or name in ("packet", "column", "row"):

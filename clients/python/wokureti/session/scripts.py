@@ -3,8 +3,9 @@
     script = Script().trim(0, 5, 10).fade(-1, 0, 10, 0, 256)
     session.script(script)
 
-serves frames 5 to 14 of source 0, fading in from black. Node 0 is source 0, and the nodes that are added are 1, 2, and so on. A
-negative number counts from the end, so -1 is the node that was added last. `last` is its number, to name it later:
+serves frames 5 to 14 of source 0, fading in from black. Node 0 is source 0, and the nodes that are added are 1, 2, and
+so on. A negative number counts from the end, so -1 is the node that was added last. `last` is its number, to name it
+later:
 
     script = Script()
     head = script.trim(0, 0, 50).fade(-1, 40, 10, 256, 0).last
@@ -18,7 +19,7 @@ import operator
 
 
 class Script:
-    """The nodes of a script. docs/requests.md says what each node serves."""
+    """The nodes of a script. docs/reference/requests.md says what each node serves."""
 
     def __init__(self) -> None:
         self.nodes: list[str] = []
@@ -53,14 +54,18 @@ class Script:
 
     def parts(self, *parts: tuple[int, int, int]) -> Script:
         """Any number of trims, one after the other: of each a node, the first frame and at most so many frames."""
-        return self._add("parts", *(number for node, first, count in parts for number in (self._node(node), first, count)))
+        return self._add(
+            "parts", *(number for node, first, count in parts for number in (self._node(node), first, count))
+        )
 
     def crop(self, node: int, x: int, y: int, width: int, height: int) -> Script:
         """Each frame's `width` x `height` luma samples starting at column `x` and row `y`, both even."""
         return self._add("crop", self._node(node), x, y, width, height)
 
     def fade(self, node: int, first: int, count: int, start: int, end: int) -> Script:
-        """Frames mixed with black: weight `start` before `first`, `end` from `first + count` on; 256 is the picture, 0 black."""
+        """Frames mixed with black: weight `start` before `first`, `end` from `first + count` on; 256 is the picture, 0
+        black.
+        """
         return self._add("fade", self._node(node), first, count, start, end)
 
     def __str__(self) -> str:

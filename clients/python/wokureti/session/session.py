@@ -2,35 +2,37 @@
 
 from __future__ import annotations
 
+import contextlib
 import operator
 import os
 import pathlib
 import re
 import threading
 import time
-from typing import Any, BinaryIO, Callable, ContextManager, Iterable, Iterator, NamedTuple, Optional, Union, overload
+import weakref
+from typing import Any, Callable, ContextManager, Iterable, Iterator, NamedTuple, Optional, Union, overload
 
 from .. import system
-from . import checks, named, outcomes
-from ..tools import exports, files, ivf, looks, muxing, programs, rooms
-from ..tools.progress import say
+from ..errors import Ended, Gone, Late, NotExported, NotIvf, NotVideo, Refused, Strange, Unexported
+from ..base import checks, files, programs, rooms
+from ..base.checks import AnyBytes, AnyPath, AnyStream
+from ..base.lines import EDITS, begins_reply, first_word, is_edit, is_refusal, objects_of, plain, rest_of, words_of
+from ..base.progress import Reading, of_program, say
+from ..media import containers, ivf, looks, muxing, times
+from . import exports, named, outcomes
 from .edits import EditList
-from .errors import Ended, NotVideo, Refused, Unexported
-from .frames import Frame, frame_of
+from .frames import Frame, Times, frame_of
 from .inputs import Inputs
-from .library import MOST_FILE, Library, NotExported, engine_of, reads_webm
-from .lines import EDITS, begins_reply, first_word, is_edit, is_refusal, objects_of, plain, rest_of, words_of
-from .pipes import Gone, Late, Pipes, Strange
+from .library import MOST_FILE, Library, engine_of, reads_webm
+from .pipes import Pipes
 from .scripts import Script
 
-AnyPath = Union[str, bytes, "os.PathLike[str]", "os.PathLike[bytes]"]
-# A stream: its path, the bytes of its file, or an open file.
-AnyStream = Union[str, "os.PathLike[str]", "os.PathLike[bytes]", bytes, bytearray, memoryview, BinaryIO]
-AnyBytes = Union[bytes, bytearray, memoryview]
 # Lines and bytes that are sent at a time, at most.
 MOST_LINES, MOST_BYTES = 500, 1 << 18
 # What a program says of a file that does not begin as a stream.
 NO_STREAM = re.compile(r"(?:vp8serve|libwokureti): (?:input|source (\d+)) (?:Magic|Header|FourCc|HeaderLength)")
+# The first words of lines after which frames may be others.
+CHANGES = frozenset(word.encode() for word in EDITS - {"use"})
 # Packets of a source, at most.
 MOST_PACKETS = 1 << 20
 # Bytes of pictures that the program caches where nothing else is said.
@@ -45,30 +47,37 @@ class Count(NamedTuple):
 
 
 class Session:
-    """A running vp8serve over an IVF file, or over an empty stream if `stream` is `-`. Of a file in another container, such as WebM, the packets
-    are taken out first, by ffmpeg or mkvextract. A stream is a path, the bytes of a file, or a file that is open for reading. A file that cannot be opened is an `OSError`, such as
-    `FileNotFoundError`, and one that is no stream of VP8 is `NotVideo`, which says what it looks like.
+    """A session over an IVF or WebM file, or over an empty stream if `stream` is `-`: the library answers it, or a
+    running vp8serve. Of a file in another container, such as MP4, the packets are copied out first, by Python's av or
+    ffmpeg. A stream is a path, the bytes of a file, or a file that is open for reading. A file that cannot be opened is
+    an `OSError`, such as `FileNotFoundError`, and one that is not a stream of VP8 is `NotVideo`, which says what it
+    looks like.
 
-    `len(session)` is the number of frames, `session[3]` and `session[-1]` are frames, `session[3:9]` is a list of them, and a loop over a session has one frame after the other.
+    `len(session)` is the number of frames, `session[3]` and `session[-1]` are frames, `session[3:9]` is a list of them,
+    and a loop over a session has one frame after the other.
 
-    `sources` are sources 1 to 7, `cache` the number of cached states, or `cache_bytes` the number of bytes that their pictures
-    may take, 512 MiB if neither is given, `tables` a file that replaces the RFC's long tables, and `save` the file that gets the packets of source 0 when the session
-    is closed; with `pad` players that use libvpx show the packets of `blank` and `hold` in it too. `program` is the path of vp8serve, `lister` that of vp8list, which `packets` needs.
+    `sources` are sources 1 to 7, `cache` the number of cached states, or `cache_bytes` the number of bytes that their
+    pictures may take, 512 MiB if neither is given, `tables` a file that replaces the RFC's long tables, and `save` the
+    file that gets the packets of source 0 when the session is closed; with `pad` players that use libvpx show the
+    packets of `blank` and `hold` in it too. `program` is the path of vp8serve, `lister` the path of vp8list, by which
+    WebM files are opened.
 
-    `edits` is a file that the accepted edits are written to, each when it was accepted; if the file exists, its edits are made first. A list
-    of another stream is refused, unless `anyway` is true. `resume` is the list of a session that ended, with which this one goes on.
-    `timeout` is the number of seconds that a call may take, if it gives none of its own. With `explain` the program says why it refuses
-    a request, in `Refused.reason`.
+    `edits` is a file that the accepted edits are written to, each when it was accepted; if the file exists, its edits
+    are made first. A list of another stream is refused, unless `anyway` is true. `resume` is the list of a session that
+    ended, with which this one goes on. `timeout` is the number of seconds that a call may take, if it gives none of its
+    own. With `explain` the program says why it refuses a request, in `Refused.reason`.
 
-    `engine` is "library" or "program". With the library there is no program: the same proved code answers in this process, from
-    `libwokureti.so.0`, without a pipe; a call that takes too long is left to its thread, and the session is over. The program is a process of its
-    own, which can be ended. Where nothing is said, here or in the variable WOKURETI_ENGINE, it is the library where one of this version is found, and the
-    program where `program` or the variable VP8SERVE names one. `session.engine` is what was taken.
+    `engine` is "library" or "program". With the library there is no program: the same proved code answers in this
+    process, from `libwokureti.so.0`, without a pipe; a call that takes too long is left to its thread, and the session
+    is over. The program is a process of its own, which can be ended. Where nothing is said, here or in the variable
+    WOKURETI_ENGINE, it is the library where one of this version is found, and the program where `program` or the
+    variable VP8SERVE names one. `session.engine` is what was taken.
 
-    Threads may share a session: a call waits until the one before it has its reply and its picture. What leaves a call in the middle, as
-    an exception of a signal's handler, or a call that takes too long, ends the session, since the reply would be taken for the next
-    one's. From then on each call raises `Ended`. A session that is not closed ends when it is collected, and when Python ends; nothing
-    is saved then. In a forked child it is over, and lives on in the parent.
+    Threads may share a session: a call waits until the one before it has its reply and its picture. What leaves a call
+    in the middle, as an exception of a signal's handler, or a call that takes too long, ends the session, since the
+    reply would be taken for the next one's. From then on each call raises `Ended`. A session that is not closed ends
+    when it is collected, and when Python ends; nothing is saved then. In a forked child it is over, and lives on in the
+    parent.
     """
 
     def __init__(
@@ -97,6 +106,8 @@ class Session:
         self._timeout = timeout
         self._explain = explain
         self._lines = 0
+        # The number of edits that were asked for.
+        self._changes = 0
         self._edits = None
         # The new file of a save, while the program runs.
         self._unfinished = None
@@ -105,13 +116,23 @@ class Session:
         if edits is not None and resume is None:
             sources = named.with_named(sources, edits)
         self._settings = (program or programs.find("vp8serve"), lister or programs.find("vp8list"), tables)
-        self._inputs = Inputs([checks.stream(stream), *checks.sources(sources)], self._settings[:2], lambda: self.engine == "program" or reads_webm())
+        self._inputs = Inputs(
+            [checks.stream(stream), *checks.sources(sources)],
+            self._settings[:2],
+            lambda: self.engine == "program" or reads_webm(),
+        )
         try:
             words = self._words(cache, cache_bytes, tables, save, pad)
             if edits is not None:
-                checks.outputs(edits, [*self._inputs.paths, *(path for path in (save, tables) if path is not None)], "edits")
+                checks.outputs(
+                    edits, [*self._inputs.paths, *(path for path in (save, tables) if path is not None)], "edits"
+                )
             self._edits = EditList(self, edits, anyway)
-            self._pipes = Pipes(words, self._inputs.shared) if self.engine == "program" else self._library(cache, cache_bytes, tables, save, pad)
+            self._pipes = (
+                Pipes(words, self._inputs.shared)
+                if self.engine == "program"
+                else self._library(cache, cache_bytes, tables, save, pad)
+            )
         except Ended as ended:
             error = self._opening_error(ended)
             self._close_files()
@@ -121,7 +142,8 @@ class Session:
             raise
         try:
             # The reply comes once the files were read, so a file that is not IVF is reported here.
-            self._first_request()
+            with self._reading():
+                self._first_request()
             if save is not None and self.engine == "program":
                 rooms.sweep()
                 self._unfinished = rooms.Unfinished(self._pipes.process.pid, save)
@@ -131,13 +153,20 @@ class Session:
             self.kill()
             raise
 
-    def _first_request(self):
+    def _reading(self) -> ContextManager[Any]:
+        """Shows how much of the files the program has read; the library was given their bytes."""
+        if self.engine != "program":
+            return contextlib.nullcontext()
+        paths = [(containers.name_of(path), word) for path, word in zip(self._inputs.paths, self._inputs.words)]
+        return Reading(of_program(self._pipes.process.pid, paths, self._inputs.shared))
+
+    def _first_request(self) -> None:
         try:
             self.request("stats")
         except Ended as ended:
             raise self._opening_error(ended) from None
 
-    def _opening_error(self, ended):
+    def _opening_error(self, ended: Ended) -> Ended:
         """Why a session ended before it began: `NotVideo` with the name of the file, if one is no stream."""
         found = NO_STREAM.fullmatch(ended.text)
         if found is None:
@@ -147,12 +176,19 @@ class Session:
             with open(path, "rb") as file:
                 ivf.parse_head(file.read(ivf.HEAD.size))
             return ended
-        except ivf.NotIvf as error:
+        except NotIvf as error:
             return NotVideo(ended.status, looks.sentence(path, path, error))
         except OSError:
             return ended
 
-    def _words(self, cache, cache_bytes, tables, save, pad):
+    def _words(
+        self,
+        cache: Optional[int],
+        cache_bytes: Optional[int],
+        tables: Optional[AnyPath],
+        save: Optional[AnyPath],
+        pad: bool,
+    ) -> list[str]:
         """The command line of the program."""
         streams = self._inputs.words
         words = [self._settings[0], streams[0], "-", "{frames}", "--live"]
@@ -160,7 +196,10 @@ class Session:
             words += ["--sources", system.SEPARATOR.join(streams[1:])]
         if save is not None:
             if muxing.ending_of(save) is not None:
-                raise ValueError(f"save= is an IVF file, which the program writes: {os.fsdecode(save)!r} is written by session.save()")
+                raise ValueError(
+                    f"save= is an IVF file, which the program writes: {os.fsdecode(save)!r} is written by"
+                    " session.save()"
+                )
             checks.outputs(save, [*self._inputs.paths, *([] if tables is None else [tables])], "save")
             words += ["--save", checks.path(save)]
         if tables is not None:
@@ -171,25 +210,47 @@ class Session:
             words += ["--cache-bytes", str(checks.number(MOST_CACHED if cache_bytes is None else cache_bytes))]
         return words + ["--pad"] * bool(pad) + ["--explain"] * bool(self._explain)
 
-    def _library(self, cache, cache_bytes, tables, save, pad):
+    def _library(
+        self,
+        cache: Optional[int],
+        cache_bytes: Optional[int],
+        tables: Optional[AnyPath],
+        save: Optional[AnyPath],
+        pad: bool,
+    ) -> Library:
         """The session in this process, over the bytes of the files as they were opened."""
         if cache is not None and cache_bytes is not None:
             raise ValueError("either cache or cache_bytes is given, not both")
         try:
             files = [self._whole(item.path, lambda item=item: item.whole(MOST_FILE + 1)) for item in self._inputs.all]
             long_tables = b"" if tables is None else self._whole(tables, pathlib.Path(os.fsdecode(tables)).read_bytes)
-            if save is not None and not os.path.exists(save) and not os.access(os.path.dirname(os.path.realpath(save)), os.W_OK | os.X_OK):
+            if (
+                save is not None
+                and not os.path.exists(save)
+                and not os.access(os.path.dirname(os.path.realpath(save)), os.W_OK | os.X_OK)
+            ):
                 raise Gone(f"cannot write {os.fsdecode(save)}")
             states = None if cache is None else checks.states(cache)
             most_bytes = checks.number(MOST_CACHED if cache_bytes is None else cache_bytes) if cache is None else None
             rate = None if self._inputs.all[0].facts is None else self._inputs.all[0].frame_rate
-            return Library(files, states, most_bytes, long_tables, None if save is None else checks.path(save), pad, self._explain, rate)
+            return Library(
+                files,
+                states,
+                most_bytes,
+                long_tables,
+                None if save is None else checks.path(save),
+                pad,
+                self._explain,
+                rate,
+            )
         except Gone as error:
             raise Ended(1, f"libwokureti: {error}") from None
 
     @staticmethod
-    def _whole(path, read):
-        """The bytes of a file, as a program reads it whole. `Gone` if it cannot be read, or has more bytes than a program takes."""
+    def _whole(path: AnyPath, read: Callable[[], bytes]) -> bytes:
+        """The bytes of a file, as a program reads it whole. `Gone` if it cannot be read, or has more bytes than a
+        program takes.
+        """
         try:
             found = read()
         except OSError:
@@ -198,7 +259,7 @@ class Session:
             raise Gone(f"{os.fsdecode(path)} is too long")
         return found
 
-    def _close_files(self):
+    def _close_files(self) -> None:
         if self._edits is not None:
             self._edits.close()
         self._inputs.close()
@@ -242,40 +303,44 @@ class Session:
             if self._ended is None:
                 self._end("the session was ended")
 
-    def _end(self, text):
+    def _end(self, text: str) -> None:
         """Ends the program, which is in the middle of something, for this reason."""
         self._pipes.kill()
         status, said = self._pipes.collect()
         self._over(status, text)
 
-    def _over(self, status, text):
+    def _over(self, status: Optional[int], text: str) -> None:
         self._ended = (status, text)
         self._pending = None
         if self._unfinished is not None:
             self._unfinished.clear()
         self._close_files()
 
-    def _error(self):
+    def _error(self) -> Ended:
         return Ended(*self._ended)
 
-    def _locked(self, timeout):
+    def _locked(self, timeout: Optional[float]) -> _Turn:
         if not self._pipes.owner_is_here():
             # The lock may be held by a thread that is not in this process.
             raise Ended(None, "the session belongs to the process that opened it")
         return _Turn(self._lock, self._timeout if timeout is None else timeout)
 
     def request(self, line: str, timeout: Optional[float] = None, listed: bool = True) -> str:
-        """The reply to a request line, without its newline: one line, or `lines K` and K lines. A picture that it serves is dropped.
+        """The reply to a request line, without its newline: one line, or `lines K` and K lines. A picture that it
+        serves is dropped.
 
-        `Refused` if the reply is a refusal, `Ended` if the session is over. An edit that is not `listed` is not in the list of edits.
+        `Refused` if the reply is a refusal, `Ended` if the session is over. An edit that is not `listed` is not in the
+        list of edits.
         """
         reply, _ = self._ask(line, timeout, listed)
         return reply
 
-    def request_all(self, lines: Iterable[str], timeout: Optional[float] = None, progress: Optional[Callable[[int], None]] = None) -> list[Union[str, Refused]]:
-        """The replies to edits, which are not listed, and to questions between them. Many are sent together, so a reply may be a refusal, as an exception
-        in the list: after one of an edit those that were sent with it are made, and those after them are not. `progress` is called with how many lines
-        were answered."""
+    def request_all(
+        self, lines: Iterable[str], timeout: Optional[float] = None, progress: Optional[Callable[[int], None]] = None
+    ) -> list[Union[str, Refused]]:
+        """The replies to edits, which are not listed, and to questions between them. Many are sent together, so a reply
+        may be a refusal, as an exception in the list: after one of an edit those that were sent with it are made, and
+        those after them are not. `progress` is called with how many lines were answered."""
         replies = []
         for batch in batches(lines):
             with self._locked(timeout) as deadline:
@@ -305,7 +370,9 @@ class Session:
         # What the edit loses is asked for, so that it can be taken back.
         with self._locked(timeout) as deadline:
             question = self._edits.question(line) if is_known and listed and not self._ended else None
-            *answers, (reply, picture) = self._exchange(*([] if question is None else [question.encode()]), text, deadline=deadline)
+            *answers, (reply, picture) = self._exchange(
+                *([] if question is None else [question.encode()]), text, deadline=deadline
+            )
             if is_refusal(reply):
                 raise self._refused(reply, self._lines, deadline)
             if is_known:
@@ -316,7 +383,9 @@ class Session:
             return reply, picture
 
     def _exchange(self, *lines, deadline):
-        """Writes lines and reads their replies. Whatever leaves this in the middle ends the session, which then names the last line."""
+        """Writes lines and reads their replies. Whatever leaves this in the middle ends the session, which then names
+        the last line.
+        """
         if self._ended:
             raise self._error()
         if self._pending is not None:
@@ -325,6 +394,7 @@ class Session:
         self._pending = shown = _shown(lines[-1])
         try:
             self._lines += len(lines)
+            self._changes += sum(line.lstrip(b" ").partition(b" ")[0] in CHANGES for line in lines)
             found = self._pipes.exchange([line + b"\n" for line in lines], deadline)
             for line, (reply, _) in zip(lines, found):
                 if not is_reply(reply, line):
@@ -345,22 +415,34 @@ class Session:
         return found
 
     def _refused(self, reply, number, deadline):
-        """The exception of the refusal of line `number`. The reply to another request says that its explanation was written."""
+        """The exception of the refusal of line `number`. The reply to another request says that its explanation was
+        written.
+        """
         if not self._explain:
             return Refused(reply)
         self._exchange(b"stats", deadline=deadline)
         return Refused(reply, self._pipes.explanation(number))
 
     def ask(self, question: str, source: Optional[int] = None, timeout: Optional[float] = None) -> str:
-        """The reply to a question about the packets of a source, without its newline. The current source stays as it is, also if the question is refused."""
+        """The reply to a question about the packets of a source, without its newline. The current source stays as it
+        is, also if the question is refused.
+        """
         return self.ask_all([question], source, timeout)[0]
 
-    def ask_all(self, questions: Iterable[str], source: Optional[int] = None, timeout: Optional[float] = None) -> list[str]:
-        """The replies to several questions about the packets of a source, of which many are sent together. The first one that is refused raises `Refused`."""
+    def ask_all(
+        self, questions: Iterable[str], source: Optional[int] = None, timeout: Optional[float] = None
+    ) -> list[str]:
+        """The replies to several questions about the packets of a source, of which many are sent together. The first
+        one that is refused raises `Refused`.
+        """
         replies = []
         with self._locked(timeout) as deadline:
             current = self._edits.current
-            there, back = ([], []) if source in (None, current) else ([f"use {checks.number(source)}".encode()], [f"use {current}".encode()])
+            there, back = (
+                ([], [])
+                if source in (None, current)
+                else ([f"use {checks.number(source)}".encode()], [f"use {current}".encode()])
+            )
             for batch in batches(questions):
                 found = self._exchange(*there, *map(checks.question, batch), *back, deadline=deadline)
                 if there and is_refusal(found[0][0]):
@@ -381,14 +463,37 @@ class Session:
 
     def frame(self, number: int, timeout: Optional[float] = None) -> Frame:
         """Frame `number` of the current stream."""
-        return frame_of(checks.number(number), *self.picture(number, timeout))
+        with self._locked(timeout):
+            return frame_of(checks.number(number), *self.picture(number, timeout), self._times_of(number))
+
+    def _times_of(self, number):
+        """What finds the times of a frame, as long as the session is as it is now."""
+        this, changes = weakref.ref(self), self._changes
+
+        def found():
+            session = this()
+            if session is None:
+                return None
+            with session._locked(None):
+                return None if session._ended or session._changes != changes else session._times(number)
+
+        return found
+
+    def _times(self, number):
+        """The times of a frame of the current script: those of its packet, in the time base of its source."""
+        [origin] = objects_of(self.ask(f"origins {number} 1"))
+        contents, source = self._edits.contents(), origin["source"]
+        packet = contents.streams[source][origin["packet"]]
+        rate, scale = times.base_of(self._inputs.all[source].head)
+        return Times(contents.stamp(packet), contents.duration(packet, source), rate, scale)
 
     def picture(self, number: int, timeout: Optional[float] = None) -> tuple[int, int, memoryview]:
         """The width, height and samples of a frame, the samples of the three planes one after the other."""
         return self._ask(f"frame {checks.number(number)}", timeout)[1]
 
     def pictures(self, numbers: Iterable[int], timeout: Optional[float] = None) -> list[tuple[int, int, memoryview]]:
-        """The pictures of several frames, as `picture` has them. All are asked for before the first is read, so the program never waits.
+        """The pictures of several frames, as `picture` has them. All are asked for before the first is read, so the
+        program never waits.
 
         The first one that is refused raises `Refused`.
         """
@@ -419,17 +524,23 @@ class Session:
         return self.frames()
 
     @overload
-    def __getitem__(self, number: int) -> Frame: ...
+    def __getitem__(self, number: int) -> Frame:
+        ...
 
     @overload
-    def __getitem__(self, number: slice) -> list[Frame]: ...
+    def __getitem__(self, number: slice) -> list[Frame]:
+        ...
 
     def __getitem__(self, number: Union[int, slice]) -> Union[Frame, list[Frame]]:
         """A frame, from the end if its number is negative, or those of a slice. `IndexError` if there is none."""
         count = self.count().frames
         if isinstance(number, slice):
             numbers = range(count)[number]
-            return [frame_of(one, *picture) for one, picture in zip(numbers, self.pictures(numbers))]
+            with self._locked(None):
+                return [
+                    frame_of(one, *picture, self._times_of(one))
+                    for one, picture in zip(numbers, self.pictures(numbers))
+                ]
         place = operator.index(number)
         if not -count <= place < count:
             raise IndexError(f"there is no frame {place}: the script serves {count} frames")
@@ -464,7 +575,9 @@ class Session:
         return self._number(f"replace {checks.number(at)} {checks.hexadecimal(data)}", timeout)
 
     def delete(self, at: Union[int, range], timeout: Optional[float] = None) -> int:
-        """Deletes a packet, or those of a range of indexes, which is one step for `undo`. If one is refused, none is deleted."""
+        """Deletes a packet, or those of a range of indexes, which is one step for `undo`. If one is refused, none is
+        deleted.
+        """
         # The last one comes first, so the others keep their indexes.
         lines = [f"delete {index}" for index in checks.indexes(at)]
         if not lines:
@@ -497,7 +610,9 @@ class Session:
         return self._number(f"show {checks.number(at)}", timeout)
 
     def script(self, *nodes: Union[str, Script], timeout: Optional[float] = None) -> int:
-        """Sets the script: a `Script`, or a text for each node, as `script("trim 0 0 50", "fade 1 25 25 256 0")`; none: no script."""
+        """Sets the script: a `Script`, or a text for each node, as `script("trim 0 0 50", "fade 1 25 25 256 0")`; none:
+        no script.
+        """
         return self._number("script " + ("; ".join(map(checks.node, nodes)) or "-"), timeout)
 
     def count(self, timeout: Optional[float] = None) -> Count:
@@ -525,47 +640,57 @@ class Session:
             return self._edits.redo(timeout)
 
     def read_indexes(self) -> None:
-        """Reads where the packets of the files are. No request waits for it meanwhile, and what needs it later is answered sooner."""
+        """Reads where the packets of the files are. No request waits for it meanwhile, and what needs it later is
+        answered sooner.
+        """
         for item in self._inputs.all:
             item.records()
 
     def list_packets(self, first: int, count: int, timeout: Optional[float] = None) -> list[dict[str, Any]]:
-        """The facts of at most `count` packets of the current source, starting at index `first`, as `vp8list --json` has them of the file that they are
-        saved to: a dictionary for each. `first` may be the number of packets."""
+        """The facts of at most `count` packets of the current source, starting at index `first`, as `vp8list --json`
+        has them of the file that they are saved to: a dictionary for each. `first` may be the number of packets."""
         return objects_of(self.request(f"list {checks.number(first)} {checks.number(count)}", timeout))
 
     def origins(self, first: int, count: int, timeout: Optional[float] = None) -> list[dict[str, Any]]:
-        """Where at most `count` frames of the current script come from, starting at frame `first`: a dictionary for each, with the source, its frame,
-        the packet, and the numbers of the nodes that change its samples."""
+        """Where at most `count` frames of the current script come from, starting at frame `first`: a dictionary for
+        each, with the source, its frame, the packet, and the numbers of the nodes that change its samples."""
         return objects_of(self.request(f"origins {checks.number(first)} {checks.number(count)}", timeout))
 
     def packet_header(self, index: int, timeout: Optional[float] = None) -> list[dict[str, Any]]:
-        """The header of a packet of the current source, as `vp8list --header --json` has it of the file that the packets are saved to: a dictionary of its
-        fields, and one for each probability that it changes. Of a packet that decoding refuses one dictionary with `refused` and `cause`, of one
-        of no bytes one with `repeats`."""
+        """The header of a packet of the current source, as `vp8list --header --json` has it of the file that the
+        packets are saved to: a dictionary of its fields, and one for each probability that it changes. Of a packet that
+        decoding refuses one dictionary with `refused` and `cause`, of one of no bytes one with `repeats`."""
         return objects_of(self.request(f"header {checks.number(index)}", timeout))
 
     def macroblocks(self, index: int, timeout: Optional[float] = None) -> list[dict[str, Any]]:
-        """The macroblocks of a packet of the current source, as `vp8list --macroblocks --json` has them: a dictionary for each, or one as `packet_header` has it."""
+        """The macroblocks of a packet of the current source, as `vp8list --macroblocks --json` has them: a dictionary
+        for each, or one as `packet_header` has it.
+        """
         return objects_of(self.request(f"macroblocks {checks.number(index)}", timeout))
 
     def packet(self, index: int, source: Optional[int] = None) -> bytes:
-        """The bytes of a packet of the current source, or of another one. `OSError` if a file was changed since the session was opened."""
+        """The bytes of a packet of the current source, or of another one. `OSError` if a file was changed since the
+        session was opened.
+        """
         with self._locked(None):
             contents = self._edits.contents()
             self._inputs.all[contents.source(source)].check()
             return contents.packet(index, source).data
 
     def packets(self, numbers: Optional[Iterable[int]] = None, source: Optional[int] = None) -> list[dict[str, Any]]:
-        """The facts of the packets of a range, or of all, of the current source or another one, as `list_packets` has them. Those that do not exist are
-        left out."""
+        """The facts of the packets of a range, or of all, of the current source or another one, as `list_packets` has
+        them. Those that do not exist are left out."""
         wanted = range(MOST_PACKETS) if numbers is None else [number for number in numbers if number >= 0]
         if not wanted:
             return []
         first, end = (0, MOST_PACKETS) if numbers is None else (min(wanted), max(wanted) + 1)
         with self._locked(None):
             try:
-                found = objects_of(self.ask(f"list {first} {end - first}", None if source is None else self._edits.contents().source(source)))
+                found = objects_of(
+                    self.ask(
+                        f"list {first} {end - first}", None if source is None else self._edits.contents().source(source)
+                    )
+                )
             except Refused:
                 # Only an index past the end is refused.
                 found = []
@@ -573,8 +698,8 @@ class Session:
 
     @property
     def rate(self) -> tuple[int, int]:
-        """The frames a second of the frames that are served, as a pair: rate and scale of source 0, or 30 and 1 if either is 0, over the median
-        step of its time stamps."""
+        """The frames a second of the frames that are served, as a pair: rate and scale of source 0, or 30 and 1 if
+        either is 0, over the median step of its time stamps."""
         with self._locked(None):
             return self._edits.contents().rate
 
@@ -589,31 +714,48 @@ class Session:
         return self._pipes.reader.frame_size
 
     def shown_kinds(self) -> Optional[list[str]]:
-        """For each shown packet of source 0 `key` or `inter`: those of the frames, if there is no script. None if there is one."""
+        """For each shown packet of source 0 `key` or `inter`: those of the frames, if there is no script. None if there
+        is one.
+        """
         with self._locked(None):
             contents = self._edits.contents()
             return contents.shown_kinds(0) if contents.script == "-" else None
 
-    def save(self, path: AnyPath, pad: bool = False, source: int = 0, restamp: bool = False, sound: Optional[str] = None, say: Callable[[str], None] = say) -> None:
-        """Writes the current packets of a source as an IVF file now, as `--save` does at the end; with `restamp` with new time stamps, by which each
-        shown packet stays as long as in its file.
+    def save(
+        self,
+        path: AnyPath,
+        pad: bool = False,
+        source: int = 0,
+        restamp: bool = False,
+        sound: Optional[str] = None,
+        say: Callable[[str], None] = say,
+    ) -> None:
+        """Writes the current packets of a source as an IVF file now, as `--save` does at the end; with `restamp` with
+        new time stamps, by which each shown packet stays as long as in its file.
 
-        If the path ends in `.webm` or `.mkv`, the time stamps are new ones, and the sound of the files is cut with the packets: `sound` is `copy`,
-        `encode` or `none`; without it packets of sound are copied where that is exact, else coded again. `ValueError` if it cannot be done.
-        `say` is called with sentences about it."""
+        If the path ends in `.webm` or `.mkv`, the time stamps are new ones, and the sound of the files is cut with the
+        packets: `sound` is `copy`, `encode` or `none`; without it packets of sound are copied where that is exact, else
+        coded again. `ValueError` if it cannot be done. `say` is called with sentences about it."""
         with self._locked(None) as deadline:
             contents = self._edits.contents()
             number = contents.source(source)
             knows_times = not restamp or self._knows_durations()
-            if self._makes_files() and knows_times and muxing.ending_of(path) is None and self._inputs.all[number].media is None:
+            if (
+                self._makes_files()
+                and knows_times
+                and muxing.ending_of(path) is None
+                and self._inputs.all[number].media is None
+            ):
                 contents.check_output(path)
                 files.write_whole(path, [self._file(lambda: self._pipes.saved(pad, number, restamp, deadline))])
             else:
                 contents.save(path, pad, number, restamp, sound, say)
 
     def export(self, path: AnyPath, pad: bool = False, timeout: Optional[float] = None) -> None:
-        """Writes the frames of the current script as an IVF file now, as `vp8serve --export` does: without coding again. `Unexported` if a frame is
-        refused, or if the script changes samples of one. With `pad` players that use libvpx show packets that repeat a frame."""
+        """Writes the frames of the current script as an IVF file now, as `vp8serve --export` does: without coding
+        again. `Unexported` if a frame is refused, or if the script changes samples of one. With `pad` players that use
+        libvpx show packets that repeat a frame.
+        """
         with self._locked(timeout) as deadline:
             contents = self._edits.contents()
             contents.check_output(path)
@@ -624,7 +766,7 @@ class Session:
 
     def _makes_files(self):
         """Whether the engine makes the files of packets and of frames."""
-        return not self._ended and isinstance(self._pipes, Library) and self._pipes.has_files
+        return not self._ended and isinstance(self._pipes, Library)
 
     def _knows_durations(self):
         """Whether the engine has the durations of all packets: one that `undo` inserted again is a new packet there."""
@@ -658,7 +800,7 @@ class _Turn:
         self.lock = lock
         self.timeout = timeout
 
-    def __enter__(self):
+    def __enter__(self) -> Optional[float]:
         if self.timeout is None:
             self.lock.acquire()
             return None
@@ -667,11 +809,11 @@ class _Turn:
             raise TimeoutError("another request has the session; nothing was sent")
         return deadline
 
-    def __exit__(self, kind, value, trace):
+    def __exit__(self, kind: object, value: object, trace: object) -> None:
         self.lock.release()
 
 
-def batches(lines):
+def batches(lines: Iterable[str]) -> Iterator[list[str]]:
     """Request lines in groups that are sent together."""
     batch, size = [], 0
     for line in lines:
@@ -684,12 +826,12 @@ def batches(lines):
         yield batch
 
 
-def is_reply(reply, line):
+def is_reply(reply: str, line: bytes) -> bool:
     """Whether a reply may be that of a line: a refusal, or one that begins as this request's does."""
     return is_refusal(reply) or first_word(reply) == begins_reply(line.decode(errors="replace"))
 
 
-def _shown(text):
+def _shown(text: bytes) -> str:
     """A request as a message shows it."""
     shown = text.decode(errors="replace")
     return f"`{shown[:80]}..`" if len(shown) > 80 else f"`{shown}`"

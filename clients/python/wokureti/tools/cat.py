@@ -1,4 +1,5 @@
-"""wokureti cat: all frames of a stream as one YUV4MPEG2 text, byte for byte as one vp8serve writes it, decoded by several processes.
+"""wokureti cat: all frames of a stream as one YUV4MPEG2 text, byte for byte as one vp8serve writes it, decoded by
+several processes.
 
 The parts are joined in order as they come, so the output may be a pipe.
 """
@@ -12,23 +13,18 @@ import tempfile
 import threading
 
 from .. import system
-from . import files, paces, parts, programs, rooms, waits
-from ..server import virtual
-from ..session import checks
-from ..session.errors import Ended, Refused, sentence
-from ..session.frames import MARK, parse_header
+from ..errors import Ended, Failed, Refused, sentence
+from ..base import checks, files, programs, rooms, waits
+from ..base.progress import Progress, say
+from ..media.y4m import MARK, header_of, parse_header
 from ..session.outcomes import Outcomes
-from .progress import Progress, say
+from . import paces, parts
 
 
 # Bytes of frames that are in the folder for temporary files, at most: those of one part may be more.
 MOST_HELD = 1 << 30
 # Bytes that must be free there, else it is called full.
 LEAST_FREE = 1 << 20
-
-
-class Failed(Exception):
-    """The text could not be made; the message says why."""
 
 
 def run_part(room, number, program, tables, started):
@@ -47,7 +43,9 @@ def if_full(folder):
     """What a message says more if the folder for temporary files is full."""
     if not system.is_full(folder, LEAST_FREE):
         return ""
-    return f". The folder for temporary files, {os.path.dirname(folder)}, is full: name another one in the variable TMPDIR"
+    return (
+        f". The folder for temporary files, {os.path.dirname(folder)}, is full: name another one in the variable TMPDIR"
+    )
 
 
 class Here:
@@ -143,7 +141,9 @@ def open_session(stream, sources, edits, script, tables, program, anyway=False):
     """A session with the edits of a list and a script, for finding out what the parts are."""
     from ..session.session import Session
 
-    session = Session(stream, sources=sources, tables=tables, program=program, anyway=anyway, explain=script is not None)
+    session = Session(
+        stream, sources=sources, tables=tables, program=program, anyway=anyway, explain=script is not None
+    )
     try:
         if edits is not None:
             session.edits.run(edits)
@@ -174,7 +174,9 @@ def is_stdout(path):
 
 
 def output(path):
-    """A file to write to. Standard output is opened again: with PYTHONUNBUFFERED sys.stdout may write a part of what it is given."""
+    """A file to write to. Standard output is opened again: with PYTHONUNBUFFERED sys.stdout may write a part of what it
+    is given.
+    """
     return open(os.dup(1), "wb") if path == "-" else files.whole(path)
 
 
@@ -210,7 +212,9 @@ def write(session, out, workers, name="frames"):
 
 
 def size_runs(session):
-    """The frames of one size that follow each other: sizes, with the first frame and the one after the last. Those that are refused go with those before."""
+    """The frames of one size that follow each other: sizes, with the first frame and the one after the last. Those that
+    are refused go with those before.
+    """
     found = []
     for end, (count, outcome) in zip(*with_ends(Outcomes(session))):
         if not isinstance(outcome, str) and (not found or found[-1][0] != outcome):
@@ -229,7 +233,10 @@ def sizes_text(runs):
     left = sum(end - first for size, first, end in runs if size != runs[0][0])
     names = ", ".join(f"frames {first:,} to {end - 1:,} are {size[0]}x{size[1]}" for size, first, end in runs[:3])
     more = f", and {len(runs) - 3:,} changes follow" if len(runs) > 3 else ""
-    return f"the size of the frames changes: {names}{more}. A YUV4MPEG2 file has one size, so {left:,} frames are left out; --per-size writes a file for each size"
+    return (
+        f"the size of the frames changes: {names}{more}. A YUV4MPEG2 file has one size, so {left:,} frames are left"
+        " out; --per-size writes a file for each size"
+    )
 
 
 def names_of_sizes(out, runs):
@@ -244,8 +251,8 @@ def names_of_sizes(out, runs):
 
 
 def write_sizes(open_session, runs, outs, workers_of):
-    """Writes a file for the frames of each size, and says which. Returns the refusals, with the numbers that the frames have in the stream. A session serves
-    frames of one size, so each file has its own."""
+    """Writes a file for the frames of each size, and says which. Returns the refusals, with the numbers that the frames
+    have in the stream. A session serves frames of one size, so each file has its own."""
     refusals = []
     for out, (_, first, end) in zip(outs, runs):
         with open_session() as session:
@@ -263,7 +270,9 @@ def shifted(line, first):
 
 
 def write_constant(session, out):
-    """Writes the frames of a session at its rate: one whose time is not nearest to any step is left out, others are repeated. The exit status."""
+    """Writes the frames of a session at its rate: one whose time is not nearest to any step is left out, others are
+    repeated. The exit status.
+    """
     contents = session.edits.contents()
     order = paces.constant(paces.begins(contents), contents.rate)
     number, refused = parts.first_frame(session)
@@ -277,7 +286,7 @@ def write_constant(session, out):
                 except Refused as error:
                     refusals.setdefault(frame, error.reply)
             if not turn:
-                file.write(virtual.header_of(parse_header(session.header), contents.rate))
+                file.write(header_of(parse_header(session.header), contents.rate))
             if picture is not None:
                 file.write(MARK + picture[2])
             progress.show(turn)
@@ -287,8 +296,10 @@ def write_constant(session, out):
 
 
 def header(session, first):
-    """The first line of the text: that of the program, whose rate is the time base of the file, with the rate of the frames, as `wokureti serve` has it."""
-    return virtual.header_of(parse_header(first.header), session.rate)
+    """The first line of the text: that of the program, whose rate is the time base of the file, with the rate of the
+    frames, as `wokureti serve` has it.
+    """
+    return header_of(parse_header(first.header), session.rate)
 
 
 def here(session, processes, program, tables):
@@ -297,7 +308,11 @@ def here(session, processes, program, tables):
     def workers(room, count):
         contents = session.edits.contents()
         size = room.first.size
-        plan = parts.by_packets(contents, processes, size) if contents.script == "-" else parts.by_frames(count, processes, size)
+        plan = (
+            parts.by_packets(contents, processes, size)
+            if contents.script == "-"
+            else parts.by_frames(count, processes, size)
+        )
         return plan, Here(room, plan, processes, program, tables)
 
     return workers

@@ -1,7 +1,9 @@
-"""wokureti export --code-changed: the frames that a script changes are coded again as VP8, and all others stay the packets that they are.
+"""wokureti export --code-changed: the frames that a script changes are coded again as VP8, and all others stay the
+packets that they are.
 
-The coded frames are a source more, each run of them with a key packet first, and the script that is exported has the parts of all sources one after the other. How good
-they are is measured: they are decoded and compared with what the script serves, and coded again with more bits until each is good enough."""
+The coded frames are a source more, each run of them with a key packet first, and the script that is exported has the
+parts of all sources one after the other. How good they are is measured: they are decoded and compared with what the
+script serves, and coded again with more bits until each is good enough."""
 
 import math
 import operator
@@ -13,8 +15,10 @@ from array import array
 from typing import NamedTuple
 
 from .. import system
-from . import exports, fades, ivf, times
-from ..session.frames import size_of
+from ..errors import Failed
+from ..media import fades, ivf, times
+from ..media.y4m import size_of
+from ..session import exports
 from ..session.origins import runs_of
 
 try:
@@ -29,21 +33,22 @@ ENCODERS = ("ffmpeg", "vpxenc")
 FINEST, COARSEST = 0, 50
 # Tries of which one is the coarsest quantizer that is good enough: each halves what is left.
 MOST_TURNS = (COARSEST + 1 - FINEST).bit_length()
-# Frames of a run that one thread codes, so that the same packets come out on each machine: libvpx makes others with more threads.
+# Frames of a run that one thread codes, so that the same packets come out on each machine: libvpx makes others with
+# more threads.
 FEW = 250
 # Frames that are asked for together.
 TOGETHER = 8
 # Decibels of a frame that is the same.
 BEST = 99.0
-NO_ENCODER = "no encoder of VP8 was found: install ffmpeg (with libvpx), or vpx-tools, which has vpxenc. Nothing was written"
-
-
-class Failed(ValueError):
-    """Frames that cannot be coded as it was asked for."""
+NO_ENCODER = (
+    "no encoder of VP8 was found: install ffmpeg (with libvpx), or vpx-tools, which has vpxenc. Nothing was written"
+)
 
 
 class Piece(NamedTuple):
-    """Frames of the output that follow each other: how many, from which on; and whether they are coded, or come from a source, from one of its frames on."""
+    """Frames of the output that follow each other: how many, from which on; and whether they are coded, or come from a
+    source, from one of its frames on.
+    """
 
     first: int
     count: int
@@ -62,14 +67,19 @@ class Coded(NamedTuple):
 
     def text(self, count):
         mean = sum(self.psnr) / len(self.psnr)
-        return f"{self.frames:,} of {count:,} frames are coded again, in {self.bytes:,} bytes, PSNR {min(self.psnr):.1f} dB at least and {mean:.1f} dB in the mean; all others stay as they are"
+        return (
+            f"{self.frames:,} of {count:,} frames are coded again, in {self.bytes:,} bytes, PSNR"
+            f" {min(self.psnr):.1f} dB at least and {mean:.1f} dB in the mean; all others stay as they are"
+        )
 
 
 # Which frames
 
 
 def pieces_of(found, leads=()):
-    """The pieces of the frames of a script, which are runs as `origins.runs_of` has them. Frames that the script changes are coded, and those in `leads`, ranges."""
+    """The pieces of the frames of a script, which are runs as `origins.runs_of` has them. Frames that the script
+    changes are coded, and those in `leads`, ranges.
+    """
     pieces, first = [], 0
     for run in found:
         for start, end, is_coded in marked(first, first + run.count, leads, bool(run.changed)):
@@ -105,8 +115,9 @@ def add(pieces, piece):
 
 
 class Lead(NamedTuple):
-    """A part that begins between key packets, at frame `first` of the output: an exact cut has so many hidden packets before it, of so many bytes and nanoseconds; or its frames up to
-    `end`, the next key packet, are coded again, of which the packets have `coded_bytes` now."""
+    """A part that begins between key packets, at frame `first` of the output: an exact cut has so many hidden packets
+    before it, of so many bytes and nanoseconds; or its frames up to `end`, the next key packet, are coded again, of
+    which the packets have `coded_bytes` now."""
 
     first: int
     end: int
@@ -121,7 +132,12 @@ def leads_of(contents, found):
     contents.listing.learn()
     leads, first, before = [], 0, None
     for run in found:
-        goes_on = before is not None and before.source == run.source and before.first + before.count == run.first and not before.changed
+        goes_on = (
+            before is not None
+            and before.source == run.source
+            and before.first + before.count == run.first
+            and not before.changed
+        )
         if not run.changed and not goes_on:
             stream = contents.streams[run.source]
             shown = [place for place, number in enumerate(stream) if contents.is_shown(number)]
@@ -129,8 +145,17 @@ def leads_of(contents, found):
             while begin and not contents.has_key_tag(stream[begin]):
                 begin -= 1
             if begin < place:
-                end = next((number for number in range(run.first, run.first + run.count) if contents.has_key_tag(stream[shown[number]])), run.first + run.count)
-                leads.append(lead_of(contents, run.source, (first, first + end - run.first), (begin, place, shown[end - 1] + 1)))
+                end = next(
+                    (
+                        number
+                        for number in range(run.first, run.first + run.count)
+                        if contents.has_key_tag(stream[shown[number]])
+                    ),
+                    run.first + run.count,
+                )
+                leads.append(
+                    lead_of(contents, run.source, (first, first + end - run.first), (begin, place, shown[end - 1] + 1))
+                )
         first, before = first + run.count, run
     return leads
 
@@ -138,7 +163,9 @@ def leads_of(contents, found):
 def lead_of(contents, source, frames, places):
     """A lead, of its frames and of the places of its key packet, of its first shown packet, and after its last one."""
     stream, (begin, place, after) = contents.streams[source], places
-    hidden, coded = (sum(contents.size(number) for number in stream[one:other]) for one, other in ((begin, place), (place, after)))
+    hidden, coded = (
+        sum(contents.size(number) for number in stream[one:other]) for one, other in ((begin, place), (place, after))
+    )
     numbers = [number for number in stream[begin:place] if contents.is_shown(number)]
     length = times.nano(sum(contents.durations(source, numbers)), contents.inputs.all[source].head)
     return Lead(*frames, place - begin, hidden, length, coded)
@@ -157,7 +184,9 @@ def script_of(pieces, coded, program):
         source, start = (coded, place) if piece.is_coded else (piece.source, piece.start)
         place += piece.count if piece.is_coded else 0
         triples.append((number[source], start, piece.count))
-    return exports.known("; ".join([*nodes, "parts " + " ".join(f"{node} {start} {count}" for node, start, count in triples)]), program)
+    return exports.known(
+        "; ".join([*nodes, "parts " + " ".join(f"{node} {start} {count}" for node, start, count in triples)]), program
+    )
 
 
 # Coding
@@ -172,22 +201,78 @@ def encoder():
 
 
 def encode(name, frames, out, quantizer, threads, watch):
-    """Codes a YUV4MPEG2 file as an IVF file, whose packets all have this quantizer of the encoder, 0 to 63. Who watches may end it."""
+    """Codes a YUV4MPEG2 file as an IVF file, whose packets all have this quantizer of the encoder, 0 to 63. Who watches
+    may end it.
+    """
     number = str(quantizer)
     if name == "ffmpeg":
         rates = ["-qmin", number, "-qmax", number, "-b:v", "500M", "-g", "99999", "-keyint_min", "0"]
-        words = ["ffmpeg", "-nostdin", "-v", "error", "-y", "-f", "yuv4mpegpipe", "-i", f"file:{frames}", "-c:v", "libvpx", *rates]
-        words += ["-auto-alt-ref", "0", "-lag-in-frames", "0", "-deadline", "good", "-cpu-used", "1", "-threads", str(threads), "-fps_mode", "passthrough", "-f", "ivf", f"file:{out}"]
+        words = [
+            "ffmpeg",
+            "-nostdin",
+            "-v",
+            "error",
+            "-y",
+            "-f",
+            "yuv4mpegpipe",
+            "-i",
+            f"file:{frames}",
+            "-c:v",
+            "libvpx",
+            *rates,
+        ]
+        words += [
+            "-auto-alt-ref",
+            "0",
+            "-lag-in-frames",
+            "0",
+            "-deadline",
+            "good",
+            "-cpu-used",
+            "1",
+            "-threads",
+            str(threads),
+            "-fps_mode",
+            "passthrough",
+            "-f",
+            "ivf",
+            f"file:{out}",
+        ]
     else:
-        words = ["vpxenc", "--codec=vp8", "--ivf", "--quiet", "--passes=1", "--good", "--cpu-used=1", "--auto-alt-ref=0", "--lag-in-frames=0", "--drop-frame=0", "--disable-warning-prompt"]
-        words += ["--end-usage=vbr", "--target-bitrate=500000", f"--min-q={number}", f"--max-q={number}", "--kf-max-dist=99999", f"--threads={threads}", "-o", out, frames]
+        words = [
+            "vpxenc",
+            "--codec=vp8",
+            "--ivf",
+            "--quiet",
+            "--passes=1",
+            "--good",
+            "--cpu-used=1",
+            "--auto-alt-ref=0",
+            "--lag-in-frames=0",
+            "--drop-frame=0",
+            "--disable-warning-prompt",
+        ]
+        words += [
+            "--end-usage=vbr",
+            "--target-bitrate=500000",
+            f"--min-q={number}",
+            f"--max-q={number}",
+            "--kf-max-dist=99999",
+            f"--threads={threads}",
+            "-o",
+            out,
+            frames,
+        ]
     with tempfile.TemporaryFile() as errors:
         with subprocess.Popen(words, stdin=subprocess.DEVNULL, stdout=subprocess.DEVNULL, stderr=errors) as process:
             exports.await_end(process, name, watch)
         if process.returncode != 0:
             errors.seek(0)
             said = errors.read().decode(errors="replace").strip()
-            raise Failed(f"{name} could not code the frames: {said[-300:]}" + ("; install ffmpeg with libvpx" if "Unknown encoder" in said else ""))
+            raise Failed(
+                f"{name} could not code the frames: {said[-300:]}"
+                + ("; install ffmpeg with libvpx" if "Unknown encoder" in said else "")
+            )
 
 
 def pictures(session, first, count):
@@ -205,7 +290,10 @@ def write_frames(session, piece, path, watch):
                 size = (width, height)
                 file.write(f"YUV4MPEG2 W{width} H{height} F30:1 Ip C420jpeg\n".encode())
             if (width, height) != size:
-                raise Failed(f"frame {number} is {width}x{height} and those before it are {size[0]}x{size[1]}: frames that are coded together have one size")
+                raise Failed(
+                    f"frame {number} is {width}x{height} and those before it are {size[0]}x{size[1]}: frames that are"
+                    " coded together have one size"
+                )
             file.write(b"FRAME\n")
             file.write(samples)
             watch.part(number + 1 - piece.first, piece.count)
@@ -222,7 +310,9 @@ def difference(one, other):
 
 
 def measure(frames, size, session):
-    """The PSNR of each frame that a session serves, over all samples, against the frames of a YUV4MPEG2 file, one after the other."""
+    """The PSNR of each frame that a session serves, over all samples, against the frames of a YUV4MPEG2 file, one after
+    the other.
+    """
     samples = size_of(*size)
     with open(frames, "rb") as file:
         file.readline()
@@ -240,14 +330,18 @@ class Coder:
         self.name, self.packets, self.psnr = encoder(), [], []
 
     def code(self, session, piece):
-        """Codes a piece: with the coarsest quantizer by which each frame is good enough. `Failed` if even the finest one is not."""
+        """Codes a piece: with the coarsest quantizer by which each frame is good enough. `Failed` if even the finest
+        one is not.
+        """
         frames, out = (os.path.join(self.room, name) for name in ("frames.y4m", "coded.ivf"))
         self.watch.stage(f"making {piece.count:,} frames from frame {piece.first:,} on")
         size = write_frames(session, piece, frames, self.watch)
         best, low, high, turn = None, FINEST, COARSEST, 0
         while low <= high:
             quantizer, turn = (low + high) // 2, turn + 1
-            self.watch.stage(f"coding {piece.count:,} frames from frame {piece.first:,} on, try {turn} of {MOST_TURNS} at most")
+            self.watch.stage(
+                f"coding {piece.count:,} frames from frame {piece.first:,} on, try {turn} of {MOST_TURNS} at most"
+            )
             found = self.attempt(frames, size, out, quantizer, piece)
             if min(found[1]) >= self.least:
                 best, low = found, quantizer + 1
@@ -256,7 +350,10 @@ class Coder:
                 least = min(found[1])
         if best is None:
             last = piece.first + piece.count - 1
-            raise Failed(f"frames {piece.first} to {last} cannot be coded with {self.least:g} dB: one of them has {least:.1f} dB with the finest quantizer; --psnr asks for less. Nothing was written")
+            raise Failed(
+                f"frames {piece.first} to {last} cannot be coded with {self.least:g} dB: one of them has {least:.1f} dB"
+                " with the finest quantizer; --psnr asks for less. Nothing was written"
+            )
         os.unlink(frames)
         self.packets += best[0]
         self.psnr += best[1]
@@ -306,7 +403,9 @@ def durations_of(served, contents, pieces):
 
 
 def costs_of(session):
-    """What an export of a session costs: the number of its frames, how many are coded again, what of the script changes them, and the leads."""
+    """What an export of a session costs: the number of its frames, how many are coded again, what of the script changes
+    them, and the leads.
+    """
     contents, found = session.edits.contents(), runs_of(session)
     changed = [run for run in found if run.changed]
     return {
@@ -318,11 +417,14 @@ def costs_of(session):
 
 
 def export(session, open_session, out, how, room):
-    """Writes the frames that a session serves: those that its script changes are coded again, and those of leads, if that is asked for. Returns what was written, and what
-    was coded, None if nothing had to be."""
+    """Writes the frames that a session serves: those that its script changes are coded again, and those of leads, if
+    that is asked for. Returns what was written, and what was coded, None if nothing had to be."""
     contents = session.edits.contents()
     if len(contents.inputs.all) >= exports.MOST_STREAMS:
-        raise Failed(f"{len(contents.inputs.all)} sources are read, and the coded frames are one more: {exports.MOST_STREAMS} are the most; join some first")
+        raise Failed(
+            f"{len(contents.inputs.all)} sources are read, and the coded frames are one more:"
+            f" {exports.MOST_STREAMS} are the most; join some first"
+        )
     found = runs_of(session)
     leads = leads_of(contents, found)
     how.say_leads(leads)
@@ -348,7 +450,9 @@ def export(session, open_session, out, how, room):
 
 
 class How(NamedTuple):
-    """How frames are coded: the least PSNR, whether the frames of leads are, who hears what each way costs, and whether the sound fades with the picture."""
+    """How frames are coded: the least PSNR, whether the frames of leads are, who hears what each way costs, and whether
+    the sound fades with the picture.
+    """
 
     least: float
     codes_leads: bool
@@ -359,5 +463,12 @@ class How(NamedTuple):
         """Says what a part that begins between key packets costs, if it costs much."""
         for lead in leads:
             count = lead.end - lead.first
-            other = f"coded, its first {count:,} frames are new" if self.codes_leads else f"--lead coded codes {count:,} frames in place of them"
-            self.say(f"frame {lead.first} is between key packets: exactly, {lead.packets:,} hidden packets of {lead.bytes:,} bytes come before it; {other}")
+            other = (
+                f"coded, its first {count:,} frames are new"
+                if self.codes_leads
+                else f"--lead coded codes {count:,} frames instead of them"
+            )
+            self.say(
+                f"frame {lead.first} is between key packets: exactly, {lead.packets:,} hidden packets of"
+                f" {lead.bytes:,} bytes come before it; {other}"
+            )

@@ -9,10 +9,12 @@ import shutil
 import sys
 import urllib.request
 
-from . import convert, facts, files, ivf, looks, png, programs, rooms, webm, y4m
-from ..session import checks, records
-from ..session.errors import Ended, Refused
-from ..session.frames import frame_of, sides
+from ..errors import Ended, NoBytes, NotIvf, Refused
+from ..base import checks, files, programs, rooms
+from ..media import facts, ivf, looks, png, webm, y4m
+from ..media.y4m import sides
+from ..session import convert, records
+from ..session.frames import frame_of
 from ..session.inputs import Input
 from ..session.session import Session
 
@@ -65,7 +67,9 @@ def of_stream(path, tables=None):
 
 @contextlib.contextmanager
 def opened(name, folder, tables=None):
-    """The frames of an IVF file, a Y4M file, a container, a URL, or of standard input, and the path of the IVF file, if it is one."""
+    """The frames of an IVF file, a Y4M file, a container, a URL, or of standard input, and the path of the IVF file, if
+    it is one.
+    """
     path = None
     if name.startswith(("http://", "https://")):
         source = urllib.request.urlopen(name, timeout=60)
@@ -97,7 +101,7 @@ def opened(name, folder, tables=None):
             frames = of_stream(ivf_path, tables)
         else:
             look = f": it looks like {looks.of(name)[0]}" if os.path.isfile(name) else ""
-            raise ValueError(f"{name} is no IVF file of VP8, and no YUV4MPEG2 text{look}")
+            raise ValueError(f"{name} is neither an IVF file of VP8 nor a YUV4MPEG2 text{look}")
         with contextlib.closing(frames):
             yield frames, ivf_path
 
@@ -107,7 +111,7 @@ def check_head(path, name):
     try:
         with open(path, "rb") as file:
             ivf.parse_head(file.read(ivf.HEAD.size))
-    except ivf.NotIvf as error:
+    except NotIvf as error:
         raise ValueError(looks.sentence(path, name, error)) from None
 
 
@@ -131,7 +135,9 @@ class Joined:
 
 
 class Plane:
-    """How the planes of two frames differ: the number of samples, the first one, the greatest difference, and the sum of squares."""
+    """How the planes of two frames differ: the number of samples, the first one, the greatest difference, and the sum
+    of squares.
+    """
 
     def __init__(self):
         self.count = self.most = self.squares = self.samples = 0
@@ -177,7 +183,9 @@ def first_column(one, other, width, side):
 
 
 def first_macroblock(one, other):
-    """The column and the row of the first macroblock, in raster order, that differs in two pictures of one size; None if none does."""
+    """The column and the row of the first macroblock, in raster order, that differs in two pictures of one size; None
+    if none does.
+    """
     found, start = [], 0
     for side, (width, height) in zip(BLOCKS, sides(*one[:2])):
         for row in range(0, height, side):
@@ -200,7 +208,7 @@ def record_at(path, frame, macroblock, tables):
         return "no packet shows it"
     try:
         lines = records.of_file(lister, path, "--macroblocks", number, tables)
-    except records.NoBytes:
+    except NoBytes:
         return f"packet {number} has no bytes: it shows the last frame again"
     found = map(json.loads, lines)
     record = next(record for record in found if (record["column"], record["row"]) == macroblock)
@@ -216,7 +224,8 @@ class Comparison:
         self.planes = [Plane() for _ in PLANES]
         self.first = None
         self.pair = None
-        # The first macroblock that differs in the first frame that does, and what it is in the streams that are IVF files.
+        # The first macroblock that differs in the first frame that does, and what it is in the streams that are IVF
+        # files.
         self.macroblock, self.records = None, []
         # Sentences about the files that end in the middle or are damaged.
         self.damage = []
@@ -239,7 +248,12 @@ class Comparison:
             if all(missing):
                 self.same += one.reply == other.reply
             if not all(missing) or one.reply != other.reply:
-                self.part(number, " and ".join(f"{name} has {frame.reply}" for name, frame, lost in zip("AB", (one, other), missing) if lost))
+                self.part(
+                    number,
+                    " and ".join(
+                        f"{name} has {frame.reply}" for name, frame, lost in zip("AB", (one, other), missing) if lost
+                    ),
+                )
             return
         if one[:2] != other[:2]:
             self.part(number, f"A has {one[0]}x{one[1]} samples, B {other[0]}x{other[1]}")
@@ -311,7 +325,11 @@ def difference(one, other):
 def write_pair(folder, number, one, other):
     """Writes the pictures of two frames, and of their difference."""
     os.makedirs(folder, exist_ok=True)
-    texts = {"a": png.of_frame(frame_of(0, *one)), "b": png.of_frame(frame_of(0, *other)), "difference": difference(one, other)}
+    texts = {
+        "a": png.of_frame(frame_of(0, *one)),
+        "b": png.of_frame(frame_of(0, *other)),
+        "difference": difference(one, other),
+    }
     for name, text in texts.items():
         files.write_whole(os.path.join(folder, f"frame-{number}-{name}.png"), [text])
 

@@ -1,10 +1,12 @@
-"""Lists of cuts as LosslessCut has them, CSV: a line for each part that is kept, with its beginning and its end in seconds of the player, and a label. What
-is empty is the beginning or the end of the stream."""
+"""Lists of cuts as LosslessCut has them, CSV: a line for each part that is kept, with its beginning and its end in
+seconds of the player, and a label. What is empty is the beginning or the end of the stream."""
 
 import csv
 import io
 
-from . import exports, times
+from ..errors import Failed
+from ..media import times
+from ..session import exports
 
 MICRO = 1000
 # Bytes of a list, at most.
@@ -18,28 +20,34 @@ def read(path):
 
 
 def parts_of(text, name="the list"):
-    """The same of the text of a list. `exports.Failed` if a line is none of a list."""
+    """The same of the text of a list. `Failed` if a line is none of a list."""
     found = []
     for number, row in enumerate(csv.reader(io.StringIO(text)), 1):
         if not any(cell.strip() for cell in row):
             continue
         if len(row) < 2:
-            raise exports.Failed(f"{name}: line {number} has no `,`: a line has a beginning, an end and a label, in seconds, for example 70.5,842.2,a title")
+            raise Failed(
+                f"{name}: line {number} has no `,`: a line has a beginning, an end and a label, in seconds, for example"
+                " 70.5,842.2,a title"
+            )
         pair = [cell.strip() or None for cell in row[:2]]
         for cell in pair:
             try:
                 if cell is not None:
                     exports.nanoseconds(cell)
-            except exports.Failed:
-                raise exports.Failed(f"{name}: line {number}: {cell!r} is no time: a line has a beginning, an end and a label, in seconds, for example 70.5,842.2,a title") from None
+            except Failed:
+                form = "a line has a beginning, an end and a label, in seconds, for example 70.5,842.2,a title"
+                raise Failed(f"{name}: line {number}: {cell!r} is not a time: {form}") from None
         found.append(tuple(pair))
     if not found:
-        raise exports.Failed(f"{name} has no line with a part")
+        raise Failed(f"{name} has no line with a part")
     return found
 
 
 def text_of(frames, runs):
-    """The list of runs of frames of source 0, triples of a count, the source and the first frame. Read again, it names the same frames."""
+    """The list of runs of frames of source 0, triples of a count, the source and the first frame. Read again, it names
+    the same frames.
+    """
     head, begins, clock = frames.contents.inputs.all[0].head, [], 0
     for _, duration, _ in frames.shown[0]:
         begins.append(times.nano(clock, head))
@@ -49,7 +57,7 @@ def text_of(frames, runs):
     rows = csv.writer(out, lineterminator="\n")
     for count, source, first in runs:
         if source:
-            raise exports.Failed(f"the script shows frames of source {source}, and a list of cuts is of one stream")
+            raise Failed(f"the script shows frames of source {source}, and a list of cuts is of one stream")
         # A time inside the first frame, and one that is not after the beginning of the frame at the end.
         start, end = -(-(begins[first] + delay) // MICRO), (begins[first + count] + delay) // MICRO
         rows.writerow([seconds_text(start), seconds_text(end), ""])

@@ -11,9 +11,12 @@ import xml.etree.ElementTree as xml
 from typing import NamedTuple
 
 from .. import system
-from . import compare, containers, convert, files, rooms, y4m
-from ..session.errors import Ended, sentence
-from ..session.frames import size_of
+from ..errors import Ended, Failed, NotY4m, sentence
+from ..base import files, rooms
+from ..media import containers, y4m
+from ..media.y4m import size_of
+from ..session import convert
+from . import compare
 
 # Seconds that a decoder may take for one stream.
 MOST_TIME = 600
@@ -21,7 +24,9 @@ ENDINGS = (".ivf", ".webm", ".mkv")
 
 
 class Result(NamedTuple):
-    """A stream: its name, what differs, as lines, sentences about the damage of its file, and the seconds that it took."""
+    """A stream: its name, what differs, as lines, sentences about the damage of its file, and the seconds that it
+    took.
+    """
 
     name: str
     lines: list
@@ -37,7 +42,11 @@ def streams_of(path):
     """The streams of a folder and of the folders in it, with their names; or one stream."""
     path = pathlib.Path(path)
     if path.is_dir():
-        return [(str(one.relative_to(path)), one) for one in sorted(path.rglob("*")) if one.suffix.lower() in ENDINGS and one.is_file()]
+        return [
+            (str(one.relative_to(path)), one)
+            for one in sorted(path.rglob("*"))
+            if one.suffix.lower() in ENDINGS and one.is_file()
+        ]
     return [(path.name, path)]
 
 
@@ -57,11 +66,11 @@ def raw_frames(file, sizes):
         samples = y4m.read_exactly(file, size_of(width, height))
         if len(samples) < size_of(width, height):
             if samples:
-                raise y4m.NotY4m("the last frame is cut off")
+                raise NotY4m("the last frame is cut off")
             return
         yield width, height, samples
     if file.read(1):
-        raise y4m.NotY4m("it has more frames than the stream shows")
+        raise NotY4m("it has more frames than the stream shows")
 
 
 def decoded(words, path, folder):
@@ -71,7 +80,9 @@ def decoded(words, path, folder):
     words = [word.replace("{in}", str(path)).replace("{out}", out) for word in words]
     with contextlib.ExitStack() as stack:
         stdout = subprocess.DEVNULL if is_file else stack.enter_context(open(out, "wb"))
-        done = subprocess.run(words, stdin=subprocess.DEVNULL, stdout=stdout, stderr=subprocess.PIPE, timeout=MOST_TIME, check=False)
+        done = subprocess.run(
+            words, stdin=subprocess.DEVNULL, stdout=stdout, stderr=subprocess.PIPE, timeout=MOST_TIME, check=False
+        )
     said = done.stderr.decode(errors="replace").strip().splitlines()
     if done.returncode and not said:
         said = [f"it ended with status {done.returncode}"]
@@ -79,8 +90,8 @@ def decoded(words, path, folder):
 
 
 def differences(words, path, tables):
-    """How the frames of a decoder differ from those of a stream, as lines, and sentences about the damage of its file. Frames that are refused are left
-    out: a decoder shows none there."""
+    """How the frames of a decoder differ from those of a stream, as lines, and sentences about the damage of its file.
+    Frames that are refused are left out: a decoder shows none there."""
     damage = []
     with rooms.Room() as folder:
         try:
@@ -99,9 +110,9 @@ def differences(words, path, tables):
                     found.add(number, *pair)
         except subprocess.TimeoutExpired:
             return [f"it took longer than {MOST_TIME} seconds"], damage
-        except y4m.NotY4m as error:
+        except NotY4m as error:
             return [f"its frames cannot be read: {error}", *said[-1:]], damage
-        except (Ended, OSError, convert.Container) as error:
+        except (Ended, OSError, Failed) as error:
             return [sentence(error)], damage
     return [] if found.is_same else [*found.lines(), *said[-1:]], damage
 
@@ -125,7 +136,12 @@ def write_junit(path, command, found, is_anyway=False):
     """The results as JUnit has them: a file that is damaged is an error, unless it is compared anyway."""
     errors = [] if is_anyway else [one for one in found if one.damage]
     numbers = {"tests": len(found), "failures": sum(not one.is_same for one in found), "errors": len(errors)}
-    suite = xml.Element("testsuite", name=command, **{name: str(count) for name, count in numbers.items()}, time=f"{sum(one.seconds for one in found):.3f}")
+    suite = xml.Element(
+        "testsuite",
+        name=command,
+        **{name: str(count) for name, count in numbers.items()},
+        time=f"{sum(one.seconds for one in found):.3f}",
+    )
     for one in found:
         case = xml.SubElement(suite, "testcase", classname=command, name=one.name, time=f"{one.seconds:.3f}")
         if not one.is_same:

@@ -4,11 +4,13 @@ import bisect
 import collections
 from typing import NamedTuple
 
-from . import ivf
+from ..media import ivf
 
 
 def common(one, other):
-    """Pairs of indexes of items that are in both lists, ascending in both: as many as possible of the items that are unique or in order."""
+    """Pairs of indexes of items that are in both lists, ascending in both: as many as possible of the items that are
+    unique or in order.
+    """
     places = collections.defaultdict(collections.deque)
     for index, item in enumerate(other):
         places[item].append(index)
@@ -46,9 +48,10 @@ class Lasting(NamedTuple):
 
 
 def edits_between(one, other, theirs=None, lasting=None):
-    """The request lines that make the packets `other` of the packets `one`, pairs of a time stamp and bytes. `theirs` has the indexes of packets
-    of source 1, which are copied. With `lasting` a packet that would be shown until packets that are after its end now is inserted again: a packet keeps
-    its duration, and the one before a hole has that of the hole, which others fill."""
+    """The request lines that make the packets `other` of the packets `one`, pairs of a time stamp and bytes. `theirs`
+    has the indexes of packets of source 1, which are copied. With `lasting` a packet that would be shown until packets
+    that are after its end now is inserted again: a packet keeps its duration, and the one before a hole has that of the
+    hole, which others fill."""
     kept, theirs = common(one, other), theirs or {}
     lines, place, index, lasts = [], 0, 0, []
     for stop, end in [*kept, (len(one), len(other))]:
@@ -70,18 +73,29 @@ def edits_between(one, other, theirs=None, lasting=None):
 
 
 def renewals(packets, theirs, lasts, lasting, first=0, source=1):
-    """The lines that insert packets again whose duration is not that of their time stamps. For each packet `lasts` has which one of the stream it was, and
-    which one of another source. The packets begin at index `first`."""
+    """The lines that insert packets again whose duration is not that of their time stamps. For each packet `lasts` has
+    which one of the stream it was, and which one of another source. The packets begin at index `first`."""
     found, after = [], None
     for at in reversed(range(len(packets))):
         stamp, data = packets[at]
         if not ivf.is_shown(data):
             continue
         mine, other = lasts[at]
-        duration = lasting.durations[mine] if mine is not None else lasting.theirs[other] if other is not None else lasting.usual
+        duration = (
+            lasting.durations[mine]
+            if mine is not None
+            else lasting.theirs[other]
+            if other is not None
+            else lasting.usual
+        )
         if after is not None and stamp < after and lasting.is_wrong(duration, after - stamp):
-            is_right = is_copied(packets[at], theirs) and not lasting.is_wrong(lasting.theirs[theirs[packets[at]]], after - stamp)
-            found += [insertion(first + at, packets[at], theirs if is_right else {}, source), f"delete {first + at + 1}"]
+            is_right = is_copied(packets[at], theirs) and not lasting.is_wrong(
+                lasting.theirs[theirs[packets[at]]], after - stamp
+            )
+            found += [
+                insertion(first + at, packets[at], theirs if is_right else {}, source),
+                f"delete {first + at + 1}",
+            ]
         after = stamp
     return found
 

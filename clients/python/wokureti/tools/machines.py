@@ -1,4 +1,6 @@
-"""Parts that are decoded on several machines by GNU parallel, which carries their files there and back with ssh and rsync."""
+"""Parts that are decoded on several machines by GNU parallel, which carries their files there and back with ssh and
+rsync.
+"""
 
 import concurrent.futures
 import contextlib
@@ -11,9 +13,9 @@ import tempfile
 import time
 
 from .. import system
+from ..errors import Failed
+from ..base.progress import say
 from . import parts
-from .cat import Failed
-from .progress import say
 
 # A machine that does not answer for so many seconds is given up.
 ALIVE = ("-o", "BatchMode=yes", "-o", "ConnectTimeout=10", "-o", "ServerAliveInterval=5", "-o", "ServerAliveCountMax=3")
@@ -25,7 +27,9 @@ INSTALL = "apt-get install parallel rsync openssh-client here, and rsync openssh
 def check_here():
     """What is needed on this machine."""
     if system.IS_WINDOWS:
-        raise Failed("--sshlogin needs GNU parallel, which Windows does not have: leave it out, and this machine decodes")
+        raise Failed(
+            "--sshlogin needs GNU parallel, which Windows does not have: leave it out, and this machine decodes"
+        )
     missing = [name for name in ("parallel", "rsync", "ssh") if shutil.which(name) is None]
     if missing:
         raise Failed(f"{' and '.join(missing)} must be installed for --sshlogin: {INSTALL}")
@@ -44,7 +48,9 @@ def why_not(login, program):
         return None
     asked = f"command -v rsync > /dev/null || exit 3; command -v {shlex.quote(program)} > /dev/null || exit 4"
     try:
-        done = subprocess.run([*ssh_words(), host, asked], stdin=subprocess.DEVNULL, capture_output=True, timeout=MOST_ASK, check=False)
+        done = subprocess.run(
+            [*ssh_words(), host, asked], stdin=subprocess.DEVNULL, capture_output=True, timeout=MOST_ASK, check=False
+        )
     except subprocess.TimeoutExpired:
         return f"{host} does not answer in {MOST_ASK} seconds"
     except OSError as error:
@@ -54,7 +60,11 @@ def why_not(login, program):
     if done.returncode == 4:
         return f"{host} has no {program}: install it there, or give its path with --remote"
     said = done.stderr.decode(errors="replace").strip().splitlines()
-    return f"{host} cannot be reached: {said[-1] if said else f'ssh ended with status {done.returncode}'}" if done.returncode else None
+    return (
+        f"{host} cannot be reached: {said[-1] if said else f'ssh ended with status {done.returncode}'}"
+        if done.returncode
+        else None
+    )
 
 
 def able(logins, program):
@@ -72,8 +82,8 @@ def able(logins, program):
 class Machines:
     """Decodes parts on machines, `logins` as parallel's --sshlogin takes them: `:` is this machine.
 
-    A part that fails on a machine, because that machine is gone, say, is decoded on another one. Files have the names that they have in
-    the folder of the parts, and lie in a folder of their own on each machine.
+    A part that fails on a machine, because that machine is gone, say, is decoded on another one. Files have the names
+    that they have in the folder of the parts, and lie in a folder of their own on each machine.
     """
 
     def __init__(self, room, plan, logins, program, tables=None):
@@ -88,7 +98,9 @@ class Machines:
             self.base.append(self.tables)
 
     def command(self):
-        """The command of a part, whose number is {}. On this machine nothing was carried, so the files are in the folder of the parts."""
+        """The command of a part, whose number is {}. On this machine nothing was carried, so the files are in the
+        folder of the parts.
+        """
         folder = f"{self.room.folder}/"
         words = [word.replace(folder, "") for word in self.room.words("{}", self.program, self.tables)]
         text = " ".join(word if "{}" in word else shlex.quote(word) for word in words)
@@ -120,10 +132,17 @@ class Machines:
     @contextlib.contextmanager
     def running(self, numbers, log, logins):
         """parallel with these parts on these machines, and what it complains of."""
-        env = dict(os.environ, PARALLEL_SSH=os.environ.get("PARALLEL_SSH") or " ".join(("ssh", *ALIVE)), LC_ALL="C", TMPDIR=self.room.folder)
+        env = dict(
+            os.environ,
+            PARALLEL_SSH=os.environ.get("PARALLEL_SSH") or " ".join(("ssh", *ALIVE)),
+            LC_ALL="C",
+            TMPDIR=self.room.folder,
+        )
         with tempfile.TemporaryFile() as errors:
             words = self.words(log, logins)
-            process = subprocess.Popen(words, cwd=self.room.folder, stdin=subprocess.PIPE, stdout=subprocess.DEVNULL, stderr=errors, env=env)
+            process = subprocess.Popen(
+                words, cwd=self.room.folder, stdin=subprocess.PIPE, stdout=subprocess.DEVNULL, stderr=errors, env=env
+            )
             try:
                 with contextlib.suppress(BrokenPipeError):
                     process.stdin.write("".join(f"{number}\n" for number in numbers).encode())
@@ -133,7 +152,9 @@ class Machines:
                 end(process)
 
     def wait(self, number, process, errors, log=None, place=None):
-        """Waits until a part is here, and returns None; or the machine whose part did not come back, although parallel's log says that all went well."""
+        """Waits until a part is here, and returns None; or the machine whose part did not come back, although
+        parallel's log says that all went well.
+        """
         while True:
             ended = process.poll() is not None
             status, host = self.statuses(log or self.log).get(number if place is None else place, (None, None))
@@ -167,7 +188,9 @@ class Machines:
 
     @staticmethod
     def statuses(log):
-        """For each line of parallel's input the last exit status that its log has, that of the program or of ssh, and the machine."""
+        """For each line of parallel's input the last exit status that its log has, that of the program or of ssh, and
+        the machine.
+        """
         found = {}
         try:
             with open(log, encoding="utf-8", errors="replace") as file:
@@ -205,7 +228,11 @@ def workers_of(session, logins, program, tables):
         contents = session.edits.contents()
         processes = 4 * len(logins)
         size = room.first.size
-        plan = parts.by_packets(contents, processes, size) if contents.script == "-" else parts.by_frames(count, processes, size)
+        plan = (
+            parts.by_packets(contents, processes, size)
+            if contents.script == "-"
+            else parts.by_frames(count, processes, size)
+        )
         return plan, Machines(room, plan, logins, program, tables)
 
     return workers

@@ -4,13 +4,17 @@ import bisect
 from array import array
 from itertools import accumulate
 
-from . import excerpts, times
-from .exports import Frames
+from ..media import excerpts, times
+from ..session.exports import Frames
 
 
 def begins(contents, streams=None, runs=None):
     """The time of each frame that is served, in nanoseconds, and the end of the last one."""
-    return list(accumulate((span.length for span in excerpts.of_frames(contents, Frames(contents, streams, runs).served())), initial=0))
+    return list(
+        accumulate(
+            (span.length for span in excerpts.of_frames(contents, Frames(contents, streams, runs).served())), initial=0
+        )
+    )
 
 
 def step_of(rate):
@@ -37,14 +41,22 @@ def constant(starts, rate):
 
 
 def warn(contents, is_constant, say):
-    """Says by how much the frames of a YUV4MPEG2 file are away from their times, if that is a frame or more; or that they are repeated."""
+    """Says by how much the frames of a YUV4MPEG2 file are away from their times, if that is a frame or more; or that
+    they are repeated.
+    """
     starts = begins(contents)
     away = drift(starts, contents.rate)
     if away < step_of(contents.rate):
         return
     has_sound = any(item.media is not None and item.media.has_sound for item in contents.inputs.all)
     if is_constant:
-        say(f"the rate of the frames varies: of {len(starts) - 1:,} frames {len(constant(starts, contents.rate)):,} are made, each at the nearest time")
+        say(
+            f"the rate of the frames varies: of {len(starts) - 1:,} frames {len(constant(starts, contents.rate)):,} are"
+            " made, each at the nearest time"
+        )
     else:
         what = "picture and sound part" if has_sound else "frames are away from their times"
-        say(f"the rate of the frames varies, and a YUV4MPEG2 file has one rate: {what} by up to {away // 10**6:,} ms. --constant repeats or leaves out frames instead")
+        say(
+            f"the rate of the frames varies, and a YUV4MPEG2 file has one rate: {what} by up to {away // 10**6:,} ms."
+            " --constant repeats or leaves out frames instead"
+        )

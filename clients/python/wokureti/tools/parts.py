@@ -1,20 +1,20 @@
 """The frames of a stream as parts that can be decoded apart from each other.
 
-A packet with a key tag depends on no packet before it, so the packets are cut at such packets; each part is a stream of its own. A script
-mixes frames, so with a script a part is a range of frames, and every part has all packets.
+A packet with a key tag depends on no packet before it, so the packets are cut at such packets; each part is a stream of
+its own. A script mixes frames, so with a script a part is a range of frames, and every part has all packets.
 
-One run of vp8serve writes frames of one size, that of the first frame that it serves. So a part that does not have that frame has its
-packets in front, and serves it first; it is left out when the parts are joined.
+One run of vp8serve writes frames of one size, that of the first frame that it serves. So a part that does not have that
+frame has its packets in front, and serves it first; it is left out when the parts are joined.
 """
 
 import os
 from typing import NamedTuple
 
 from .. import system
-from . import ivf
-from ..session.errors import Refused
-from ..session.frames import parse_header
-from ..session.lines import lines_in, words_of
+from ..errors import Refused
+from ..base.lines import lines_in, words_of
+from ..media import ivf
+from ..media.y4m import parse_header
 
 # Parts a process: so that one long part holds up no process.
 PARTS_A_PROCESS = 4
@@ -23,7 +23,9 @@ MOST_PART = 64 << 20
 
 
 class Part(NamedTuple):
-    """A part: the frames that it serves, and where its packets are in the stream: (first packet, end), or None for all."""
+    """A part: the frames that it serves, and where its packets are in the stream: (first packet, end), or None for
+    all.
+    """
 
     first: int
     end: int
@@ -31,7 +33,9 @@ class Part(NamedTuple):
 
 
 class First(NamedTuple):
-    """The first frame that is served: its number, the header line of the text, and the packets from its key packet to its own."""
+    """The first frame that is served: its number, the header line of the text, and the packets from its key packet to
+    its own.
+    """
 
     number: int
     header: bytes
@@ -91,7 +95,9 @@ def by_frames(count, processes, frame_size):
 
 
 class Room:
-    """The files of the parts, in a folder: N.list, and N.ivf or the streams of all sources; the frames and replies are added."""
+    """The files of the parts, in a folder: N.list, and N.ivf or the streams of all sources; the frames and replies are
+    added.
+    """
 
     def __init__(self, folder, session, first):
         self.folder = folder

@@ -1,4 +1,4 @@
-"""wokureti repair: finds the damage of a stream, and mends what can be mended without a person."""
+"""wokureti repair: finds the damage of a stream, and repairs what can be repaired without asking."""
 
 import bisect
 import collections
@@ -10,10 +10,13 @@ import statistics
 from typing import NamedTuple
 
 from .. import system
-from . import facts, ivf, runs, salvage, times
+from ..errors import NoKeyFrame, NoSecond, NotIvf
+from ..media import facts, ivf, salvage, times
+from ..session import runs
 from .differences import Lasting, edits_between
 
-# A packet is sorted back over at most so many others: if it is further away, the time stamps begin again, as in clips that were joined.
+# A packet is sorted back over at most so many others: if it is further away, the time stamps begin again, as in clips
+# that were joined.
 MOST_MOVE = 64
 # A step that is rounded is not smaller.
 LEAST_ROUNDED = 8
@@ -23,9 +26,11 @@ MOST_HOLE = 10000
 CONSTANT = 0.8
 # Guesses at packets with a wrong size that are tried one after the other.
 MOST_GUESSES = 30
-# A long stream is listed and checked in parts of so many bytes and packets, each with some packets of the next one, so many at a time.
+# A long stream is listed and checked in parts of so many bytes and packets, each with some packets of the next one, so
+# many at a time.
 PART, LEAST_PART, OVERLAP, AT_A_TIME = 16 << 20, 100, 8, 4
-# Steps between shown packets that are constant, and those in a row that may be others, for vp8list to call what is around one damage.
+# Steps between shown packets that are constant, and those in a row that may be others, for vp8list to call what is
+# around one damage.
 MANY_STEPS, ODD_STEPS = 16, 3
 # Packets before one among which two shown ones are looked for.
 NEAR = 16
@@ -35,17 +40,9 @@ DAMAGE = {"past_end": "read past its end", "unread": "not read to its end"}
 AROUND = {"breaks_step": "time stamp {stamp} follows {before}", "comes_twice": "the next packet is the same again"}
 
 
-class NoKeyFrame(ValueError):
-    """No frame can be decoded."""
-
-
-class NoSecond(ValueError):
-    """No packet of the second recording can be taken."""
-
-
 class Packet(NamedTuple):
-    """A packet, and what is known of it: whether it comes right before bytes that are lost, whether one or more were lost before it, and whether its
-    end is missing."""
+    """A packet, and what is known of it: whether it comes right before bytes that are lost, whether one or more were
+    lost before it, and whether its end is missing."""
 
     stamp: int
     data: bytes
@@ -111,26 +108,37 @@ class Repair:
         return [outline for found in self.by_parts(parts, 0, what, self.list_of) for outline in found]
 
     def parts(self):
-        """Ranges of packets that begin at key packets, each to be listed or checked by itself. Those that were there before begin where they did."""
+        """Ranges of packets that begin at key packets, each to be listed or checked by itself. Those that were there
+        before begin where they did.
+        """
         begins = {id(packets[0].data) for packets, _ in self.of_parts.values()}
         found, start, size = [], 0, 0
         for place, packet in enumerate(self.packets[: -LEAST_PART or None]):
-            if place - start >= LEAST_PART and (id(packet.data) in begins or (size >= PART and not begins)) and ivf.is_key(packet.data):
+            if (
+                place - start >= LEAST_PART
+                and (id(packet.data) in begins or (size >= PART and not begins))
+                and ivf.is_key(packet.data)
+            ):
                 found.append((start, place))
                 start, size = place, 0
             size += len(packet.data)
         return [*found, (start, len(self.packets))]
 
     def by_parts(self, parts, overlap, what, read, *options, statuses=(0,)):
-        """What `read` makes of what vp8list prints of each part, with so many packets of the next one, in order. A part whose packets are those that
-        they were is not read again."""
+        """What `read` makes of what vp8list prints of each part, with so many packets of the next one, in order. A part
+        whose packets are those that they were is not read again."""
+
         def run(part):
             packets = self.packets[part[0] : part[1] + overlap]
             key = (id(packets[0].data), options)
             known = self.of_parts.get(key)
             if known is not None and are_same(known[0], packets):
                 return known[1]
-            found = read(facts.run_on(self.lister, ((packet.stamp, packet.data) for packet in packets), *options, statuses=statuses))
+            found = read(
+                facts.run_on(
+                    self.lister, ((packet.stamp, packet.data) for packet in packets), *options, statuses=statuses
+                )
+            )
             self.of_parts[key] = (packets, found)
             return found
 
@@ -143,14 +151,19 @@ class Repair:
             pool.shutdown(cancel_futures=True)
 
     def list_of(self, lines):
-        return [Outline(bool(flags & facts.KEY), bool(flags & facts.SHOWN), cause) for flags, _, cause in facts.outlines(lines)]
+        return [
+            Outline(bool(flags & facts.KEY), bool(flags & facts.SHOWN), cause)
+            for flags, _, cause in facts.outlines(lines)
+        ]
 
     def lister_run(self, *options, statuses=(0,)):
         """What vp8list prints of the packets: of the file, as long as they are those that are in it."""
         packets, path = self.in_file
         if path is not None and packets is self.packets:
             return facts.run(self.lister, path, *options, statuses=statuses)
-        return facts.run_on(self.lister, ((packet.stamp, packet.data) for packet in self.packets), *options, statuses=statuses)
+        return facts.run_on(
+            self.lister, ((packet.stamp, packet.data) for packet in self.packets), *options, statuses=statuses
+        )
 
     def damaged(self):
         """The packets whose decoding ends too early or reads past an end, and for each of them what vp8list says."""
@@ -175,10 +188,14 @@ class Repair:
         return self.checked[1]
 
     def findings_of_parts(self, parts, what):
-        """The same of a long stream. A key packet begins anew, so a part has the damage that the whole has there; but what vp8list says of the packets around
-        one is damage only if the steps of the whole are constant, and may be said by the part before, which has some packets more."""
+        """The same of a long stream. A key packet begins anew, so a part has the damage that the whole has there; but
+        what vp8list says of the packets around one is damage only if the steps of the whole are constant, and may be
+        said by the part before, which has some packets more.
+        """
         found, is_constant = {}, constant_step(self.packets) is not None
-        for (start, end), damage in zip(parts, self.by_parts(parts, OVERLAP, what, damage_in, *self.check_words(), statuses=(0, 1))):
+        for (start, end), damage in zip(
+            parts, self.by_parts(parts, OVERLAP, what, damage_in, *self.check_words(), statuses=(0, 1))
+        ):
             for number, finding in enumerate(damage):
                 place, is_around = start + finding["packet"], finding["kind"] in AROUND
                 if is_constant if is_around else place < end:
@@ -192,7 +209,9 @@ class Repair:
         return facts.run_on(self.lister, packets, *self.check_words(), statuses=(0, 1))
 
     def forge(self, word, width, height):
-        """The bytes of a grey key frame, or of a packet that shows the last picture again and is shown by libvpx too."""
+        """The bytes of a grey key frame, or of a packet that shows the last picture again and is shown by libvpx
+        too.
+        """
         key = (word, width, height)
         if key not in self.forged:
             lines = [f"blank 0 {width} {height}"] + ["hold 1"] * (word == "hold")
@@ -217,10 +236,10 @@ class Repair:
                     self.in_file = (self.packets, path)
                 return
         elif not scan:
-            raise ivf.NotIvf("it is no IVF file of VP8, and its packets are not searched with --no-scan")
+            raise NotIvf("it is not an IVF file of VP8, and its packets are not searched with --no-scan")
         head, packets, gaps, guesses = salvage.find_all(data)
         if not packets and not any(guesses):
-            raise ivf.NotIvf("no packet of VP8 was found in it")
+            raise NotIvf("no packet of VP8 was found in it")
         packets, gaps = self.take_guesses(packets, gaps, guesses)
         self.take(head, packets, gaps, len(data), "record")
 
@@ -229,9 +248,11 @@ class Repair:
         if head is not None:
             self.head = head
         ends = {gap.after for gap in gaps}
-        self.packets = [Packet(packet.stamp, packet.data, place + 1 in ends, place in ends) for place, packet in enumerate(packets)]
+        self.packets = [
+            Packet(packet.stamp, packet.data, place + 1 in ends, place in ends) for place, packet in enumerate(packets)
+        ]
         if head is None:
-            self.say("the header is lost: the size is that of the first key packet, the rate 30 frames a second")
+            self.say("the header is lost: the size is the first key packet's, the rate 30 frames a second")
             self.head = ivf.Head(*(self.first_size() or (0, 0)), 30, 1)
         for gap in gaps:
             where = f"after packet {gap.after - 1}" if gap.after else "before the first packet"
@@ -240,11 +261,14 @@ class Repair:
             elif gap.end == length:
                 self.say(f"byte {gap.start}: the last {gap.end - gap.start} bytes lead to no {what}: dropped")
             else:
-                self.say(f"byte {gap.start}: {gap.end - gap.start} bytes {where} lead to no {what}: read on at byte {gap.end}")
+                self.say(
+                    f"byte {gap.start}: {gap.end - gap.start} bytes {where} lead to no {what}: read on at byte"
+                    f" {gap.end}"
+                )
 
     def take_guesses(self, packets, gaps, guesses):
-        """Takes packets whose records have a wrong size: those that decode to their end with all the bytes up to the next record. `guesses` has
-        those of each gap."""
+        """Takes packets whose records have a wrong size: those that decode to their end with all the bytes up to the
+        next record. `guesses` has those of each gap."""
         guesses = [group for group in guesses if group]
         if self.lister is None or not guesses:
             return packets, gaps
@@ -258,15 +282,24 @@ class Repair:
         found, left, places = with_guesses(packets, gaps, taken)
         for guess, place in zip(taken, places):
             size = len(guess.packet.data)
-            self.say(f"packet {place}: the size in its record at byte {guess.packet.place} is wrong: it has the {size} bytes up to the next record")
+            self.say(
+                f"packet {place}: the size in its record at byte {guess.packet.place} is wrong: it has the {size} bytes"
+                " up to the next record"
+            )
         return found, left
 
     def wrong_ones(self, packets, gaps, guesses):
-        """The guesses that do not decode to their end if these are taken, or whose time stamps break the steps. Only their groups of pictures are checked."""
+        """The guesses that do not decode to their end if these are taken, or whose time stamps break the steps. Only
+        their groups of pictures are checked.
+        """
         found, _, places = with_guesses(packets, gaps, guesses)
         numbers = [place for group in groups_around(found, places) for place in group]
         given = ((found[place].stamp, found[place].data) for place in numbers)
-        damaged = {numbers[finding["packet"]] for finding in damage_in(self.findings_of(given)) if finding["kind"] not in AROUND}
+        damaged = {
+            numbers[finding["packet"]]
+            for finding in damage_in(self.findings_of(given))
+            if finding["kind"] not in AROUND
+        }
         return [guess for guess, place in zip(guesses, places) if place in damaged or breaks_step(found, place)]
 
     def first_size(self):
@@ -288,11 +321,15 @@ class Repair:
             self.packets = kept
 
     def is_repeat(self, data, size):
-        """Whether a packet only shows the last picture again: several of these may have the same time stamp and bytes."""
+        """Whether a packet only shows the last picture again: several of these may have the same time stamp and
+        bytes.
+        """
         return not data or (size is not None and data in (self.forge("hold", *size), self.forge("hold", *size)[:-1]))
 
     def sort(self):
-        """Packets that come too late or too early are sorted by their time stamps, if these are theirs alone and not far from their place."""
+        """Packets that come too late or too early are sorted by their time stamps, if these are theirs alone and not
+        far from their place.
+        """
         stamps = [packet.stamp for packet in self.packets]
         if all(before <= after for before, after in zip(stamps, stamps[1:])):
             return
@@ -319,7 +356,9 @@ class Repair:
     # A second recording
 
     def merge(self, other):
-        """Takes packets of a second recording with the same time stamps: for those that are missing, refused, or damaged."""
+        """Takes packets of a second recording with the same time stamps: for those that are missing, refused, or
+        damaged.
+        """
         shift = shift_between(self.packets, other)
         if shift is None:
             raise NoSecond("no packet of the second recording is one of the first")
@@ -342,7 +381,11 @@ class Repair:
             self.say("the time stamps go back: no packets of the second recording are inserted", False)
             return
         ours = groups_of(self.packets)
-        missing = {stamp: len(group) - len(ours.get(stamp, ())) for stamp, group in theirs.items() if len(group) > len(ours.get(stamp, ()))}
+        missing = {
+            stamp: len(group) - len(ours.get(stamp, ()))
+            for stamp, group in theirs.items()
+            if len(group) > len(ours.get(stamp, ()))
+        }
         if not missing:
             return
         order = sorted(set(ours) | set(missing))
@@ -356,7 +399,9 @@ class Repair:
                 self.packets += [Packet(stamp, data) for data in theirs[stamp]]
             else:
                 # What was lost before these is there now, if the packets before them came with it.
-                self.packets += [packet._replace(after_gap=packet.after_gap and before not in missing) for packet in ours[stamp]]
+                self.packets += [
+                    packet._replace(after_gap=packet.after_gap and before not in missing) for packet in ours[stamp]
+                ]
             before = stamp
 
     def replace_some(self, theirs):
@@ -372,8 +417,18 @@ class Repair:
             cause = outlines[place].cause
             has_zeros = bytes(salvage.ZEROS) in bytes(packet.data) and bytes(salvage.ZEROS) not in bytes(data)
             if cause or place in past or packet.before_gap or has_zeros:
-                why = f"refused {cause}" if cause else past[place] if place in past else "zeros in it" if has_zeros else "damaged at its end"
-                self.say(f"packet {place}: {why}: the packet of the second recording with its time stamp, {packet.stamp}")
+                why = (
+                    f"refused {cause}"
+                    if cause
+                    else past[place]
+                    if place in past
+                    else "zeros in it"
+                    if has_zeros
+                    else "damaged at its end"
+                )
+                self.say(
+                    f"packet {place}: {why}: the packet of the second recording with its time stamp, {packet.stamp}"
+                )
                 packets[place] = Packet(packet.stamp, data)
                 found = True
         if found:
@@ -397,8 +452,8 @@ class Repair:
             self.packets = self.packets[count:]
 
     def step(self, outlines):
-        """The step between the time stamps of shown packets, if it is constant, else None. Time stamps of milliseconds are rounded: then it is the mean
-        of those that are one apart, as 33 and 34."""
+        """The step between the time stamps of shown packets, if it is constant, else None. Time stamps of milliseconds
+        are rounded: then it is the mean of those that are one apart, as 33 and 34."""
         stamps = [packet.stamp for packet, found in zip(self.packets, outlines) if found.is_shown]
         steps = collections.Counter(after - before for before, after in zip(stamps, stamps[1:]))
         if not steps:
@@ -408,7 +463,11 @@ class Repair:
             return step
         near = {one: steps[one] for one in (step - 1, step, step + 1)}
         is_constant = step >= LEAST_ROUNDED and sum(near.values()) >= CONSTANT * sum(steps.values())
-        return fractions.Fraction(sum(one * times for one, times in near.items()), sum(near.values())) if is_constant else None
+        return (
+            fractions.Fraction(sum(one * times for one, times in near.items()), sum(near.values()))
+            if is_constant
+            else None
+        )
 
     def hold(self):
         """Holds the last picture for packets that are refused or lost, up to the next key frame."""
@@ -443,12 +502,21 @@ class Repair:
             self.packets = kept
 
     def first_lost(self, place, end, outlines, past, step):
-        """The first packet of a stretch, from a key packet to the next, that cannot be decoded as it was coded, and why."""
+        """The first packet of a stretch, from a key packet to the next, that cannot be decoded as it was coded, and
+        why.
+        """
         for number in range(place, end):
             if outlines[number].cause:
-                return number, f"refused {outlines[number].cause}" + (f", {end - number - 1} packets lost" if end > number + 1 else "")
-            # After a loss, decoding that ends too early or too late says that the packets do not fit what was decoded before.
-            if self.is_after_loss(number, step) and not outlines[number].is_key and any(other in past for other in range(number, end)):
+                return number, f"refused {outlines[number].cause}" + (
+                    f", {end - number - 1} packets lost" if end > number + 1 else ""
+                )
+            # After a loss, decoding that ends too early or too late says that the packets do not fit what was decoded
+            # before.
+            if (
+                self.is_after_loss(number, step)
+                and not outlines[number].is_key
+                and any(other in past for other in range(number, end))
+            ):
                 return number, "packets before it are lost, and it does not decode without them"
         return end, None
 
@@ -459,7 +527,9 @@ class Repair:
         return bool(step) and number > 0 and steps_between(self.packets[number - 1].stamp, packet.stamp, step) >= 2
 
     def fill(self, kept, number, step, size, past, outlines, end):
-        """Puts packets that hold the picture where packets are missing by the time stamps, and there is a sign that they were lost."""
+        """Puts packets that hold the picture where packets are missing by the time stamps, and there is a sign that
+        they were lost.
+        """
         packet = self.packets[number]
         if not kept or not step or size is None:
             return
@@ -490,21 +560,30 @@ class Repair:
             else:
                 inside.add(finding["packet"])
         for place, cause in sorted(refused.items()):
-            self.say(f"packet {place}: refused {cause}: not mended", False)
+            self.say(f"packet {place}: refused {cause}: not repaired", False)
         past = sorted(inside - set(refused))
         if past:
             names = f"packet {past[0]}" if len(past) == 1 else f"packet {past[0]} and {len(past) - 1} more"
-            self.say(f"{names}: damaged inside, so the pictures up to the next key frame are not right: not mended", False)
+            self.say(
+                f"{names}: damaged inside, so the pictures up to the next key frame are not right: not repaired", False
+            )
         for place, text in sorted(around.items()):
-            self.say(f"packet {place}: {text}: not mended", False)
+            self.say(f"packet {place}: {text}: not repaired", False)
         self.left = len(refused) + len(past) + len(around)
 
     def need_key(self, second):
-        """`NoKeyFrame` if nothing can be decoded: there is nothing to mend from."""
+        """`NoKeyFrame` if nothing can be decoded: there is nothing to repair from."""
         if any(found.is_key and not found.cause for found in self.outlines()):
             return
-        more = "; a second recording of the same packets (--second) may have one" if second is None else ", and none is in the second recording either"
-        raise NoKeyFrame(f"no key frame survives, so no frame can be decoded and there is nothing to mend from{more}. Nothing was written")
+        more = (
+            "; a second recording of the same packets (--second) may have one"
+            if second is None
+            else ", and none is in the second recording either"
+        )
+        raise NoKeyFrame(
+            f"no key frame survives, so no frame can be decoded and there is nothing to repair from{more}. Nothing was"
+            " written"
+        )
 
 
 def groups_around(packets, places):
@@ -523,9 +602,19 @@ def groups_around(packets, places):
 
 
 def breaks_step(packets, place):
-    """Whether vp8list calls the step to an inter packet damage: it is none of the steps of the stream, which are constant."""
-    packet, before = packets[place], [one.stamp for one in packets[max(0, place - NEAR) : place] if ivf.is_shown(one.data)][-2:]
-    if ivf.is_key(packet.data) or not ivf.is_shown(packet.data) or len(before) < 2 or packet.stamp in (before[1], 2 * before[1] - before[0]):
+    """Whether vp8list calls the step to an inter packet damage: it is none of the steps of the stream, which are
+    constant.
+    """
+    packet, before = (
+        packets[place],
+        [one.stamp for one in packets[max(0, place - NEAR) : place] if ivf.is_shown(one.data)][-2:],
+    )
+    if (
+        ivf.is_key(packet.data)
+        or not ivf.is_shown(packet.data)
+        or len(before) < 2
+        or packet.stamp in (before[1], 2 * before[1] - before[0])
+    ):
         # Most steps are that of the packet before.
         return False
     step = constant_step(packets)
@@ -534,16 +623,24 @@ def breaks_step(packets, place):
 
 def damage_in(lines):
     """The damage of packets among the findings that vp8list prints."""
-    return [finding for finding in map(json.loads, lines) if finding["severity"] == "damage" and finding["packet"] is not None]
+    return [
+        finding
+        for finding in map(json.loads, lines)
+        if finding["severity"] == "damage" and finding["packet"] is not None
+    ]
 
 
 def are_same(packets, others):
     """Whether two lists have the same packets of the file, with the same time stamps."""
-    return len(packets) == len(others) and all(one.data is other.data and one.stamp == other.stamp for one, other in zip(packets, others))
+    return len(packets) == len(others) and all(
+        one.data is other.data and one.stamp == other.stamp for one, other in zip(packets, others)
+    )
 
 
 def constant_step(packets):
-    """The step between the time stamps of shown packets if there are many, and all are the same but for a few in a row; else None."""
+    """The step between the time stamps of shown packets if there are many, and all are the same but for a few in a row;
+    else None.
+    """
     stamps = [packet.stamp for packet in packets if ivf.is_shown(packet.data)]
     steps = [after - before for before, after in zip(stamps, stamps[1:])]
     forward = [step for step in steps if step > 0]
@@ -611,7 +708,9 @@ def out_of_order(order):
 
 
 def groups_of(packets):
-    """The packets of each time stamp: a hidden packet mostly has that of the next one. Stamps that come back later are left out."""
+    """The packets of each time stamp: a hidden packet mostly has that of the next one. Stamps that come back later are
+    left out.
+    """
     found, last, again = {}, None, set()
     for packet in packets:
         if packet.stamp != last and packet.stamp in found:
@@ -635,7 +734,9 @@ def stretches(missing, known):
 
 
 def shift_between(packets, other):
-    """What to add to the time stamps of another recording of the same packets; None if they have no packet in common."""
+    """What to add to the time stamps of another recording of the same packets; None if they have no packet in
+    common.
+    """
     stamps = {packet.data: packet.stamp for packet in packets if len(packet.data) > 16}
     shifts = collections.Counter(stamps[packet.data] - packet.stamp for packet in other if packet.data in stamps)
     return shifts.most_common(1)[0][0] if shifts else None
@@ -646,14 +747,26 @@ def packets_of(data, scan=True):
     reader = Repair(None, None)
     try:
         reader.read(data, scan)
-    except ivf.NotIvf as error:
+    except NotIvf as error:
         raise NoSecond(str(error)) from None
     return reader.packets
 
 
-def repair(data, program, lister, second=None, tables=None, steps=frozenset(("scan", "double", "sort", "hold")), stage=None, path=None, searched=None):
-    """Mends a stream, and returns a `Repair`. `stage` is called with what is done next, and `path` is a file with the data, if there is one. `searched` is
-    what was found of a damaged container: the head, the packets, the gaps, and the length of the file; or the frames of a capture."""
+def repair(
+    data,
+    program,
+    lister,
+    second=None,
+    tables=None,
+    steps=frozenset(("scan", "double", "sort", "hold")),
+    stage=None,
+    path=None,
+    searched=None,
+):
+    """Mends a stream, and returns a `Repair`. `stage` is called with what is done next, and `path` is a file with the
+    data, if there is one. `searched` is what was found of a damaged container: the head, the packets, the gaps, and the
+    length of the file; or the frames of a capture.
+    """
     found = Repair(program, lister, tables)
     found.stage = stage or found.stage
     found.stage("searching the packets")
@@ -670,20 +783,21 @@ def repair(data, program, lister, second=None, tables=None, steps=frozenset(("sc
     if second is not None:
         found.merge(packets_of(second, "scan" in steps))
     if not found.packets:
-        raise ivf.NotIvf("no packet is left")
+        raise NotIvf("no packet is left")
     if "hold" in steps:
         found.need_key(second)
         found.drop_beginning()
         found.hold()
     if not found.packets:
-        raise ivf.NotIvf("no packet is left")
+        raise NotIvf("no packet is left")
     found.check()
     return found
 
 
 def edits_of(data, found, second=None, lasting=None):
-    """The edits that make the mended stream of the file, or None if vp8serve does not read the file. Packets of a second recording that is
-    source 1 are copied from it. `lasting` says how long packets are shown, if edits of the file were made before."""
+    """The edits that make the mended stream of the file, or None if vp8serve does not read the file. Packets of a
+    second recording that is source 1 are copied from it. `lasting` says how long packets are shown, if edits of the
+    file were made before."""
     before = salvage.plain(data)
     if before is None:
         return None

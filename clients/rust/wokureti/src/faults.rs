@@ -146,7 +146,7 @@ impl fmt::Display for Refused {
 
 impl Error for Refused {}
 
-/// Why a request is refused: the words of docs/requests.md.
+/// Why a request is refused: the words of docs/reference/requests.md.
 #[derive(Clone, Copy, Debug, PartialEq, Eq, Hash)]
 #[non_exhaustive]
 pub enum Cause {

@@ -39,7 +39,7 @@ pub use frames::{Frame, Frames};
 pub use scripts::{Node, Script};
 use wokureti_sys as sys;
 
-/// The version of the library that the program runs with: (0, 15, 0) is 0.15.0.
+/// The version of the library that the program runs with: (0, 16, 0) is 0.16.0.
 pub fn library_version() -> (u32, u32, u32) {
     // SAFETY: the call takes nothing.
     let number = unsafe { sys::wk_version() };
@@ -228,7 +228,7 @@ impl Session {
         self.edit(&format!("use {source}"))
     }
 
-    /// Sets the script: a [`Script`], or a text as in docs/requests.md, `-` for none.
+    /// Sets the script: a [`Script`], or a text as in docs/reference/requests.md, `-` for none.
     pub fn set_script(&mut self, script: impl fmt::Display) -> Result<(), Fault> {
         self.edit(&format!("script {script}")).map(drop)
     }
@@ -286,7 +286,7 @@ impl Session {
         found.map(|(stamp, bytes)| Packet { stamp, bytes }).ok_or(Fault::Reply(reply))
     }
 
-    /// The reply to any request line of docs/requests.md, without its newline: one line, or `lines K` and K lines, or nothing for a comment.
+    /// The reply to any request line of docs/reference/requests.md, without its newline: one line, or `lines K` and K lines, or nothing for a comment.
     pub fn request(&mut self, line: &str) -> Result<String, Fault> {
         let mut length = 0;
         // SAFETY: the handle is this session's own, and the line is of this many bytes.

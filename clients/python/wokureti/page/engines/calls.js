@@ -53,7 +53,7 @@ export function sizeOfSource(source) {
 /** A session in this thread. */
 export class Calls {
   constructor(module) {
-    this.calls = new WebAssembly.Instance(module, {}).exports;
+    this.calls = /** @type {any} */ (new WebAssembly.Instance(module, {}).exports);
     this.handle = this.room(8);
     this.fault = this.room(16);
     this.shown = this.room(40);
@@ -100,7 +100,7 @@ export class Calls {
 
   /** Opens a session over IVF and WebM files. The one before it ends. The pictures of the cached states take at most `most` bytes, four for each. `look` is
    * called with the bytes of each file, as long as they are in the memory, and `told` with how many bytes were read. */
-  open(sources, most, look = () => {}, told = () => {}) {
+  open(sources, most, look = (place, bytes) => {}, told = (count) => {}) {
     const ends = [];
     for (const source of sources) ends.push((ends.at(-1) ?? 0) + sizeOfSource(source));
     this.calls.wk_close(this.handle);
@@ -168,11 +168,17 @@ export class Calls {
     return this.calls.wk_why(this.handle, this.length) ? "" : this.text().trimEnd().replace(/^line \d+: /, "");
   }
 
+  /** What a line that was refused throws. */
+  refused(line, reply) {
+    if (reply === NO_MEMORY) return full();
+    const members = { error: `${line.slice(0, 60)}: ${reply}`, reply, reason: this.why() };
+    return new Refused(reply === "refused NoSuchFrame" ? 404 : 409, members);
+  }
+
   /** A reply that is no refusal. */
   answered(line) {
     const reply = this.request(line);
-    if (reply === NO_MEMORY) throw full();
-    if (reply.startsWith("refused")) throw new Refused(reply === "refused NoSuchFrame" ? 404 : 409, { error: `${line.slice(0, 60)}: ${reply}`, reply, reason: this.why() });
+    if (reply.startsWith("refused")) throw this.refused(line, reply);
     return reply;
   }
 
@@ -180,12 +186,8 @@ export class Calls {
   size(n) {
     const status = this.checked(this.calls.wk_frame(this.handle, BigInt(n), 0, 0n, 0, 0n, 0, 0n, this.shown));
     if (status === ROOM) return [this.view(this.shown, 40).getUint32(16, true), this.view(this.shown, 40).getUint32(20, true)];
-    const reply = this.request(`frame ${n}`);
-    if (reply === NO_MEMORY) throw full();
-    const refused = new Refused(reply === "refused NoSuchFrame" ? 404 : 409, { error: `frame ${n}: ${reply}`, reply, reason: this.why() });
-    refused.isOfOtherSize = status === SIZE_DIFFERS;
-    refused.isOfPacket = status === PACKET;
-    throw refused;
+    const line = `frame ${n}`;
+    throw Object.assign(this.refused(line, this.request(line)), { isOfOtherSize: status === SIZE_DIFFERS });
   }
 
   /** A frame: its width, height, and a copy of the samples of its planes Y, Cb and Cr, one after the other. */

@@ -4,7 +4,7 @@ import { Refusal, Unreachable } from "../engine.js";
 
 export class Channel {
   /** `text` is the script of the worker, and `heard` is called with what it says by itself. */
-  constructor(text, heard = () => {}) {
+  constructor(text, heard = (said) => {}) {
     this.address = URL.createObjectURL(new Blob([text], { type: "text/javascript" }));
     this.worker = new Worker(this.address);
     this.waiting = [];
@@ -14,7 +14,7 @@ export class Channel {
     this.worker.onerror = (event) => this.end(new Unreachable(`The engine of this page ended: ${event.message}. The edits are kept: load the page again, and open the file.`));
   }
 
-  call(name, given = [], { low = false, signal } = {}) {
+  call(name, given = [], { low = false, signal = undefined } = {}) {
     return new Promise((resolve, reject) => {
       if (this.over) return reject(this.over);
       const one = { id: ++this.count, name, given, low, resolve, reject };
@@ -45,7 +45,7 @@ export class Channel {
   }
 
   /** Ends the worker, in the middle of a call too. */
-  end(why = new DOMException("it was stopped", "AbortError")) {
+  end(why = /** @type {Error} */ (new DOMException("it was stopped", "AbortError"))) {
     this.over = why;
     this.worker.terminate();
     URL.revokeObjectURL(this.address);

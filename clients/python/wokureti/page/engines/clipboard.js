@@ -1,5 +1,8 @@
 // Packets that were copied or cut: they are remembered by their numbers, and not by their indexes, which edits change.
 
+// Packets that a step inserts, at most.
+const MOST_PACKETS = 1 << 20;
+
 /** Numbers as pairs of a first one and how many follow each other. */
 export function runsOf(numbers) {
   const runs = [];
@@ -9,6 +12,17 @@ export function runsOf(numbers) {
     else runs.push([number, 1]);
   }
   return runs;
+}
+
+/** What inserts remembered packets: the lines, which begin with the source if that is not the current one, the title of the step, and what is told of it. */
+export function pasteOf(streams, current, { numbers, source, at, move }, insertion) {
+  if (numbers.reduce((sum, [, count]) => sum + count, 0) > MOST_PACKETS) throw new Error(`at most ${MOST_PACKETS} packets are inserted at a time`);
+  const board = new Clipboard(streams, numbers, source, at, insertion);
+  const { lines, first } = move ? board.moves() : board.copies();
+  const { deleted } = board;
+  const count = board.numbers.length;
+  const title = `${move ? "Move" : "Copy"} ${count} packets to ${first}`;
+  return { lines: source === current || !lines.length ? lines : [`use ${source}`, ...lines], title, told: { first, count, deleted, made: lines.length } };
 }
 
 /** Makes the lines that insert remembered packets before packet `at` of a source. `insertion(number, at)` is the line for one that was deleted since. */

@@ -81,17 +81,40 @@ export function readIvf(bytes, got) {
   return index;
 }
 
-export class Contents {
-  /** `ask(line, source)` is the reply to a question about a source. */
-  constructor(files, ask) {
+/** The packets of streams, and of each number its size and its tags. `files` have the number of packets of each. */
+export class Packets {
+  constructor(files) {
     this.files = files;
-    this.ask = ask;
     this.bases = [];
     this.ofFiles = 0;
     for (const { count } of files) {
       this.bases.push(this.ofFiles);
       this.ofFiles += count;
     }
+    this.shown = [];
+  }
+
+  isOfFile(source, number) {
+    return number >= this.bases[source] && number < this.bases[source] + this.files[source].count;
+  }
+
+  /** For each packet of a file how many shown ones come before it. */
+  shownInFile(source) {
+    if (!this.shown[source]) {
+      const { count } = this.files[source];
+      const found = new Uint32Array(count + 1);
+      for (let place = 0; place < count; place++) found[place + 1] = found[place] + (this.tags[this.bases[source] + place] & SHOWN ? 1 : 0);
+      this.shown[source] = found;
+    }
+    return this.shown[source];
+  }
+}
+
+export class Contents extends Packets {
+  /** `ask(line, source)` is the reply to a question about a source. */
+  constructor(files, ask) {
+    super(files);
+    this.ask = ask;
     [this.sizes, this.stamps, this.tags, this.hashes] = ["sizes", "stamps", "tags", "hashes"].map((name) => files.flatMap((file) => file[name]));
     // The sizes of the pictures of key packets, by their numbers.
     this.pictures = new Map();
@@ -111,10 +134,6 @@ export class Contents {
     return number >= this.ofFiles && this.made[number - this.ofFiles].isForged;
   }
 
-  isOfFile(source, number) {
-    return number >= this.bases[source] && number < this.bases[source] + this.files[source].count;
-  }
-
   /** The number of the next packet that an edit makes. */
   get unused() {
     return this.ofFiles + this.made.length;
@@ -132,16 +151,21 @@ export class Contents {
     return made;
   }
 
+  /** The file whose time a packet has, and its index there; of a packet without a time the source that it was made in,
+   * and null. */
+  timed(number) {
+    let [one, of] = [number, 0];
+    while (one !== null && one >= this.ofFiles) ({ source: of, timed: one } = this.made[one - this.ofFiles]);
+    if (one === null) return [of, null];
+    of = this.bases.findLastIndex((base, place) => base <= one && this.files[place].count);
+    return [of, one - this.bases[of]];
+  }
+
   /** How long a packet is shown, in the units of time of a source: as in its file; one that has no time the median step of the source that it was made in. */
   duration(number, source) {
-    let [one, madeIn] = [number, null];
-    while (one !== null && one >= this.ofFiles) {
-      madeIn = this.made[one - this.ofFiles].source;
-      one = this.made[one - this.ofFiles].timed;
-    }
-    const file = one === null ? this.files[madeIn] : this.files[this.bases.findLastIndex((base, place) => base <= one && this.files[place].count)];
-    const ticks = one === null ? file.step : file.durations[one - this.bases[this.files.indexOf(file)]];
-    const [[rate, scale], [toRate, toScale]] = [baseOf(file.head), baseOf(this.files[source].head)];
+    const [of, place] = this.timed(number);
+    const ticks = place === null ? this.files[of].step : this.files[of].durations[place];
+    const [[rate, scale], [toRate, toScale]] = [of, source].map((one) => baseOf(this.files[one].head));
     return rate === toRate && scale === toScale ? ticks : Math.max(1, Math.floor((ticks * scale * toRate) / (rate * toScale)));
   }
 

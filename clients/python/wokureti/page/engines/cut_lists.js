@@ -22,7 +22,7 @@ export function textOf(shots, begins) {
 
 function microOf(cell, line) {
   const found = CLOCK.exec(cell);
-  if (!found) throw new Error(`the list: line ${line} : '${cell}' is no time: ${FORM}`);
+  if (!found) throw new Error(`the list: line ${line}: '${cell}' is not a time: ${FORM}`);
   const [hours, minutes, seconds] = found.slice(1).map((part) => Number(part || 0));
   return Math.round((3600 * hours + 60 * minutes + seconds) * 1e6);
 }

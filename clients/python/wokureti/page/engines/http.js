@@ -1,6 +1,8 @@
-// The engine behind a server: clients/README.md says what each request answers.
+// The engine behind a server: docs/reference/http.md says what each request answers.
 
 import { OPENING, Refusal, Unreachable, sizeOf, use, waited, whenLost } from "../engine.js";
+import { runsOf } from "./clipboard.js";
+import { Mirror } from "./mirror.js";
 
 const BASE = new URL("../", document.baseURI);
 
@@ -40,19 +42,63 @@ function post(path, body, what, signal) {
 }
 
 /** The JSON object of a question with members. */
-async function look(what, query = {}, { waits = "", signal } = {}) {
+async function asked(what, query = {}, { waits = "", signal = undefined } = {}) {
   const text = Object.entries(query).map(([name, value]) => `${name}=${encodeURIComponent(value)}`).join("&");
   return (await get(text ? `${what}?${text}` : what, waits, signal)).json();
 }
 
-async function answer(line, source, { waits = "", signal } = {}) {
+async function answer(line, source, { waits = "", signal = undefined } = {}) {
   return (await get(`answer?source=${source}&line=${encodeURIComponent(line)}`, waits, signal)).text();
 }
 
-async function ask(lines, { revision, title, page } = {}) {
-  const body = typeof lines === "string" ? { line: lines, revision, page } : { lines, revision, page };
-  if (title && typeof lines !== "string") body.title = title;
-  return (await post("edits", body, "edit")).json();
+// The packets, as far as they were told.
+const mirror = new Mirror();
+let begin;
+const begun = new Promise((resolve) => (begin = resolve));
+
+/** Takes a state that was answered to who knew the packets of a name. If others came meanwhile, it is asked for anew. */
+async function taken({ told, ...session }, known, waits = "") {
+  if (!mirror.take(/** @type {any} */ (session), told ?? { base: known })) return state(waits);
+  begin();
+  return session;
+}
+
+async function state(waits = "the packets") {
+  const { known } = mirror;
+  return taken(await asked("session", { known }, { waits }), known, waits);
+}
+
+/** What the numbers of packets in lines are of. */
+function named() {
+  return { contents: mirror.contents?.name };
+}
+
+/** Sends a change, and takes the state after it. */
+async function changed(members, page, what) {
+  const { known } = mirror;
+  const { session, ...found } = await (await post("edits", { ...members, ...named(), known }, what)).json();
+  return { ...found, session: await taken(session, known), ...(page && mirror.shownOn(page)) };
+}
+
+function ask(lines, { revision = undefined, title = "", page = null } = {}) {
+  return changed(typeof lines === "string" ? { line: lines, revision } : { lines, revision, ...(title && { title }) }, page, "edit");
+}
+
+async function look(what, query) {
+  await begun;
+  return mirror.look(what, query);
+}
+
+/** Inserts remembered packets. The server has the bytes of those that are in no stream any more, by their numbers. */
+async function paste({ contents, revision, page, ...given }) {
+  const { name, ofFiles } = mirror.contents;
+  if (contents !== name && given.numbers.some(([first, count]) => first + count > ofFiles)) {
+    throw new Refusal(409, { error: "the packets that were copied are gone, since vp8serve was started again" });
+  }
+  const { lines, title, told: found } = mirror.pasted(given, (number, at) => `insert ${at} #${number}`);
+  if (revision !== mirror.revision) throw new Refusal(412, { error: "the stream was changed" });
+  if (!lines.length) return { ...found, session: await state(), ...mirror.shownOn(page) };
+  return { ...found, ...(await changed({ lines, title, revision }, page, "edit")) };
 }
 
 /** The frames of a YUV4MPEG2 text: width, height and samples of each. */
@@ -66,12 +112,11 @@ export function parseFrames(bytes, count) {
 }
 
 /** The request for frames, and what is waited for. */
-function requestOf(list, { of, lines, revision }) {
+function requestOf(list, { of = undefined, lines = undefined, revision = undefined }) {
   const [first] = list;
-  if (lines) return { path: "preview", body: of ? { lines, source: of.packets, packet: first, revision } : { lines, frame: first, revision }, what: "preview" };
-  if (of?.packets !== undefined) return { path: `packets/${first}.y4m?source=${of.packets}`, what: `packet ${first} of source ${of.packets}` };
-  if (of) return { path: `before/frames/${first}.y4m?source=${of.before}`, what: `frame ${first} before the edits` };
-  return { path: list.length > 1 ? `frames/${first}-${list.at(-1)}.y4m` : `frames/${first}.y4m`, what: `frame ${first}` };
+  if (!of && !lines && list.length === 1) return { path: `frames/${first}.y4m`, what: `frame ${first}` };
+  const what = lines ? "preview" : of?.packets !== undefined ? `packet ${first} of source ${of.packets}` : of ? `frame ${first} before the edits` : `frame ${first}`;
+  return { path: "frames", body: { frames: list, ...of, ...(lines && { lines, revision, ...named() }) }, what };
 }
 
 async function frames(list, given = {}) {
@@ -84,9 +129,9 @@ async function frames(list, given = {}) {
 }
 
 /** The frames that are shown as a file: its bytes, its name, and what it has. `got` hears how many bytes of all are here; `how` says what is coded again. */
-async function exported({ name = "", signal, got = () => {}, how = null }) {
+async function exported({ name = "", signal = undefined, got = (done, total) => {}, how = null }) {
   const coded = how ? `&${new URLSearchParams({ code: 1, ...how })}` : "";
-  const answer = await get(`exported?name=${name}${coded}`, "", signal);
+  const answer = await get(`file/export?name=${name}${coded}`, "", signal);
   const total = Number(answer.headers.get("Content-Length"));
   const pieces = [];
   let done = 0;
@@ -102,31 +147,42 @@ async function exported({ name = "", signal, got = () => {}, how = null }) {
 
 async function file(kind, given = {}) {
   if (kind === "export") return exported(given);
-  const answer = await get("cuts.csv", "the list of cuts");
+  const answer = await get("file/cuts.csv", "the list of cuts");
   return { file: await answer.blob(), name: nameIn(answer.headers.get("Content-Disposition")) };
 }
 
 const LINKS = { png: (frame) => `../frames/${frame}.png` };
 
-async function task(kind, query, { signal } = {}) {
-  if (kind === "costs") return look("costs", {}, { waits: "what an export costs", signal });
-  const { lines, packet, revision } = query;
-  return (await post("preview", { lines, findings: packet, revision }, "", signal)).json();
+async function made(kind, query, { waits = "", signal = undefined } = {}) {
+  return (await post("task", { kind, ...query }, waits, signal)).json();
+}
+
+/** The repairs of a finding. What they need of packets is asked for once. */
+async function repairs({ finding = null }, how) {
+  await begun;
+  const { contents } = mirror;
+  const numbers = contents.unknown(finding.packet);
+  if (numbers.length) contents.know(numbers, await made("facts", { numbers: runsOf(numbers), ...named() }, how));
+  return { revision: mirror.revision, repairs: mirror.repairs(finding) };
+}
+
+function task(kind, query = {}, how = {}) {
+  return kind === "repairs" ? repairs(query, how) : made(kind, kind === "check" ? { ...query, ...named() } : query, how);
 }
 
 async function progress(name) {
-  const { doing, opening, exports } = await look("progress");
+  const { doing, opening, exports } = await asked("progress");
   return { doing, opening, exporting: exports[name] };
 }
 
 /** Opens a file that was dropped, where the server has it: a page learns its name and its bytes, and not its path. */
 async function same(name, size, sha256) {
-  return (await look("same", { name, size, sha256 })).files;
+  return (await asked("streams", { name, size, sha256 })).files;
 }
 
 /** Calls `heard` with the name of each event of the server, and how many changes there were by then, and `found` with what a check found, as long as the
  * page is visible. */
-function changed(heard, found) {
+function listen(heard, found) {
   let source = null;
   const start = () => {
     if (source || document.hidden) return;
@@ -134,7 +190,11 @@ function changed(heard, found) {
     for (const name of ["edit", "restarted", "saved"]) {
       source.addEventListener(name, (event) => heard(name, JSON.parse(event.data).changes));
     }
-    source.addEventListener("check", (event) => found(JSON.parse(event.data)));
+    source.addEventListener("check", (event) => {
+      const members = JSON.parse(event.data);
+      if (members.check !== undefined) mirror.heard(members);
+      found(members);
+    });
     source.addEventListener("error", () => heard("lost", null));
     source.addEventListener("open", () => heard("open", null));
   };
@@ -159,15 +219,16 @@ use({
   file,
   task,
   progress,
-  changed,
+  changed: listen,
   same,
-  paste: async (members) => (await post("paste", members, "edit")).json(),
-  state: () => look("session", {}, { waits: "the packets" }),
-  save: async (source, page) => (await post("edits", { line: "save", source, page }, "the packets to be saved")).json(),
-  scriptOfCuts: async (text) => (await (await post("cuts", { text }, "the list of cuts")).json()).script,
+  paste,
+  state,
+  save: (source, page) => changed({ line: "save", source }, page, "the packets to be saved"),
   link: (kind, number) => LINKS[kind](number),
-  sound: ({ sounds, revision, instance }) => (sounds ? String(new URL(`sound.webm?revision=${revision}&instance=${instance}`, BASE)) : null),
-  files: async () => (await look("files")).files,
-  add: async (path) => (await post("sources", { file: path }, OPENING)).json(),
-  page: async (path) => (await (await post("pages", { file: path }, "the page to be opened")).json()).address,
+  sound: ({ sounds, revision, instance }) => (sounds ? String(new URL(`file/sound.webm?revision=${revision}&instance=${instance}`, BASE)) : null),
+  hasWave: ({ waves }, source) => waves[source],
+  wave: async (source, piece, instance) => ({ bytes: await (await get(`file/wave.webm?source=${source}&piece=${piece}&instance=${instance}`)).arrayBuffer(), begins: 0 }),
+  files: async () => (await asked("streams")).files,
+  add: async (path) => (await post("streams", { file: path, as: "source" }, OPENING)).json(),
+  page: async (path) => (await (await post("streams", { file: path, as: "page" }, "the page to be opened")).json()).address,
 });

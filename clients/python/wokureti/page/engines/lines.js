@@ -1,4 +1,4 @@
-// Request lines and replies as words: docs/requests.md has the requests.
+// Request lines and replies as words: docs/reference/requests.md has the requests.
 
 /** The requests that change something. */
 export const EDITS = ["use", "insert", "replace", "delete", "move", "copy", "blank", "hold", "hide", "show", "script"];

@@ -33,7 +33,7 @@ export function stepsOf(text, file) {
   if (!found || Number(found[1]) !== file.count || Number(found[2]) !== file.bytes || found[3] !== file.digest) throw new Error("it is of another stream");
   const steps = [];
   const others = [];
-  let [left, title, count] = [0, "", 0];
+  let [left, title, count, isOpen] = [0, "", 0, false];
   for (const [place, line] of lines.slice(1).entries()) {
     if (line.startsWith("#") || !line.trim()) {
       const [step, source] = [STEP.exec(line), SOURCE.exec(line)];
@@ -42,11 +42,11 @@ export function stepsOf(text, file) {
       continue;
     }
     if (!isEdit(line) || ++count > MOST_EDITS) throw new Error(`line ${place + 2} is no edit`);
-    if (left > 0 && steps.isOpen) steps.at(-1).lines.push(plain(line));
+    if (left > 0 && isOpen) steps.at(-1).lines.push(plain(line));
     else steps.push({ title, lines: [plain(line)] });
     left = Math.max(0, left - 1);
-    steps.isOpen = left > 0;
+    isOpen = left > 0;
     title = "";
   }
-  return { steps: steps.map(({ title: one, lines: edits }) => ({ title: one, lines: edits })), others };
+  return { steps, others };
 }

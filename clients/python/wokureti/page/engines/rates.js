@@ -4,7 +4,10 @@ import { SHOWN } from "./tags.js";
 
 // Frames a second that a time base may be the rate of, at most, and rates that clips have.
 const MOST_RATE = 240;
-const STANDARD = [[24000, 1001], [24, 1], [25, 1], [30000, 1001], [30, 1], [48, 1], [50, 1], [60000, 1001], [60, 1], [120, 1], [10, 1], [12, 1], [15, 1], [20, 1]];
+const STANDARD = /** @type {[number, number][]} */ ([
+  [24000, 1001], [24, 1], [25, 1], [30000, 1001], [30, 1], [48, 1], [50, 1], [60000, 1001], [60, 1], [120, 1],
+  [10, 1], [12, 1], [15, 1], [20, 1],
+]);
 // A step that is rounded is not smaller.
 const LEAST_ROUNDED = 8;
 

@@ -1,11 +1,11 @@
-// The repairs that can work for a finding: each is a list of edits, which a person sees before it is made. The Python client has the same (page/proposals.py);
-// tests/repair_cases.json has what both answer.
+// The repairs that can work for a finding: each is a list of edits, which a person sees before it is made. tests/repair_cases.json has what each engine
+// answers.
 
 import { SHOWN } from "./tags.js";
 
 // The edits of a repair, at most; packets on each side of a finding that are compared with a second recording; how far away packets that were moved are.
 const MOST_EDITS = 10000;
-const NEAR = 2000;
+export const NEAR = 2000;
 const NEAR_BY = 64;
 // Packets of fewer bytes are written as HEX, also if another source has them.
 const LEAST_COPY = 16;
@@ -22,7 +22,7 @@ function commonest(values) {
 }
 
 export class Repairs {
-  /** The packets of source 0: `timeline` has their kinds, `contents` the others, `hex(packet, source)` the bytes of one. */
+  /** The packets of source 0: `timeline` has their kinds, `contents` the others, `hex(packet, source)` the bytes of one as a line has them. */
   constructor(contents, timeline, names, hex) {
     Object.assign(this, { contents, timeline, names, hex });
     this.stream = contents.streams[0];
@@ -235,7 +235,7 @@ export class Repairs {
 
   drops(packet) {
     if (!this.timeline.sizes[packet] || this.isLostFromStart(packet)) return [];
-    return [{ name: "drop", title: "Drop the frame: a packet of no bytes shows the picture before", lines: [`replace ${packet} -`], packet }];
+    return [{ name: "drop", title: "Drop the frame: an empty packet shows the picture before", lines: [`replace ${packet} -`], packet }];
   }
 
   /** Packets before the first key frame cannot be decoded. */

@@ -2,19 +2,18 @@
 
 import { objectsOf } from "../details.js";
 import { nodesOf } from "../script.js";
-import { shotsOf } from "../shots.js";
 import { Refused, sizeOfSource } from "./calls.js";
 import { Check, atEnd, atHeader } from "./checking.js";
-import { Clipboard, runsOf } from "./clipboard.js";
 import { Causes, Contents, readIvf } from "./contents.js";
 import { scriptOf, textOf as cutsOf } from "./cut_lists.js";
+import { runsOf as heardIn } from "./heard.js";
 import { plain, spaced } from "./lines.js";
 import { stepsOf, textOf, titled } from "./lists.js";
+import { Looks } from "./looks.js";
 import { rateOf } from "./rates.js";
 import { Repairs } from "./repairs.js";
 import { Session } from "./session.js";
 import { Sha256 } from "./sha256.js";
-import { Runs, Timeline, original } from "./views.js";
 
 // Bytes of the pictures of cached states; edits and notices that are told, at most; characters of an edit; checks that are remembered.
 const MOST_STATES = 1 << 29;
@@ -23,12 +22,8 @@ const MOST_LINE = 200;
 const MOST_CHECKS = 8;
 // Bytes between two reports of how much is read.
 const STEP = 1 << 23;
-// Packets, frames or columns that are told at a time.
+// Frames whose origins are asked for at a time.
 const MOST_ENTRIES = 4096;
-// The columns of the tiles that an answer to a change has; places of selected packets that are named; packets that a step inserts, at most.
-const COLUMNS = 1024;
-const MOST_PLACES = 3;
-const MOST_LINES = 1 << 20;
 // Nodes that may change samples.
 const CHANGING = /(?:^|; ?)(?:crop|fade) /;
 
@@ -68,8 +63,9 @@ function indexes(module, sources, report) {
   return { session, found };
 }
 
-export class Stream {
+export class Stream extends Looks {
   constructor(module) {
+    super();
     this.module = module;
     this.restarts = 0;
     this.checkNumber = 0;
@@ -208,8 +204,7 @@ export class Stream {
     this.isBehind = true;
     this.contents.learn();
     this.causes.follow();
-    this.timelines = [];
-    this.runs = null;
+    this.lookAgain();
     this.scriptText = spaced(this.session.calls.answered("script").slice("script ".length));
     this.frameCount = this.session.count();
     this.begun = null;
@@ -243,7 +238,7 @@ export class Stream {
   }
 
   /** Edits as one step, or the text `undo` or `redo`. If the stream is of another revision, nothing is done. */
-  ask(lines, { revision, title = "", page } = {}) {
+  ask(lines, { revision = undefined, title = "", page = null } = {}) {
     if (revision !== undefined && revision !== this.revision) throw new Refused(412, { error: "the stream was changed" });
     return this.change(() => ({ reply: lines === "undo" || lines === "redo" ? this[lines]() : this.step(lines, title), ...this.told(page) }));
   }
@@ -259,25 +254,17 @@ export class Stream {
   /** What is told after a change: the state, and what of the page is shown. */
   told(page) {
     const found = { revision: this.revision, changes: this.changes, session: this.state() };
-    if (!page) return found;
-    const source = Math.min(page.source, this.files.length - 1);
-    const packet = Math.max(0, Math.min(page.packet, this.contents.streams[source].length - 1));
-    return { ...found, place: this.place({ source, packet }), tiles: page.tiles.map(([per, number]) => this.tile({ source, first: number * COLUMNS * per, per, count: COLUMNS })) };
+    return page ? { ...found, ...this.shownOn(page) } : found;
   }
 
   /** Inserts remembered packets as one step. */
-  paste({ contents, numbers, source, at, move, revision, page }) {
+  paste({ contents, revision, page, ...given }) {
     if (revision !== this.revision) throw new Refused(412, { error: "the stream was changed" });
     if (contents !== this.contents.name) throw new Refused(409, { error: "the packets that were copied are gone, since the stream was opened again" });
-    if (numbers.reduce((sum, [, count]) => sum + count, 0) > MOST_LINES) throw new Refused(400, { error: `at most ${MOST_LINES} packets are inserted at a time` });
-    const board = new Clipboard(this.contents.streams, numbers, source, at, (number, place) => this.insertion(number, place));
-    const { lines, first } = move ? board.moves() : board.copies();
-    const count = board.numbers.length;
-    const { deleted } = board;
-    const used = source === this.session.current ? lines : [`use ${source}`, ...lines];
+    const { lines, title, told } = this.pasted(given, (number, place) => this.insertion(number, place));
     return this.change(() => {
-      if (lines.length) this.step(used, `${move ? "Move" : "Copy"} ${count} packets to ${first}`);
-      return { first, count, deleted, made: lines.length, ...this.told(page) };
+      if (lines.length) this.step(lines, title);
+      return { ...told, ...this.told(page) };
     });
   }
 
@@ -313,17 +300,16 @@ export class Stream {
     return this.revision + this.saved + this.restarts;
   }
 
-  timeline(source) {
-    return (this.timelines[source] ??= new Timeline(this.contents, source, this.causes.isWhole ? this.causes.seen[source].causes : []));
+  get current() {
+    return this.session.current;
   }
 
-  served() {
-    if (!this.runs) {
-      const frames = this.files.map((_, source) => this.timeline(source).shown);
-      const { shots } = shotsOf(this.scriptText, frames);
-      this.runs = new Runs(shots, (source) => this.timeline(source));
-    }
-    return this.runs;
+  causesOf(source) {
+    return this.causes.isWhole ? this.causes.seen[source].causes : [];
+  }
+
+  damaged() {
+    return this.check && this.isOfNow(this.check) ? this.check.inside : [];
   }
 
   /** The number and the text of the first node that changes samples of a frame, or null. */
@@ -379,7 +365,6 @@ export class Stream {
       ...this.edits(),
       saved: saves.every(({ saved }) => saved),
       saves,
-      exports: true,
       changing: this.changing(),
       list: "this browser",
       again: null,
@@ -392,80 +377,20 @@ export class Stream {
     };
   }
 
-  tile({ source, first, per, count }) {
-    const timeline = this.timeline(source);
-    if (this.check && source === 0 && this.isOfNow(this.check)) timeline.damage(this.check.inside);
-    const start = Math.min(first, timeline.count);
-    const columns = Math.min(count, MOST_ENTRIES);
-    const keys = timeline.keysOf(start, per, columns).map((packet) => [packet, timeline.stream[packet], timeline.ownFrame(packet)]);
-    return { revision: this.revision, contents: this.contents.name, source, first, per, packets: timeline.count, ...timeline.tile(start, per, columns), keys };
-  }
-
-  place({ source, packet }) {
-    const found = { revision: this.revision, source, packet, frame: this.served().frameOf(source, packet) };
-    const timeline = this.timeline(source);
-    return packet < timeline.count ? { ...found, own: timeline.ownFrame(packet), before: this.before(source, packet) } : found;
-  }
-
-  /** The frame that the file of a source shows at a packet, or null. */
-  before(source, packet) {
-    const index = original(this.contents, source, packet);
-    if (index === null) return null;
-    this.shownOf ??= [];
-    this.shownOf[source] ??= this.files[source].tags.reduce((list, tag) => (list.push(list.at(-1) + (tag & 2 ? 1 : 0)), list), [0]);
-    const shown = this.shownOf[source];
-    return shown.at(-1) ? Math.min(shown[index], shown.at(-1) - 1) : null;
-  }
-
-  origins({ from, count }) {
-    const found = { revision: this.revision, from, sources: [], packets: [], before: [] };
-    for (let frame = from; frame < Math.min(from + Math.min(count, MOST_ENTRIES), this.frameCount); frame++) {
-      const { source, packet } = this.served().origin(frame);
-      found.sources.push(source);
-      found.packets.push(packet);
-      found.before.push(this.before(source, packet));
-    }
-    return found;
-  }
-
-  key({ source, packet, step }) {
-    const timeline = this.timeline(source);
-    const found = step > 0 ? timeline.nextKey(packet + 1) : timeline.keyBefore(packet - 1);
-    return { revision: this.revision, source, packet: found < 0 || found >= timeline.count ? null : found };
-  }
-
-  cut({ frame, step }) {
-    return { revision: this.revision, frame: this.served().join(frame, step) };
-  }
-
-  range({ source, first, end }) {
-    const found = this.served().rangeOf(source, first, end);
-    return { revision: this.revision, ...found, places: found.places.slice(0, MOST_PLACES) };
-  }
-
-  numbers({ source, first, count }) {
-    return { revision: this.revision, contents: this.contents.name, numbers: runsOf(this.contents.streams[source].slice(first, first + count)) };
-  }
-
-  times() {
-    return { revision: this.revision, times: null };
-  }
-
   repairsNow() {
     const hex = (packet, source) => this.session.ask(`packet ${packet}`, source).split(" ")[2];
     return new Repairs(this.contents, this.timeline(0), this.files.map(({ name }) => name), hex);
   }
 
-  repairs(finding) {
-    return { revision: this.revision, repairs: this.repairsNow().of(finding) };
-  }
-
-  repair_all() {
-    return { revision: this.revision, ...this.repairsNow().all(this.check?.findings ?? []) };
-  }
-
-  look(what, query) {
-    return what === "timeline" ? this.tile(query) : this[what](query);
+  task(kind, { finding, source, text }) {
+    const tasks = {
+      cuts: () => ({ script: scriptOf(text, this.begins()) }),
+      repairs: () => ({ repairs: this.repairsNow().of(finding) }),
+      repair_all: () => this.repairsNow().all(this.check?.findings ?? []),
+      times: () => ({ times: null }),
+      waves: () => ({ runs: heardIn(this.contents, source) }),
+    };
+    return { revision: this.revision, ...tasks[kind]() };
   }
 
   frames(list) {
@@ -480,7 +405,7 @@ export class Stream {
 
   // Files
 
-  /** The packets of a source as a file, and whether its times were numbered anew. */
+  /** The packets of a source as a file, and whether its times were numbered again. */
   save(source, pads = true) {
     const restamps = this.contents.isEdited(source);
     const pieces = this.session.calls.save(source, pads, restamps);
@@ -508,10 +433,6 @@ export class Stream {
 
   cuts() {
     return cutsOf(this.served().shots, this.begins());
-  }
-
-  scriptOfCuts(text) {
-    return scriptOf(text, this.begins());
   }
 
   // The check

@@ -8,6 +8,17 @@ const [INTER, HIDDEN, KEY_PACKET, FORGED, DROPPED, DAMAGED, LOST, BROKEN] = [0, 
 // Of columns of several packets, so many have one of their key packets named.
 const KEY_COLUMNS = 16;
 
+/** The place of the first number that is at least a value, in a list that ascends. */
+export function firstAt(list, value) {
+  let [low, high] = [0, list.length];
+  while (low < high) {
+    const middle = (low + high) >> 1;
+    if (list[middle] < value) low = middle + 1;
+    else high = middle;
+  }
+  return low;
+}
+
 function kindOf(tags) {
   if (tags & EMPTY) return DROPPED;
   if (!(tags & SHOWN)) return HIDDEN;
@@ -112,13 +123,7 @@ export class Timeline {
   /** The packet that is shown as a frame, or null. */
   packetOf(frame) {
     if (frame < 0 || frame >= this.shown) return null;
-    let [low, high] = [0, this.count];
-    while (low < high) {
-      const middle = (low + high + 1) >> 1;
-      if (this.frames[middle] <= frame) low = middle;
-      else high = middle - 1;
-    }
-    return low;
+    return firstAt(this.frames, frame + 1) - 1;
   }
 }
 

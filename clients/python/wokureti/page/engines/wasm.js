@@ -2,13 +2,16 @@
 // it is asked.
 
 import { toColour } from "../colours.js";
+import { find } from "../elements.js";
 import { OPENING, Refusal, offer, use, waited } from "../engine.js";
 import { writeRecent } from "../recent.js";
+import { PIECE } from "../peaks.js";
 import { notice } from "../status.js";
 import { Channel } from "./channel.js";
 import { NO_ENCODER, canEncode, check, encoded } from "./encoding.js";
 import * as kept from "./kept.js";
 import { baseOf } from "./rates.js";
+import { WebmSound } from "./webm_sound.js";
 
 // Milliseconds after which the second worker ends if it is not asked.
 const IDLE = 60000;
@@ -20,8 +23,6 @@ const LARGE = 1 << 29;
 // Lists of edits that are offered before a file is open.
 const MOST_RECENT = 10;
 
-const find = (id) => document.getElementById(id);
-
 /** What the engine has: the workers, the files, and the state that was told last. */
 const own = {
   module: null,
@@ -31,12 +32,14 @@ const own = {
   sources: [],
   about: null,
   session: null,
+  // The sound of each file, once it is asked for.
+  sounds: new Map(),
   // The part of a file that is read, or null, how far an export is, and why this page only looks.
   opening: null,
   exporting: null,
   only: "",
-  heard: () => {},
-  found: () => {},
+  heard: (name, changes) => {},
+  found: (members) => {},
   release: async () => {},
 };
 let isOpen;
@@ -111,7 +114,7 @@ async function open(sources) {
     await lock(about.digest);
     own.main?.end();
     leave();
-    Object.assign(own, { main: fresh, sources, about });
+    Object.assign(own, { main: fresh, sources, about, sounds: new Map() });
     const text = await kept.read(about.digest).catch(() => null);
     // A list that is not taken stays, under another name.
     if (text !== null && !(await fresh.call("take", [text])).isTaken) await kept.write(`${about.digest} ${Date.now()}`, text).catch(() => {});
@@ -191,7 +194,7 @@ async function linesAfter(lines, revision) {
   return [...(await own.main.call("lines")), ...lines];
 }
 
-async function asked(list, { of, lines, revision, low, signal }) {
+async function asked(list, { of = null, lines = null, revision = undefined, low = false, signal = undefined }) {
   const how = { low, signal };
   if (!of && !lines) return own.main.call("frames", [list], how);
   if (of?.before !== undefined) return (await beside()).call("beside.before", [of.before, list], how);
@@ -216,10 +219,15 @@ async function costs(signal) {
   return { frames: count, coded, leads, sounds: false, encoder, why: encoder ? "" : NO_ENCODER };
 }
 
-async function task(kind, query, { signal } = {}) {
-  if (kind === "costs") return costs(signal);
-  const { lines, packet, revision } = query;
+async function findingsAfter({ lines = [], packet = 0, revision = undefined }, signal) {
   return { revision, findings: await (await beside()).call("beside.findings", [await linesAfter(lines, revision), packet], { signal }) };
+}
+
+async function task(kind, query = {}, { waits = "", signal = undefined } = {}) {
+  if (kind === "costs") return waited(waits, costs(signal));
+  if (kind === "check") return findingsAfter(query, signal);
+  await opened;
+  return waited(waits, own.main.call("task", [kind, query], { signal }));
 }
 
 // Files
@@ -322,7 +330,7 @@ async function coded(how, signal) {
   return { pieces, said: `${saidOf(pieces)}; ${many(packets.length)} of ${many(plan.frames)} frames are coded again, in ${many(size)} bytes, ${quality}; all others stay as they are` };
 }
 
-async function exported({ signal, how }) {
+async function exported({ signal = undefined, how = null }) {
   const name = `${own.about.name.replace(/\.[^.]*$/, "")}-export.ivf`;
   const handle = await chosen(name);
   // Whoever stops it ends the worker, which hears nothing while it is in a call.
@@ -346,6 +354,14 @@ async function file(kind, given = {}) {
   return { file: new Blob([await own.main.call("cuts")], { type: "text/csv" }), name: `${own.about.name.replace(/\.[^.]*$/, "")}-cuts.csv` };
 }
 
+/** The sound of a file, of which only the pictures are in the worker. */
+async function wave(source, piece) {
+  const file = own.sources[source];
+  if (!own.sounds.has(file)) own.sounds.set(file, new WebmSound(file).read());
+  const sound = await own.sounds.get(file);
+  return sound.hasSound ? sound.piece(piece * PIECE, (piece + 1) * PIECE) : null;
+}
+
 async function pngOf(number) {
   const [frame] = await frames([number]);
   const canvas = document.createElement("canvas");
@@ -361,14 +377,14 @@ async function offered(kind, number) {
   return offer(new Blob([await own.main.call("text")], { type: "text/plain" }), `${stem}.edits`);
 }
 
-async function answer(line, source, { waits = "", signal } = {}) {
+async function answer(line, source, { waits = "", signal = undefined } = {}) {
   await opened;
   return waited(waits, own.main.call("answer", [line, source], { signal }));
 }
 
-async function look(what, query = {}, { waits = "", signal } = {}) {
+async function look(what, query, { waits = "" } = {}) {
   await opened;
-  return waited(waits, own.main.call("look", [what, query], { signal }));
+  return waited(waits, own.main.call("look", [what, query]));
 }
 
 async function state() {
@@ -391,10 +407,11 @@ use({
   instead: (sources) => waited(OPENING, open([sources])),
   ask: (lines, given) => edited("ask", [lines, given]),
   paste: (members) => edited("paste", [members]),
-  scriptOfCuts: (text) => own.main.call("scriptOfCuts", [text]),
   link: () => null,
   offer: offered,
   sound: () => null,
+  hasWave: (session, source) => source < own.sources.length,
+  wave,
   progress: async () => ({ doing: null, opening: own.opening === null ? null : { what: "reading", done: own.opening, total: 1 }, exporting: own.exporting ?? undefined }),
   changed(heard, found) {
     Object.assign(own, { heard, found });

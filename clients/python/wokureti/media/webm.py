@@ -1,0 +1,336 @@
+"""WebM and Matroska files that the programs read where they are: what their beginning says of the video, where its
+packets are, by vp8list, and what is damaged. ffmpeg reads their sound and their tags, when these are needed first."""
+
+import fractions
+import functools
+import math
+import mmap
+import os
+import re
+import subprocess
+import tempfile
+import threading
+from array import array
+from typing import NamedTuple
+
+from .. import system
+from ..base import checks, programs
+from ..base.progress import Reading, of_program
+from . import blocks, containers, ivf
+
+MARK = b"\x1a\x45\xdf\xa3"
+EBML, ENCODINGS, DURATION = 0x1A45DFA3, 0x6D80, 0x23E383
+DOC_TYPE, NUMBER, KIND, CODEC, VIDEO, WIDTH, HEIGHT = 0x4282, 0xD7, 0x83, 0x86, 0xE0, 0xB0, 0xBA
+SOUND = b"\2"
+# Bytes of an element at the beginning that is looked into, and of a list of packets that are read together, at most.
+MOST_PART, PIECE = 1 << 24, 1 << 20
+# The greatest numerator and denominator of a rate, as ffmpeg has them.
+MOST_RATE = 30000
+# What vp8list lists of a packet, as the tags of an index.
+TAGS = {
+    (kind, show): ivf.KEY * (kind == b"key") | ivf.SHOWN * (show == b"shown")
+    for kind in (b"-", b"key", b"inter")
+    for show in (b"shown", b"hidden")
+}
+SPARE = re.compile(r"^spare (\d+)$", re.MULTILINE)
+# The indexes of the last files, by what tells one file from another: a session that is started again has the same ones.
+MOST_KNOWN = 16
+known, knowing = {}, threading.Lock()
+
+
+class Facts(NamedTuple):
+    """What the beginning of a file says: the head of its video, as vp8serve saves it, the nanoseconds of a frame, 0 if
+    they are not named, and whether it has sound."""
+
+    head: ivf.Head
+    duration: int
+    has_sound: bool
+
+    @property
+    def rate(self):
+        """The frames a second that the file names, as a pair, as ffmpeg rounds them, or None."""
+        if not self.duration:
+            return None
+        exact = fractions.Fraction(containers.NANO, self.duration)
+        found = exact.limit_denominator(max(1, min(MOST_RATE, math.floor(MOST_RATE / exact))))
+        return (found.numerator, found.denominator) if found else None
+
+    def served(self, step):
+        """The frames a second that vp8serve writes before the frames, if `step` is the median step of the time stamps:
+        the first of these with 32 bits.
+        """
+        head, found = self.head, [fractions.Fraction(containers.NANO, self.duration)] if self.duration else []
+        found += [fractions.Fraction(head.rate, head.scale * step), fractions.Fraction(head.rate, head.scale)]
+        return next((one.numerator, one.denominator) for one in found if max(one.numerator, one.denominator) < 1 << 32)
+
+
+# Of a file that begins otherwise, but is read.
+PLAIN = Facts(ivf.Head(0, 0, 1000, 1), 0, False)
+
+
+def is_marked(descriptor):
+    """Whether an open file begins as WebM and Matroska files do."""
+    return system.pread(descriptor, len(MARK), 0) == MARK
+
+
+def is_read(path, program=None, lister=None):
+    """Whether a path is that of a file that the programs read where it is. Of others the libraries that read containers
+    say why they cannot be read. Python's `av` reads the sound where it is the only one."""
+    with open(path, "rb") as file:
+        if not is_marked(file.fileno()) or facts_of(file.fileno()) is None:
+            return False
+    readers = (program or programs.find("vp8serve"), lister or programs.find("vp8list"))
+    return (containers.has_ffmpeg() or not containers.has_av()) and all(
+        programs.says(reader, "WebM") for reader in readers
+    )
+
+
+def facts_of(descriptor):
+    """What the beginning of a file says; None if it is not one of VP8 whose packets are in it as they are, or is not
+    whole.
+    """
+    parts = parts_of(descriptor)
+    if (
+        blocks.string(first(parts.get(EBML, b"")).get(DOC_TYPE, b"")) not in (b"webm", b"matroska")
+        or blocks.TRACKS not in parts
+    ):
+        return None
+    entries = [
+        first(text)
+        for name, text in blocks.children(parts[blocks.TRACKS], 0, len(parts[blocks.TRACKS]))
+        if name == blocks.ENTRY
+    ]
+    video = next((entry for entry in entries if blocks.string(entry.get(CODEC, b"")) == b"V_VP8"), None)
+    scale = value_of(first(parts.get(blocks.INFO, b"")).get(blocks.SCALE), blocks.MS)
+    if video is None or ENCODINGS in video or not 0 < scale < 1 << 32:
+        return None
+    sides, common = first(video.get(VIDEO, b"")), math.gcd(containers.NANO, scale)
+    width, height = (value_of(sides.get(name), 0) % (1 << 16) for name in (WIDTH, HEIGHT))
+    head = ivf.Head(width, height, containers.NANO // common, scale // common)
+    return Facts(head, value_of(video.get(DURATION), 0), any(entry.get(KIND) == SOUND for entry in entries))
+
+
+def parts_of(descriptor):
+    """The contents of the first elements of each name before the first cluster."""
+    place, size, found = 0, os.fstat(descriptor).st_size, {}
+    while place < size:
+        text = system.pread(descriptor, blocks.LONGEST, place)
+        number = blocks.number_at(text, 0, True)
+        length = number and blocks.number_at(text, number[1], False)
+        if not length or number[0] == blocks.CLUSTER or number[0] not in blocks.KNOWN:
+            break
+        start = place + length[1]
+        if number[0] == blocks.SEGMENT:
+            place = start
+            continue
+        place = start + length[0]
+        if place > size:
+            break
+        if number[0] in (EBML, blocks.INFO, blocks.TRACKS) and length[0] <= MOST_PART:
+            found.setdefault(number[0], system.pread_all(descriptor, length[0], start))
+    return found
+
+
+def first(text):
+    """The elements in an element, by their names: the first one of each."""
+    found = {}
+    for name, content in blocks.children(text, 0, len(text)):
+        found.setdefault(name, bytes(content))
+    return found
+
+
+def value_of(content, missing):
+    return int.from_bytes(content, "big") if content else missing
+
+
+# The packets
+
+
+def index_of(lister, path, shared, signature, name):
+    """The index of the packets of a file with this name, as vp8list lists them. `OSError` if it does not."""
+    with knowing:
+        found = known.get(signature)
+    if found is None:
+        found = read_index(lister, path, shared, name)
+        with knowing:
+            known[signature] = found
+            while len(known) > MOST_KNOWN:
+                del known[next(iter(known))]
+    return found
+
+
+def read_index(lister, path, shared, name):
+    with tempfile.TemporaryFile() as out, tempfile.TemporaryFile() as errors:
+        with subprocess.Popen(
+            [lister, path], stdin=subprocess.DEVNULL, stdout=out, stderr=errors, pass_fds=shared
+        ) as process:
+            with programs.ending(process), Reading(of_program(process.pid, [(name, path)], shared)):
+                process.wait(containers.MOST_TIME)
+        if process.returncode != 0:
+            errors.seek(0)
+            raise OSError(
+                f"vp8list does not list the packets of {path}: {errors.read().decode(errors='replace').strip()[-500:]}"
+            )
+        out.seek(0)
+        return parsed(out)
+
+
+def parsed(file):
+    """The index in a list that vp8list wrote."""
+    index, names = ivf.Index(), file.readline().rstrip(b"\n").split(b"\t")
+    count = len(names)
+    stamp, size, kind, show, byte = map(names.index, (b"stamp", b"bytes", b"kind", b"show", b"byte"))
+    while piece := file.read(PIECE):
+        cells = (piece + file.readline()).replace(b"\n", b"\t").split(b"\t")
+        cells.pop()
+        index.starts.extend(map(int, cells[byte::count]))
+        index.sizes.extend(map(int, cells[size::count]))
+        index.stamps.extend(map(int, cells[stamp::count]))
+        index.tags.extend(map(TAGS.__getitem__, zip(cells[kind::count], cells[show::count])))
+    for place in [place for place, length in enumerate(index.sizes) if not length]:
+        index.tags[place] |= ivf.NO_BYTES
+    return index
+
+
+def blocks_of(path, data):
+    """The packets of a file with these bytes, as `blocks.Block` has them, as vp8list reads them; None if it does not,
+    or if their times cannot be right. In a damaged file it finds more of them than `blocks.find`, unless the beginning
+    is damaged: then it reads nothing."""
+    if not is_read(path):
+        return None
+    with open(path, "rb") as file:
+        head = facts_of(file.fileno()).head
+    try:
+        index = read_index(programs.find("vp8list"), checks.path(path), (), containers.name_of(path))
+    except OSError:
+        return None
+    times = [stamp * head.scale * 1000 // head.rate for stamp in index.stamps]
+    if any(after > before + blocks.MOST_LEAP for before, after in zip(times, times[1:])) or times[:1] > [
+        blocks.MOST_START
+    ]:
+        # The time of a cluster is damaged, which the search does without.
+        return None
+    return [
+        blocks.Block(0, time, start, data[start : start + size])
+        for start, size, time in zip(index.starts, index.sizes, times)
+    ]
+
+
+# Damage
+
+
+def damage_of(program, path, shared, name, watch=containers.NOBODY):
+    """Sentences about the damage of a file. Whether bytes of it are skipped vp8serve says, if elements do not lead from
+    one to the next.
+    """
+    with open(path, "rb") as file, mmap.mmap(file.fileno(), 0, access=mmap.ACCESS_READ) as data:
+        found, size = blocks.damage(data, watch), len(data)
+    spare = 0 if found is None else spare_of(program, path, shared)
+    if found is not None and found.is_cut:
+        return [f"{name} ends in the middle, after {size:,} bytes: the packets that followed are missing"]
+    return (
+        [f"{name} is damaged at byte {found.place:,}: {spare:,} bytes are skipped, and packets may be missing"]
+        if spare
+        else []
+    )
+
+
+def spare_of(program, path, shared):
+    """The number of bytes that vp8serve skips."""
+    done = subprocess.run(
+        [program, path],
+        stdin=subprocess.DEVNULL,
+        stdout=subprocess.DEVNULL,
+        stderr=subprocess.PIPE,
+        pass_fds=shared,
+        timeout=containers.MOST_TIME,
+        check=False,
+    )
+    found = SPARE.search(done.stderr.decode(errors="replace"))
+    return int(found.group(1)) if found else 0
+
+
+# What else there is
+
+
+class Around:
+    """What a file has besides the packets of its video, as `containers.Media` has it. `item` is the input whose file it
+    is, or None if only the beginning of the file matters. ffmpeg reads the tags and the sound when they are needed
+    first: without it there are none."""
+
+    said = ""
+
+    def __init__(self, path, facts, item=None):
+        self.path, self.facts, self.item = path, facts, item
+        self.lock, self.found_sounds = threading.Lock(), None
+
+    @property
+    def has_sound(self):
+        return self.facts.has_sound and containers.has_ffmpeg()
+
+    @property
+    def source(self):
+        """The path that a program reads, and the descriptors that it has to get for that."""
+        return (self.path, ()) if self.item is None else self.item.readable()
+
+    @functools.cached_property
+    def probed(self):
+        if not containers.has_ffmpeg():
+            return {"streams": []}
+        found = containers.probe(*self.source)
+        self.check()
+        return found
+
+    @functools.cached_property
+    def rate(self):
+        """The frames a second: those that the track names, if they are those of the time stamps."""
+        index = self.item.records()
+        return containers.rate_of_stamps(self.facts.head, index.stamps, index.tags, self.facts.rate)
+
+    @property
+    def tags(self):
+        return containers.kept_tags(self.probed.get("format", {}).get("tags", {}))
+
+    @property
+    def said_of_video(self):
+        """The tags of the video."""
+        return next((one for one in self.probed["streams"] if one.get("codec_name") == "vp8"), {}).get("tags", {})
+
+    @property
+    def video_tags(self):
+        return containers.kept_tags(self.said_of_video)
+
+    @property
+    def language(self):
+        return self.said_of_video.get("language", "und")
+
+    @property
+    def sounds(self):
+        """The tracks of sound, read once. Other threads that need them wait."""
+        with self.lock:
+            if self.found_sounds is None:
+                self.found_sounds = self.copied() if self.has_sound else []
+            return self.found_sounds
+
+    def copied(self):
+        """The tracks of sound, in the folder of the input."""
+        path, shared = self.source
+        found = containers.copy_tracks(
+            path, self.probed["streams"], [], os.path.join(self.item.folder(), "sound"), shared=shared
+        )[0]
+        self.check()
+        return found
+
+    def check(self):
+        if self.item is not None:
+            self.item.check()
+
+
+def media_of(path):
+    """What the container had in which a stream is, or was; None of an IVF file."""
+    found = containers.media_of(path)
+    if found is None and os.path.isfile(path):
+        with open(path, "rb") as file:
+            facts = facts_of(file.fileno()) if is_marked(file.fileno()) else None
+        return facts and Around(path, facts)
+    return found

@@ -1,0 +1,115 @@
+"""The sound of a source as a page draws it: its file in pieces of a minute, and at which times of it the frames of the
+source are.
+"""
+
+import bisect
+import os
+
+from ..base import rooms
+from ..media import containers, excerpts, muxing, sounds
+from ..session.exports import Frames
+
+# The nanoseconds of a piece; by how many a frame may be drawn beside its sound, which is half of what a page tells
+# apart.
+PIECE, NEAR = 60 * sounds.NANO, 5_000_000
+# The bits a second of sound that is coded for a picture.
+BITS = 64000
+
+
+def piece_of(media, number):
+    """A piece of the first track of sound of a file, as the bytes of a WebM file without a picture; none if no packet
+    is there. Packets of Opus are copied, and of another codec ffmpeg codes this minute."""
+    if not media.sounds:
+        return b""
+    track, start = media.sounds[0], number * PIECE
+    place = bisect.bisect_left(track.times, start)
+    if place == len(track.times) or track.times[place] >= start + PIECE:
+        return b""
+    length = min(PIECE, track.times[-1] + track.durations[-1] - start)
+    with rooms.Room() as room:
+        path = os.path.join(room, "piece.webm")
+        if track.codec == "opus":
+            muxing.write_sound(path, [sounds.Span(media, start, length)])
+        else:
+            source, shared = media.source
+            words = [
+                "ffmpeg",
+                "-nostdin",
+                "-y",
+                "-v",
+                "error",
+                "-seek_timestamp",
+                "1",
+                "-ss",
+                str(start / sounds.NANO),
+                "-i",
+                f"file:{os.fsdecode(source)}",
+            ]
+            words += [
+                "-t",
+                str(length / sounds.NANO),
+                "-map",
+                f"0:{track.index}",
+                "-af",
+                "aresample=async=1:first_pts=0",
+                "-c:a",
+                "libopus",
+                "-b:a",
+                str(BITS),
+                path,
+            ]
+            containers.run(words, shared=shared)
+        with open(path, "rb") as file:
+            return file.read()
+
+
+def runs_of(view, source):
+    """Where the sound of the frames of a source is: runs of frames, each with their number, the source whose file has
+    their sound, or None if they are silent, and in milliseconds when the first one begins there and how long all
+    are."""
+    contents = view.contents
+    sources = {id(item.media): place for place, item in enumerate(contents.inputs.all) if item.media is not None}
+    spans = excerpts.of_frames(contents, Frames(contents, view.streams, []).shown[source])
+    return [
+        [count, sources.get(id(media)), start / 10**6, length / 10**6]
+        for count, media, start, length in evened(spans)
+    ]
+
+
+def evened(spans):
+    """Spans of frames as runs of frames that last about as long as each other: each frame of a run begins within NEAR
+    of its time. A run is the number of frames, their media, the start and the length of all."""
+    run = None
+    for span in spans:
+        after = run and run.after(span)
+        if after is None:
+            if run is not None:
+                yield run.whole()
+            after = Run(span.media, span.start)
+            after = after.after(span) or after
+        run = after
+    if run is not None:
+        yield run.whole()
+
+
+class Run:
+    """A run that grows: of the lengths that its frames may have the least and the greatest, and where the last one
+    ended.
+    """
+
+    def __init__(self, media, start, count=0, end=None, lengths=(0, float("inf"))):
+        self.media, self.start, self.count, self.lengths = media, start, count, lengths
+        self.end = start if end is None else end
+
+    def after(self, span):
+        """The run with a frame more, or None if that is another run's."""
+        if span.media is not self.media or (self.media is not None and abs(span.start - self.end) > NEAR):
+            return None
+        end, count = self.end + span.length if self.media is None else span.start + span.length, self.count + 1
+        least = max(self.lengths[0], (end - self.start - NEAR) / count)
+        most = min(self.lengths[1], (end - self.start + NEAR) / count)
+        return Run(self.media, self.start, count, end, (least, most)) if least <= most else None
+
+    def whole(self):
+        length = min(max((self.end - self.start) / self.count, self.lengths[0]), self.lengths[1])
+        return self.count, self.media, self.start, length * self.count

@@ -1,0 +1,225 @@
+"""Streams in other containers: their packets are taken out into an IVF file, without coding them again and with their
+time stamps.
+"""
+
+import contextlib
+import mmap
+import os
+import shutil
+import stat
+
+from .. import system
+from ..errors import Failed, NotIvf
+from ..base import checks
+from ..base.progress import Copied, Stages, say
+from ..media import blocks, containers, ends, ivf, looks, webm
+from ..calls import captures, recordings
+
+
+# A file of network packets, in which a stream of RTP is.
+CAPTURE = "capture of RTP"
+# What `wokureti repair` does with a WebM or Matroska file.
+SEARCHES = "searches a damaged file for all its packets"
+
+
+def kind_of(head):
+    """The container of a file that begins with these bytes, or None."""
+    if head[:4] == b"\x1a\x45\xdf\xa3":
+        return "WebM or Matroska"
+    if head[:4] == b"RIFF" and head[8:12] == b"AVI ":
+        return "AVI"
+    if head[4:8] == b"ftyp":
+        return "MP4"
+    if head[:4] == b"OggS":
+        return "Ogg"
+    if head[:3] == b"FLV":
+        return "FLV"
+    return CAPTURE if captures.kind_of(head) is not None else None
+
+
+def is_container(path):
+    """Whether a path is a file in another container than IVF."""
+    if not os.path.isfile(path):
+        return False
+    with open(path, "rb") as file:
+        return kind_of(file.read(12)) not in (None, CAPTURE)
+
+
+def spooled(path, folder):
+    """A pipe as a file in the folder."""
+    out = new_name(folder, "spooled")
+    with system.open_input(path) as pipe, open(out, "xb") as file:
+        Copied("standard input" if path == system.STANDARD_INPUT else os.fsdecode(path)).copy(pipe, file)
+    return out
+
+
+def new_name(folder, ending):
+    return os.path.join(folder, f"{len(os.listdir(folder))}.{ending}")
+
+
+def readable(path, folder, is_quiet=False, is_checked=True, watch=None):
+    """The path of the stream for a session and for vp8list: a WebM or Matroska file that these read is itself; else as
+    `as_ivf` has it.
+    """
+    return as_ivf(path, folder, is_quiet, is_checked, watch, in_place=True)
+
+
+def as_ivf(path, folder, is_quiet=False, is_checked=True, watch=None, in_place=False):
+    """The path of the stream as IVF: the file itself, or a file in the folder. `-` is standard input, and /dev/null an
+    empty stream, for which a session has the path `-`. With `is_checked` a file that does not begin as one raises
+    `NotIvf`, which says what it looks like. `watch` hears how far a container is; a terminal shows it if there is
+    none, unless it `is_quiet`. `in_place` is that of `readable`."""
+    given, name, is_file = as_file(path, folder)
+    if not is_file:
+        return given
+    with open(given, "rb") as file:
+        head = file.read(ivf.HEAD.size)
+    kind = kind_of(head)
+    if kind is None:
+        try:
+            ivf.parse_head(head)
+        except NotIvf as error:
+            if is_checked:
+                raise NotIvf(looks.sentence(given, name, error)) from None
+        return given
+    if in_place and webm.is_read(given):
+        out = spooled(given, folder) if system.is_device(given) else given
+        if not is_quiet and webm.media_of(out).facts.has_sound and not containers.has_ffmpeg():
+            say(f"the sound of {name} is left out: install ffmpeg for that")
+    else:
+        out = taken_out(given, folder, name, kind, is_quiet, watch)
+    containers.origins[out] = path if given == path else system.STANDARD_INPUT
+    return out
+
+
+def as_file(path, folder):
+    """The path of a stream, or of a file in the folder with what a pipe gives; what it is called; and whether it is a
+    file that can be read.
+    """
+    given = system.STANDARD_INPUT if os.fspath(path) == "-" else path
+    name = "standard input" if given == system.STANDARD_INPUT else os.fsdecode(given)
+    if given == system.STANDARD_INPUT and not system.HAS_DESCRIPTOR_PATHS:
+        return spooled(given, folder), name, True
+    if system.is_null(given):
+        return "-", name, False
+    try:
+        found = os.stat(given)
+    except OSError:
+        # Who reads it says so.
+        return given, name, False
+    if stat.S_ISDIR(found.st_mode):
+        return given, name, False
+    return given if stat.S_ISREG(found.st_mode) else spooled(given, folder), name, True
+
+
+def searched(path, folder, watch=None, second=None):
+    """The path of a stream as IVF, as `as_ivf` has it. A WebM or Matroska file that is damaged is searched for its
+    packets, and then also the head, the packets, the gaps, and the length of the file, else None. Of a capture the
+    frames that can be decoded, with those of a `second` capture.
+    """
+    given, name, is_file = as_file(path, folder)
+    if not is_file:
+        return given, None
+    if recordings.is_capture(given):
+        found, out = recordings.Searched(given, name, second and as_file(second, folder)[0], second), new_name(
+            folder, "ivf"
+        )
+        found.write(out)
+        return out, found
+    with open(given, "rb") as file:
+        head = file.read(12)
+        if head[:4] == b"DKIF" or (kind_of(head) or "WebM or Matroska") != "WebM or Matroska":
+            return as_ivf(given, folder, watch=watch), None
+        file.seek(0)
+        data = file.read()
+    found = blocks.find(data, watch or containers.NOBODY)
+    is_matroska = kind_of(head) is not None or blocks.video_track(found) is not None
+    if not is_matroska or not (found.gaps or blocks.damage(data)):
+        return (taken_out(given, folder, name, "WebM or Matroska", False, watch) if is_matroska else given), None
+    if not found.gaps:
+        # It ends between two blocks, and before its end.
+        found.gaps.append((len(data), len(data), len(found.blocks)))
+    out = new_name(folder, "ivf")
+    sought = blocks.as_file(found, given, out, webm.blocks_of(given, data))
+    lost = "" if found.tracks else "; what it says of its tracks is lost"
+    say(
+        f"{name} is a damaged WebM or Matroska file: its packets were"
+        f" searched{sound_text(containers.media_of(out))}{lost}"
+    )
+    return out, (*sought, len(data))
+
+
+def taken_out(path, folder, name, kind, is_quiet, watch=None):
+    """The packets of a container as an IVF file in the folder."""
+    out = new_name(folder, "ivf")
+    with contextlib.nullcontext(watch or containers.NOBODY) if watch is not None or is_quiet else Stages() as stages:
+        stages.stage(f"taking the packets out of {name}")
+        if kind == CAPTURE:
+            containers.damaged[out] = recordings.read(path, out, name, is_quiet)
+            if not is_quiet:
+                say_damage(containers.damaged[out], "fills what is missing, also from a second capture")
+            return out
+        tool = read(path, out, name, kind, stages)
+        stages.stage(f"looking for damage of {name}")
+        containers.damaged[out] = damage_of(path, name, kind, stages)
+    media = containers.media_of(out)
+    if not is_quiet:
+        say(
+            f"{name} is {'an' if kind[0] in 'AO' else 'a'} {kind} file; {tool} took its packets out without coding them"
+            f" again{sound_text(media)}"
+        )
+    if media is not None and media.said and not containers.damaged[out]:
+        containers.damaged[out] = [f"{tool} complains of {name}: {'; '.join(media.said.splitlines()[:3])}"]
+    say_damage(containers.damaged[out], SEARCHES if kind == "WebM or Matroska" else "")
+    return out
+
+
+def say_damage(texts, helps=SEARCHES):
+    """Says what is damaged of a file that was read, and what `wokureti repair` does with it."""
+    for place, text in enumerate(texts):
+        say(f"{text}. `wokureti repair` {helps}" if helps and place == len(texts) - 1 else text)
+
+
+def read(path, out, name, kind, watch):
+    """Takes the packets of a container out, and returns the name of the program that did it."""
+    if (
+        kind == "WebM or Matroska"
+        and (containers.has_ffmpeg() or not containers.has_av())
+        and containers.read_by_core(path, out, watch)
+    ):
+        return "vp8serve"
+    if containers.can_read():
+        return containers.read(path, out, watch)
+    if not shutil.which("mkvextract") or kind != "WebM or Matroska":
+        raise Failed(f"{name} is a {kind} file: to take its packets out, install python3-av, ffmpeg or mkvtoolnix")
+    containers.run(["mkvextract", checks.path(path), "tracks", f"0:{out}"], containers.part_of(path, [out], watch))
+    containers.count_packets(out)
+    return "mkvextract"
+
+
+def damage_of(path, name, kind, watch=containers.NOBODY):
+    """Sentences about the damage of a file: the programs that read one go on after it, or end, and do not always say
+    so.
+    """
+    with open(path, "rb") as file, mmap.mmap(file.fileno(), 0, access=mmap.ACCESS_READ) as data:
+        size = len(data)
+        found = (
+            blocks.damage(data, watch)
+            if kind == "WebM or Matroska"
+            else blocks.Damage(size, True)
+            if ends.is_cut(kind, data)
+            else None
+        )
+    if found is None:
+        return []
+    if found.is_cut:
+        return [f"{name} ends in the middle, after {size:,} bytes: the packets that followed are missing"]
+    return [f"{name} is damaged at byte {found.place:,}: packets may be missing"]
+
+
+def sound_text(media):
+    """What is said of the sound."""
+    if media is None:
+        return ", and left its sound out: install python3-av or ffmpeg for that"
+    count = len(media.sounds)
+    return f", and {count} track{'s' * (count != 1)} of sound" if count else ""
