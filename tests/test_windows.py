@@ -61,13 +61,19 @@ class Wine:
     def __enter__(self):
         # wineserver asks for a folder that is there
         pathlib.Path(self.environment["WINEPREFIX"]).mkdir()
-        # without -p the server ends three seconds after the last program, and a program that starts meanwhile can fail
-        # the server goes on with what it was given as its output, so that is no pipe
-        null = {"stdout": subprocess.DEVNULL, "stderr": subprocess.DEVNULL}
-        subprocess.run([wine_program("wineserver"), "-p"], env=self.environment, timeout=LIMIT, check=True, **null)
-        subprocess.run(
-            [self.program, "wineboot", "-i"], env=self.environment, capture_output=True, timeout=SUITE_LIMIT, check=True
-        )
+        # Without -p the server ends three seconds after the last program, and a program that starts meanwhile can fail.
+        # The server, and the services that wineboot starts, keep what they were given as their output: so that is not a
+        # pipe, of which nobody would see the end. A minute after the last program they end, also if this is killed.
+        for words in ([wine_program("wineserver"), "-p60"], [self.program, "wineboot", "-i"]):
+            subprocess.run(
+                words,
+                env=self.environment,
+                stdin=subprocess.DEVNULL,
+                stdout=subprocess.DEVNULL,
+                stderr=subprocess.DEVNULL,
+                timeout=LIMIT,
+                check=True,
+            )
         return self
 
     def __exit__(self, *_):
