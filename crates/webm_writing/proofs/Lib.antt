@@ -1,0 +1,14 @@
+pub mod Numbers
+pub mod WrittenHeads
+pub mod ReadPieces
+pub mod Fitted
+pub mod Sampled
+pub mod Composed
+pub mod Grouped
+pub mod Lengths
+pub mod Indexed
+pub mod Filed
+pub mod Entered
+pub mod Placed
+pub mod Checked
+pub mod Rounded

@@ -1,0 +1,11 @@
+use Rattle.webm_writing.proofs.Composed.{on_ok}
+use Rattle.webm_writing.proofs.Indexed.{cue_written}
+use Rattle.webm_writing.proofs.indexes.write_cue.Goals as goal
+
+pub returns : goal.returns
+returns g c =
+    let w = g.W.Write.contents in
+    on_ok c.write_u64-2.result (
+    cue_written (w c.args.w.now) (w c.write_all.new.self) (w c.write_u64.new.self) (w c.write_all-2.new.self) (w c.write_u8.new.self) (w c.write_all-3.new.self) (w c.write_u64-2.new.self)
+    c.args.track c.args.stamp c.args.at c.in_ok-write_all.ensures.bytes c.in_ok-write_u64.ensures.bytes c.in_ok-write_all-2.ensures.bytes c.in_ok-write_u8.ensures.bytes c.in_ok-write_all-3.ensures.bytes
+    ) c.write_u64-2.ensures.bytes
