@@ -1,8 +1,8 @@
 // Help.
-ghost use Rattle.std.specs.Prelude.{◌≡◌, ◌≢◌, [], IsOkUnless, OnOk, Err};
-ghost use Rattle.std.specs.Io.Buffered.{writer_buffer};
+ghost use Rattle.std.specs.Prelude.{◌≡◌, ◌≢◌, [], IfErr, IsOkUnless, OnOk, Err};
+ghost use Rattle.std.specs.Io.Buffered.{writer_buffer, writer_contents};
 ghost use Rattle.clap.specs.Values.{kind_of};
-ghost use Rattle.command_lines.specs.Endings.{IsHelp};
+ghost use Rattle.command_lines.specs.Endings.{IsHelp, IsHelpFault};
 
 use crate::fault::ArgumentFault;
 use clap::error::ErrorKind;
@@ -16,6 +16,7 @@ pub fn help_or_mistake<O: Write + Drop>(
     ensures help { kind_of error.now ≡ ErrorKind.DisplayHelp → IsOkUnless result ArgumentFault.CannotWrite }
     ensures version { kind_of error.now ≡ ErrorKind.DisplayVersion → IsOkUnless result ArgumentFault.CannotWrite }
     ensures asked { OnOk result (IsHelp error.now) }
+    ensures fault { IfErr result (IsHelpFault error.now (writer_contents O.contents output.old) (writer_contents O.contents output.new)) }
     ensures flushed { OnOk result (writer_buffer output.new ≡ []) }
     ensures memory { kind_of error.now ≡ ErrorKind.OutOfMemory → result ≡ Err ArgumentFault.NoMemory }
     ensures mistake { kind_of error.now ≢ ErrorKind.DisplayHelp → kind_of error.now ≢ ErrorKind.DisplayVersion → kind_of error.now ≢ ErrorKind.OutOfMemory → result ≡ Err ArgumentFault.CommandLine }

@@ -6,3 +6,4 @@ pub mod Details
 pub mod Options
 pub mod Ranges
 pub mod Statuses
+pub mod Done

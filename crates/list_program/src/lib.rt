@@ -15,6 +15,7 @@ mod progress_line;
 mod ranges;
 
 pub use answering::{InputFile, Output, answer_to};
+pub use arguments::{Arguments, parse};
 pub use checking::{Checking, check_to};
 pub use details::{Asked, details_to};
 pub use fault::Fault;

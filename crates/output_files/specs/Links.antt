@@ -1,5 +1,5 @@
 -- Where links lead.
-use Rattle.std.specs.Prelude.{◌≡◌, nat_eq, List, ℕ, [], ◌∷◌, ◌++◌, MatchBool, codes}
+use Rattle.std.specs.Prelude.{◌≡◌, nat_eq, List, ℕ, [], ◌∷◌, ◌++◌, MatchBool, IfSome, Option, Some, None, codes}
 use Rattle.std.specs.List.{starts_with}
 use Rattle.output_files.specs.Places.{IsFolderPart, IsName}
 
@@ -11,11 +11,21 @@ IsFolderIn path folder = (name : List ℕ) × (folder ++ name ≡ path) × IsFol
 abbrev pub IsLedTo : (path link to : List ℕ) → Type 0
 IsLedTo path link to = MatchBool (starts_with nat_eq link (codes "/")) (to ≡ link) ((folder : List ℕ) × IsFolderIn path folder × (to ≡ folder ++ link))
 
--- a path leads to another one by these links, the first one first
-abbrev pub Leads : (path : List ℕ) → (links : List (List ℕ)) → (to : List ℕ) → Type 0
-Leads path [] to = to ≡ path
-Leads path (link ∷ links) to = (next : List ℕ) × IsLedTo path link next × Leads next links to
+-- what is known of the links at paths: to which text a path is one, or that none is there
+abbrev pub KnownLinks : Type 0
+KnownLinks = List ℕ → Option (Option (List ℕ))
 
--- a path leads to another one by links
-abbrev pub IsFollowed : (path to : List ℕ) → Type 0
-IsFollowed path to = (links : List (List ℕ)) × Leads path links to
+-- the system says this of a path, where that is known
+abbrev pub IsLinkSaid : KnownLinks → (path : List ℕ) → Option (List ℕ) → Type 0
+IsLinkSaid known path link = IfSome (known path) (λ there. link ≡ there)
+
+-- a path leads to another one by these links, the first one first, each of which is there
+abbrev pub Leads : KnownLinks → (path : List ℕ) → (links : List (List ℕ)) → (to : List ℕ) → Type 0
+Leads known path [] to = to ≡ path
+Leads known path (link ∷ links) to = IsLinkSaid known path (Some link) × (next : List ℕ) × IsLedTo path link next × Leads known next links to
+
+-- a path leads to another one by the links that are there, at which there is none
+pub record IsFollowed (known : KnownLinks) (path to : List ℕ) : Type 0 where
+  pub links : List (List ℕ)
+  pub leads : Leads known path links to
+  pub last : IsLinkSaid known to None

@@ -4,7 +4,7 @@ ghost use Rattle.output_files.specs.Logs.{steps_of};
 ghost use Rattle.output_files.specs.Steps.Step.{Made};
 
 use crate::both::finish_both;
-use crate::links::{followed, parts_of};
+use crate::links::{LinkedFiles, followed, parts_of};
 use crate::log::Log;
 use crate::saving::{
     BYTES_AT_ONCE, Call, OneUnsaved, Save, SavePlace, SavedFiles, SavedText, Unsaved, abandon,
@@ -351,7 +351,11 @@ impl SavedFiles for HostRuntime {
 ///
 /// An error if something is there that cannot be written, for example a folder, if the path cannot be a file's, or if the new file cannot
 /// be made.
-fn begin<R: Files>(files: &R, alloc: Global, path: &str) -> io::Result<Target<R::File>> {
+fn begin<R: Files + LinkedFiles>(
+    files: &R,
+    alloc: Global,
+    path: &str,
+) -> io::Result<Target<R::File>> {
     let known = match fs::metadata(files, path) {
         Ok(known) => known,
         Err(error) if error.kind() == ErrorKind::NotFound => {
@@ -372,7 +376,7 @@ fn begin<R: Files>(files: &R, alloc: Global, path: &str) -> io::Result<Target<R:
 }
 
 /// The path of a file that is not there yet.
-fn new_path<R: Files>(files: &R, alloc: Global, path: &str) -> io::Result<String> {
+fn new_path<R: Files + LinkedFiles>(files: &R, alloc: Global, path: &str) -> io::Result<String> {
     let path = followed(files, alloc, path)?;
     let (folder, name) = parts_of(path.as_str());
     if name.is_empty() {

@@ -1,7 +1,9 @@
 // Laws on saves.
-ghost use Rattle.std.specs.Prelude.{◌≡◌, [], ℕ, List, None, Some, take, true};
+ghost use Rattle.std.specs.Prelude.{◌≡◌, [], ℕ, List, None, Some, codes, nat_eq, take, true};
+ghost use Rattle.std.specs.List.{starts_with};
 ghost use Rattle.output_files.specs.Both.{AreGivenUp, SaveCalls, is_first_kept};
 ghost use Rattle.output_files.specs.Disks.{Disk, IsNeverLost, after_all};
+ghost use Rattle.output_files.specs.Links.{IsFollowed, KnownLinks};
 ghost use Rattle.output_files.specs.Steps.{IsGivenUp, IsSaved, Step};
 ghost use Rattle.output_files.specs.declared.saving.OneUnsaved.{OneUnsaved};
 ghost use Rattle.output_files.specs.declared.saving.Unsaved.{Unsaved};
@@ -23,4 +25,10 @@ pub fn given_up_changes_nothing()
 pub fn given_up_changes_neither()
     ensures second { (disk : Disk) (first second : SaveCalls) (why : OneUnsaved) → second.made ≡ Some [] → AreGivenUp first second why → (n : ℕ) → (after_all disk (take n second.steps)).file ≡ disk.file }
     ensures first { (disk : Disk) (first second : SaveCalls) (why : OneUnsaved) → first.made ≡ Some [] → is_first_kept why ≡ true → AreGivenUp first second why → (n : ℕ) → (after_all disk (take n first.steps)).file ≡ disk.file }
+{}
+
+/// A path at which there is no link leads to itself alone, and a link to an absolute path at which there is none leads to that path alone.
+pub fn links_lead_to_one_path()
+    ensures none { (known : KnownLinks) (path to : List ℕ) → known path ≡ Some None → IsFollowed known path to → to ≡ path }
+    ensures absolute { (known : KnownLinks) (path link to : List ℕ) → known path ≡ Some (Some link) → starts_with nat_eq link (codes "/") ≡ true → known link ≡ Some None → IsFollowed known path to → to ≡ link }
 {}

@@ -13,8 +13,9 @@ mod saving;
 pub use both::finish_both;
 pub use counted::{Counted, Taken};
 pub use host::{Begun, NewFile, Replaced, Target};
+pub use links::LinkedFiles;
 pub use log::Log;
-pub use places::{Kind, Place, place_of};
+pub use places::{Kind, Place, PlacedFiles};
 pub use saving::{
     Call, OneUnsaved, Save, SavePlace, SavedFiles, SavedText, Unsaved, abandon, finish, replace,
     write_new,

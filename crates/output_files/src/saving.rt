@@ -6,6 +6,7 @@ ghost use Rattle.std.specs.IoError.{error_kind};
 ghost use Rattle.output_files.specs.Steps.{IsAbandoned, IsGivenUp, IsSaved, IsUnrenamed, IsUnwritten, IsWritten, Step, failed_steps, is_unreplaced, most_steps};
 ghost use Rattle.output_files.specs.Steps.Step.{Made, Synced, Renamed, Removed, Failed};
 
+use crate::places::PlacedFiles;
 use std::alloc::Global;
 use std::io::{self, BufWriter, Write};
 use std::rt::Files;
@@ -109,7 +110,7 @@ pub struct Save<'a, B, T> {
 ///
 /// The kit's files have no model. A contract over this trait says which texts were saved at a path. Nothing is known of the system's files: what a
 /// save calls there is the contract of `finish`.
-pub trait SavedFiles: Files {
+pub trait SavedFiles: Files + PlacedFiles {
     /// This text was saved at a path.
     ghost is_saved_at: { Self → List ℕ → List ℕ → Type 0 } = { λ _ _ _. Unit {0} };
 

@@ -1,8 +1,7 @@
 -- When a file that is written is the file of another argument, by what is at the paths.
-use Rattle.std.specs.Prelude.{◌≡◌, ℕ, ◌<◌, Bool, true, false, not, ◌&&◌, is_some, List, [], ◌∷◌, length, take, slice_index_or, filter, map, Option, Some, None}
+use Rattle.std.specs.Prelude.{◌≡◌, ℕ, ◌<◌, Bool, true, false, not, ◌&&◌, is_some, List, [], ◌∷◌, length, take, slice_index_or, filter, map, Option, Some, None, option_map}
 use Rattle.std.specs.List.{All}
-use Rattle.output_files.specs.Places.{is_null, is_one_file, is_same_place}
-use Rattle.output_files.specs.declared.places.Place.{Place}
+use Rattle.output_files.specs.Places.{IsPlaceSaid, KnownPlaces, Spot, is_null, is_one_file, is_same_place, spot_of}
 use Rattle.serve_arguments.specs.CommandLines.{NamedFile, names_of, placed_files}
 use Rattle.serve_arguments.specs.declared.fault.Fault.{Fault}
 use Rattle.serve_arguments.specs.declared.fault.Fault.TheVariants as faults
@@ -68,11 +67,11 @@ is_kept_from Replies other = false
 is_kept_from Errors other = false
 
 -- a standard stream is written over: both are one place, which does not drop what it is given
-abbrev pub is_among : Place → Place → Bool
+abbrev pub is_among : Spot → Spot → Bool
 is_among written place = not (is_null written) && is_same_place written place
 
 -- writing at the first place changes what the argument has at the second
-abbrev pub is_over : Argument → Place → Place → Bool
+abbrev pub is_over : Argument → Spot → Spot → Bool
 is_over Replies written place = is_among written place
 is_over Errors written place = is_among written place
 is_over In written place = is_one_file written place
@@ -84,13 +83,17 @@ is_over Save written place = is_one_file written place
 is_over Export written place = is_one_file written place
 
 -- so by what the system said of the two places; of a place that is not there it said nothing
-abbrev pub is_clash_at : Argument → Argument → Option Place → Option Place → Bool
+abbrev pub is_clash_at : Argument → Argument → Option Spot → Option Spot → Bool
 is_clash_at written other None theirs = false
 is_clash_at written other (Some place) None = false
 is_clash_at written other (Some place) (Some theirs) = is_kept_from written other && is_over other place theirs
 
+-- what the system said of a file
+abbrev pub said_of : Located → Option Spot
+said_of file = option_map spot_of file.place
+
 abbrev pub is_clash : Located → Located → Bool
-is_clash written other = is_clash_at written.argument other.argument written.place other.place
+is_clash written other = is_clash_at written.argument other.argument (said_of written) (said_of other)
 
 -- a file is none of these that it must not be
 abbrev pub IsApartFrom : Located → List Located → Type 0
@@ -125,14 +128,19 @@ pub record IsClashAmong (files : List Located) (one : SameFile) : Type 0 where
   pub clash : IsClash written files one
   pub first : All (λ written. IsApartFrom written files) (take at files)
 
--- the files of a command line that have a path, with what the system said of each
-pub record ArePlaced (line : Accepted) (Are : List Located → Type 0) : Type 0 where
+-- what the system said of these files is what it says of their paths, where that is known
+abbrev pub AreSaid : KnownPlaces → List Located → Type 0
+AreSaid known files = All (λ file. IsPlaceSaid known file.path.now (said_of file)) files
+
+-- the files of a command line that have a path, with what the system says of each
+pub record ArePlaced (known : KnownPlaces) (line : Accepted) (Are : List Located → Type 0) : Type 0 where
   pub files : List Located
   pub asked : map located_file files ≡ filter has_path (placed_files line.words (names_of line.more.items))
+  pub said : AreSaid known files
   pub are : Are files
 
 -- why the files of a command line are not separate
-abbrev pub IsPlaceFault : Accepted → Fault → Type 0
-IsPlaceFault line (faults.NamedTwice one) = ArePlaced line (λ files. IsClashAmong files one)
-IsPlaceFault line faults.NoMemory = Unit {0}
-IsPlaceFault line _ = ⊥
+abbrev pub IsPlaceFault : KnownPlaces → Accepted → Fault → Type 0
+IsPlaceFault known line (faults.NamedTwice one) = ArePlaced known line (λ files. IsClashAmong files one)
+IsPlaceFault known line faults.NoMemory = Unit {0}
+IsPlaceFault known line _ = ⊥

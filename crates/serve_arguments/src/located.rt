@@ -1,15 +1,15 @@
 // What the paths of the command line name, however they are spelled.
 ghost use Rattle.std.specs.Prelude.{◌≡◌, IfErr, IfOk, OnOk, filter, map, option_map};
 ghost use Rattle.serve_arguments.specs.CommandLines.{input_file, named_file, names_of, placed_files, standard_files};
-ghost use Rattle.serve_arguments.specs.Locations.{ArePlaced, AreSeparate, IsApartFrom, IsClash, IsClashAmong, IsPlaceFault, has_path, is_clash, is_kept_from, is_kept_from_export, is_kept_from_out, is_kept_from_save, is_over, located_file};
+ghost use Rattle.output_files.specs.Places.{spot_of};
+ghost use Rattle.serve_arguments.specs.Locations.{ArePlaced, AreSaid, AreSeparate, IsApartFrom, IsClash, IsClashAmong, IsPlaceFault, has_path, is_clash, is_kept_from, is_kept_from_export, is_kept_from_out, is_kept_from_save, is_over, located_file};
 
 use crate::fault::Fault;
 use crate::files::{Argument, Named, SameFile, exported_file, out_file, read_files, saved_file};
 use crate::words::{Accepted, Words};
 use command_lines::NO_FILE;
-use output_files::{Place, place_of};
+use output_files::{Place, PlacedFiles};
 use std::alloc::{AllocError, Global};
-use std::rt::Files;
 
 /// The system's path of standard input.
 const INPUT: &str = "/dev/stdin";
@@ -72,16 +72,17 @@ fn placed_files<'a>(alloc: Global, line: &Accepted<'a>) -> Result<Vec<Named<'a>>
 }
 
 /// Asks the system what is at the paths of these files. Those without a path are left out.
-fn locate<'a, R: Files + AllocGlobal>(
+fn locate<'a, R: PlacedFiles + AllocGlobal>(
     rt: &R,
     files: &[Named<'a>],
 ) -> Result<Vec<Located<'a>>, AllocError>
-    ensures { IfOk result (λ located. map located_file located.items ≡ filter has_path (map named_file files.now)) }
+    ensures said { IfOk result (λ located. AreSaid (R.place_at rt.now) located.items) }
+    ensures asked { IfOk result (λ located. map located_file located.items ≡ filter has_path (map named_file files.now)) }
 {
     let mut located = Vec::new(rt.alloc());
     for file in files {
         if let Some(path) = file.path {
-            let place = place_of(rt, rt.alloc(), path)?;
+            let place = rt.place_of(rt.alloc(), path)?;
             located.push(Located {
                 argument: file.argument,
                 path,
@@ -156,7 +157,7 @@ fn is_kept_from(written: Argument, other: Argument) -> bool
 /// Whether writing at one place changes what this argument has at the other: they are one file, and not a device. A standard stream may
 /// only be a device that drops what it is given.
 fn is_over(other: Argument, written: &Place, place: &Place) -> bool
-    ensures { result ≡ is_over other written.now place.now }
+    ensures { result ≡ is_over other (spot_of written.now) (spot_of place.now) }
 {
     match other {
         Argument::Replies | Argument::Errors => !written.is_null() && written.is_same(place),
@@ -218,12 +219,12 @@ pub fn check_located<'a>(files: &[Located<'a>]) -> Result<(), SameFile<'a>>
 /// named twice. None of the files may be standard output's or standard error's, unless it is `/dev/null`.
 ///
 /// `NamedTwice` with two arguments that name one; `NoMemory`.
-pub fn check_places<'a, R: Files + AllocGlobal>(
+pub fn check_places<'a, R: PlacedFiles + AllocGlobal>(
     rt: &R,
     line: &Accepted<'a>,
 ) -> Result<(), Fault<'a>>
-    ensures separate { OnOk result (ArePlaced line.now AreSeparate) }
-    ensures fault { IfErr result (IsPlaceFault line.now) }
+    ensures separate { OnOk result (ArePlaced (R.place_at rt.now) line.now AreSeparate) }
+    ensures fault { IfErr result (IsPlaceFault (R.place_at rt.now) line.now) }
 {
     let files = placed_files(rt.alloc(), line).map_err(|_| Fault::NoMemory)?;
     let located = locate(rt, files.as_slice()).map_err(|_| Fault::NoMemory)?;

@@ -10,19 +10,18 @@ use Rattle.vp8_tables.specs.Tables.{TableEntries}
 use Rattle.frame_session.specs.Answers.{Means, frames_of, replies_of}
 use Rattle.frame_session.specs.Exported.{IsExportFile}
 use Rattle.frame_session.specs.Live.{LiveMeans}
-use Rattle.frame_session.specs.Cached.{Capacity as Cached}
 use Rattle.frame_session.specs.Sessions.{SessionState}
 use Rattle.frame_session.specs.declared.export.Export.{Export}
-use Rattle.serve_arguments.specs.CommandLines.{IsAccepted}
-use Rattle.serve_arguments.specs.Locations.{ArePlaced, AreSeparate}
+use Rattle.serve_arguments.specs.CommandLines.{IsAccepted, IsMistake}
+use Rattle.serve_arguments.specs.Locations.{ArePlaced, AreSeparate, IsPlaceFault}
 use Rattle.command_lines.specs.Endings.{exit_status}
 use Rattle.serve_arguments.specs.Statuses.{status_of}
 use Rattle.serve_arguments.specs.declared.fault.Fault.{Fault}
-use Rattle.serve_arguments.specs.declared.fault.Fault.TheVariants.{CommandLine, NamedTwice, CannotRead, TooLong, Tables, Input, NotExported, CannotWrite, NoMemory}
+use Rattle.serve_arguments.specs.declared.fault.Fault.TheVariants.{CannotWrite}
 use Rattle.serve_arguments.specs.declared.words.Accepted.{Accepted}
 use Rattle.serve_arguments.specs.declared.words.Words.{Words}
-use Rattle.serve_program.specs.Done.{IsDone, IsExitStatus, IsServedAs}
-use Rattle.serve_program.specs.Endings.{AreLiveReplied, AreReplied, Gained, IsLiveReplied, IsOut, IsOver, IsReplied, IsServed, OverSources, RunFiles, cached_by}
+use Rattle.serve_program.specs.Done.{IsDone, IsEndedAs, IsExitStatus, IsLineDone, IsLineFault, IsRunFault, IsServedAs}
+use Rattle.serve_program.specs.Endings.{AreLiveReplied, AreReplied, Gained, IsBatchEnded, IsLiveEnded, IsLiveReplied, IsOut, IsOver, IsReplied, IsServed, OverSources, RunFiles}
 use Rattle.serve_program.specs.Noted.{AreLiveNoted, AreNoted, IsLiveNoted, IsNoted, IsNotedAs}
 use Rattle.serve_program.specs.Outs.{IsFlushed}
 use Rattle.serve_program.specs.Saved.{ArePacketsSaved, AreSaved, IsExportSaved, SavedAt, exported_text}
@@ -168,8 +167,8 @@ module _ (run : RunFiles) (line : Accepted) (left r r' r'' : Option (List ℕ)) 
   noted_as_kept false noted =
       over_with (AreNoted run line left r r' seen seen') (AreNoted run line left r r'' seen seen') (λ tables sources n. record { lines = n.lines; are = n.are; noted = noted_kept tables sources n.lines r r' r'' seen seen' n.noted kept }) noted
 
-module _ (run : RunFiles) (line : Accepted) (cached : Cached) (new : SessionState) where
-  served_with : (Replied Replied' : SessionState → TableEntries → List (List ℕ) → Type 0) → ((end : SessionState) (tables : TableEntries) (sources : List (List ℕ)) → Replied end tables sources → Replied' end tables sources) → IsServed run line cached Replied new → IsServed run line cached Replied' new
+module _ (run : RunFiles) (line : Accepted) (new : SessionState) where
+  served_with : (Replied Replied' : SessionState → TableEntries → List (List ℕ) → Type 0) → ((end : SessionState) (tables : TableEntries) (sources : List (List ℕ)) → Replied end tables sources → Replied' end tables sources) → IsServed run line Replied new → IsServed run line Replied' new
   served_with Replied Replied' so served = record {
     tables = served.tables;
     sources = served.sources;
@@ -177,37 +176,35 @@ module _ (run : RunFiles) (line : Accepted) (cached : Cached) (new : SessionStat
     end = served.end;
     replied = so served.end served.tables served.sources served.replied;
     saved = served.saved;
-    cached_is = served.cached_is;
   }
 
   module _ (left r r' r'' : Option (List ℕ)) (kept : Keeps r' r'') where
-    batch_kept : IsServed run line cached (AreReplied run line left r r') new → IsServed run line cached (AreReplied run line left r r'') new
+    batch_kept : IsServed run line (AreReplied run line left r r') new → IsServed run line (AreReplied run line left r r'') new
     batch_kept served = served_with (AreReplied run line left r r') (AreReplied run line left r r'') (λ end tables sources replied. (replied.0, replied.1, replied_kept (run.out line.words.frames.now) tables sources replied.0 r r' r'' end replied.2 kept)) served
 
-    live_kept : IsServed run line cached (AreLiveReplied run line left r r') new → IsServed run line cached (AreLiveReplied run line left r r'') new
+    live_kept : IsServed run line (AreLiveReplied run line left r r') new → IsServed run line (AreLiveReplied run line left r r'') new
     live_kept served = served_with (AreLiveReplied run line left r r') (AreLiveReplied run line left r r'') (λ end tables sources replied. (replied.0, replied.1, live_replied_kept (run.out line.words.frames.now) tables sources replied.0 r r' r'' end replied.2 kept)) served
 
-    served_kept : (live : Bool) → MatchBool live (IsServed run line cached (AreLiveReplied run line left r r') new) (IsServed run line cached (AreReplied run line left r r') new) → MatchBool live (IsServed run line cached (AreLiveReplied run line left r r'') new) (IsServed run line cached (AreReplied run line left r r'') new)
+    served_kept : (live : Bool) → MatchBool live (IsServed run line (AreLiveReplied run line left r r') new) (IsServed run line (AreReplied run line left r r') new) → MatchBool live (IsServed run line (AreLiveReplied run line left r r'') new) (IsServed run line (AreReplied run line left r r'') new)
     served_kept true served = live_kept served
     served_kept false served = batch_kept served
 
-    pub done : (words : Words) (seen seen' : Bool) → seen ≡ false → IsAccepted words line → ArePlaced line AreSeparate → IsServedAs run line cached left r r' new → IsNotedAs run line left r r' seen seen' → IsDone run words left r r'' seen'
+    pub done : (words : Words) (seen seen' : Bool) → seen ≡ false → IsAccepted words line → ArePlaced run.places line AreSeparate → IsServedAs run line left r r' new → IsNotedAs run line left r r' seen seen' → IsDone run words left r r'' seen'
     done words seen seen' fresh accepted placed served noted = record {
       line = line;
       accepted = accepted;
       placed = placed;
-      cached = cached;
       new = new;
       served = served_kept line.words.is_live served;
       noted = subst (λ (b : Bool). IsNotedAs run line left r r'' b seen') fresh (noted_as_kept run line left r r' r'' seen seen' kept line.words.is_live noted);
     }
 
-module _ (run : RunFiles) (line : Accepted) (left r r' : Option (List ℕ)) (tables : TableEntries) (sources : List (List ℕ)) (end new : SessionState) (cached : Cached) (over : IsOver run line tables sources) where
-  pub served : AreReplied run line left r r' end tables sources → AreSaved run.saved line.words end new → cached ≡ cached_by line.capacity → IsServed run line cached (AreReplied run line left r r') new
-  served replied saved is = record { tables = tables; sources = sources; over = over; end = end; replied = replied; saved = saved; cached_is = is }
+module _ (run : RunFiles) (line : Accepted) (left r r' : Option (List ℕ)) (tables : TableEntries) (sources : List (List ℕ)) (end new : SessionState) (over : IsOver run line tables sources) where
+  pub served : AreReplied run line left r r' end tables sources → AreSaved run.saved line.words end new → IsServed run line (AreReplied run line left r r') new
+  served replied saved = record { tables = tables; sources = sources; over = over; end = end; replied = replied; saved = saved }
 
-  pub live_served : AreLiveReplied run line left r r' end tables sources → AreSaved run.saved line.words end new → cached ≡ cached_by line.capacity → IsServed run line cached (AreLiveReplied run line left r r') new
-  live_served replied saved is = record { tables = tables; sources = sources; over = over; end = end; replied = replied; saved = saved; cached_is = is }
+  pub live_served : AreLiveReplied run line left r r' end tables sources → AreSaved run.saved line.words end new → IsServed run line (AreLiveReplied run line left r r') new
+  live_served replied saved = record { tables = tables; sources = sources; over = over; end = end; replied = replied; saved = saved }
 
 -- ---- what is saved
 
@@ -225,22 +222,34 @@ all_saved saved words export end new kept same file packets at = record {
 
 -- ---- the exit status
 
-status_range : (fault : Fault) → (1 ≤ status_of fault) × (status_of fault ≤ 2)
-status_range (CommandLine mistake) = (omega arith, omega arith)
-status_range (NamedTwice same) = (omega arith, omega arith)
-status_range (CannotRead path) = (omega arith, omega arith)
-status_range (TooLong path) = (omega arith, omega arith)
-status_range Tables = (omega arith, omega arith)
-status_range (Input source fault) = (omega arith, omega arith)
-status_range (NotExported why) = (omega arith, omega arith)
-status_range CannotWrite = (omega arith, omega arith)
-status_range NoMemory = (omega arith, omega arith)
+pub exits : (run : RunFiles) (parsed : Result Words Error) (is_named : Bool) (left left' r r' : Option (List ℕ)) (answer : Result ℕ Fault) (status : ℕ) → status ≡ exit_status status_of answer → IfOk answer (IsLineDone run parsed is_named left r r') → IfErr answer (IsLineFault run parsed left left' r r') → IsExitStatus run parsed is_named left left' r r' status
+exits run parsed is_named left left' r r' (Ok n) status is done why = inl (subst (IsLineDone run parsed is_named left r r') (sym is) done)
+exits run parsed is_named left left' r r' (Err fault) status is done why = inr (fault, why, is)
 
-no_error : (fault : Fault) (status : ℕ) → status ≡ status_of fault → (status ≡ 0) ⊎ (status ≡ 3) → ⊥
-no_error fault status is (inl e) = let range = status_range fault in omega (arith, is, e, range.0)
-no_error fault status is (inr e) = let range = status_range fault in omega (arith, is, e, range.1)
+-- ---- why not all was done
 
--- a status of 0 or 3 is not an error's
-pub exits : (run : RunFiles) (parsed : Result Words Error) (is_named : Bool) (left r r' : Option (List ℕ)) (answer : Result ℕ Fault) (status : ℕ) → status ≡ exit_status status_of answer → (status ≡ 0) ⊎ (status ≡ 3) → IfOk answer (IsExitStatus run parsed is_named left r r') → IsExitStatus run parsed is_named left r r' status
-exits run parsed is_named left r r' (Ok n) status is either exit = subst (IsExitStatus run parsed is_named left r r') (sym is) exit
-exits run parsed is_named left r r' (Err fault) status is either exit = absurd (no_error fault status is either)
+-- all was answered, and the replies were not flushed
+module _ (run : RunFiles) (line : Accepted) (new : SessionState) (left left' r r' r'' : Option (List ℕ)) (kept : Keeps r' r'') where
+  unflushed_as : (live : Bool) → MatchBool live (IsServed run line (AreLiveReplied run line left r r') new) (IsServed run line (AreReplied run line left r r') new) → MatchBool live (IsLiveEnded run line left left' r r'' CannotWrite) (IsBatchEnded run line left left' r r'' CannotWrite)
+  unflushed_as true served =
+      let all = live_kept run line new left r r' r'' kept served in
+      inl (inl (inr (all.tables, all.sources, all.over, (all.end, all.replied))))
+  unflushed_as false served =
+      let all = batch_kept run line new left r r' r'' kept served in
+      inl (inr (all.tables, all.sources, all.over, (all.end, all.replied)))
+
+  pub unflushed_replies : (words : Words) (fault : Fault) → fault ≡ CannotWrite → IsAccepted words line → ArePlaced run.places line AreSeparate → IsServedAs run line left r r' new → IsRunFault run words left left' r r'' fault
+  unflushed_replies words fault is accepted placed served = rw is (inr (record { line = line; accepted = accepted; placed = placed; ended = unflushed_as line.words.is_live served }))
+
+module _ (run : RunFiles) (words : Words) (left r : Option (List ℕ)) where
+  -- the values of the arguments have a mistake
+  pub mistaken : (fault : Fault) → IsMistake words fault → IsRunFault run words left left r r fault
+  mistaken fault why = inl (inl why, refl, refl)
+
+  -- a file is one that it must not be
+  pub misplaced : (line : Accepted) (fault : Fault) → IsAccepted words line → IsPlaceFault run.places line fault → IsRunFault run words left left r r fault
+  misplaced line fault accepted why = inl (inr (line, accepted, why), refl, refl)
+
+  -- requests were not answered, or what was asked for was not saved
+  pub given_up : (line : Accepted) (left' r' : Option (List ℕ)) (fault : Fault) → IsAccepted words line → ArePlaced run.places line AreSeparate → IsEndedAs run line left left' r r' fault → IsRunFault run words left left' r r' fault
+  given_up line left' r' fault accepted placed ended = inr (record { line = line; accepted = accepted; placed = placed; ended = ended })

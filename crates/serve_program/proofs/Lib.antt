@@ -3,4 +3,5 @@ pub mod ExportLines
 pub mod Finished
 pub mod Flushed
 pub mod LiveEnded
+pub mod Mistakes
 pub mod Unexported

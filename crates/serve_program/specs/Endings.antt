@@ -5,6 +5,7 @@ use Rattle.std.specs.Io.KnownBytes.{IsAtEnd, Keeps}
 use Rattle.vp8_tables.specs.Tables.{TableEntries}
 use Rattle.command_lines.specs.Readings.{AreNoTables, Known}
 use Rattle.std.specs.Borrow.{Bor}
+use Rattle.output_files.specs.Places.{KnownPlaces}
 use Rattle.stream_files.specs.declared.streams.Stream.{Stream}
 use Rattle.stream_sources.specs.declared.faults.StreamFault.{StreamFault}
 use Rattle.stream_files.specs.declared.ivf.TheConstants.{EMPTY}
@@ -59,15 +60,16 @@ abbrev pub IsReplied : Gained → (tables : TableEntries) → (sources : List (L
 IsReplied out tables sources requests replies replies' end =
     (frames : Option (List ℕ)) × (frames' : Option (List ℕ)) × out frames frames' × Means tables sources requests frames frames' replies replies' end
 
--- the files of a run: the bytes at a path, where they are known, the file that was made at a path, and the texts that were saved
+-- the files of a run: the bytes at a path and what it names, where they are known, the file that was made at a path, and the texts that were saved
 pub record RunFiles : Type 1 where
   pub contents : Contents
+  pub places : KnownPlaces
   pub out : List ℕ → Gained
   pub saved : SavedAt
 
 -- a source that is not named has no packets
-abbrev pub run_files : {F : Type 0} → Known → (contents : F → Option (List ℕ)) → (is_made : List ℕ → F → Type 0) → SavedAt → RunFiles
-run_files known contents is_made saved = record { contents = contents_of known EMPTY; out = IsOut contents is_made; saved = saved }
+abbrev pub run_files : {F : Type 0} → Known → KnownPlaces → (contents : F → Option (List ℕ)) → (is_made : List ℕ → F → Type 0) → SavedAt → RunFiles
+run_files known places contents is_made saved = record { contents = contents_of known EMPTY; places = places; out = IsOut contents is_made; saved = saved }
 
 -- the refusal of a frame that is exported
 abbrev pub fault_by_refusal : ℕ → Refusal → Fault
@@ -121,16 +123,14 @@ IsOver files line tables sources = AreRead files.contents (tables_name line) (so
 abbrev pub OfSources : Type 1
 OfSources = TableEntries → List (List ℕ) → Type 0
 
--- all requests of a command line were answered over its sources and tables, by a cache of the capacity of the command line, and then what it asks for was
--- saved
-pub record IsServed (files : RunFiles) (line : Accepted) (cached : Cached) (Replied : SessionState → OfSources) (new : SessionState) : Type 0 where
+-- all requests of a command line were answered over its sources and tables, and then what it asks for was saved
+pub record IsServed (files : RunFiles) (line : Accepted) (Replied : SessionState → OfSources) (new : SessionState) : Type 0 where
   pub tables : TableEntries
   pub sources : List (List ℕ)
   pub over : IsOver files line tables sources
   pub end : SessionState
   pub replied : Replied end tables sources
   pub saved : AreSaved files.saved line.words end new
-  pub cached_is : cached ≡ cached_by line.capacity
 
 -- some tables, and bytes of the sources
 abbrev pub OverSources : RunFiles → Accepted → OfSources → Type 0

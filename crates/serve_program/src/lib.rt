@@ -6,6 +6,7 @@ mod explain;
 mod exports;
 mod frames;
 mod host;
+pub mod laws;
 mod live;
 mod messages;
 mod program;

@@ -7,7 +7,7 @@ ghost use Rattle.frame_session.specs.Answers.{Means};
 ghost use Rattle.frame_session.specs.Noted.{MeansNoted};
 ghost use Rattle.command_lines.specs.Endings.{IsHelp};
 ghost use Rattle.serve_arguments.specs.Capacities.{IsGiven};
-ghost use Rattle.serve_program.specs.Done.{IsDone, IsExitStatus, IsServedAs, names_option};
+ghost use Rattle.serve_program.specs.Done.{IsDone, IsEndedAs, IsExitStatus, IsLineDone, IsLineFault, IsRunFault, IsServedAs, names_option};
 ghost use Rattle.serve_program.specs.Endings.{AreReplied, IsBatchEnded, IsEndedOver, IsExportFault, IsFinished, IsOut, IsOver, IsRefused, IsReplied, IsSaveFault, IsServed, IsStopped, IsUnreplied, OverSources, spare_text, cached_by};
 ghost use Rattle.serve_program.specs.Noted.{AreNoted, IsNoted, IsNotedAs, status_after};
 ghost use Rattle.serve_program.specs.Saved.{ArePacketsSaved, AreSaved, IsExportSaved};
@@ -238,7 +238,8 @@ fn answer<'a, R: NamedFiles + SavedFiles + AllocGlobal, I: Read, O: Write, E: Wr
 ) -> Result<Served, Fault<'a>>
     requires capacity { IsGiven line.now.capacity }
     requires paths { length line.now.more.items ≤ 7 }
-    ensures served { IfOk result (λ served. IsServed (⟦<R as RunHost>⟧.files rt.now) line.now served.session.cache.capacity (AreReplied (⟦<R as RunHost>⟧.files rt.now) line.now (I.remaining input.old) (O.contents output.old) (O.contents output.new)) served.session.state) }
+    ensures served { IfOk result (λ served. IsServed (⟦<R as RunHost>⟧.files rt.now) line.now (AreReplied (⟦<R as RunHost>⟧.files rt.now) line.now (I.remaining input.old) (O.contents output.old) (O.contents output.new)) served.session.state) }
+    ensures capacity { IfOk result (λ served. served.session.cache.capacity ≡ cached_by line.now.capacity) }
     ensures noted { IfOk result (λ served. OverSources (⟦<R as RunHost>⟧.files rt.now) line.now (AreNoted (⟦<R as RunHost>⟧.files rt.now) line.now (I.remaining input.old) (O.contents output.old) (O.contents output.new) messages.old.has_refused served.has_refused)) }
     ensures ended { IfErr result (IsBatchEnded (⟦<R as RunHost>⟧.files rt.now) line.now (I.remaining input.old) (I.remaining input.new) (O.contents output.old) (O.contents output.new)) }
 {
@@ -256,8 +257,10 @@ fn answer_accepted<'a, R: NamedFiles + SavedFiles + AllocGlobal, I: Read, O: Wri
 ) -> Result<Served, Fault<'a>>
     requires capacity { IsGiven line.now.capacity }
     requires paths { length line.now.more.items ≤ 7 }
-    ensures served { IfOk result (λ served. IsServedAs (⟦<R as RunHost>⟧.files rt.now) line.now served.session.cache.capacity (I.remaining input.old) (O.contents output.old) (O.contents output.new) served.session.state) }
+    ensures served { IfOk result (λ served. IsServedAs (⟦<R as RunHost>⟧.files rt.now) line.now (I.remaining input.old) (O.contents output.old) (O.contents output.new) served.session.state) }
+    ensures capacity { IfOk result (λ served. served.session.cache.capacity ≡ cached_by line.now.capacity) }
     ensures noted { IfOk result (λ served. IsNotedAs (⟦<R as RunHost>⟧.files rt.now) line.now (I.remaining input.old) (O.contents output.old) (O.contents output.new) messages.old.has_refused served.has_refused) }
+    ensures ended { IfErr result (IsEndedAs (⟦<R as RunHost>⟧.files rt.now) line.now (I.remaining input.old) (I.remaining input.new) (O.contents output.old) (O.contents output.new)) }
 {
     if line.words.is_live {
         answer_live(rt, line, input, output, messages)
@@ -267,6 +270,7 @@ fn answer_accepted<'a, R: NamedFiles + SavedFiles + AllocGlobal, I: Read, O: Wri
 }
 
 /// Does what the values of a command line ask for, and flushes the replies. Returns whether a request for a frame was refused.
+#[tactic(auto, using(crate::proofs::Finished::mistaken, crate::proofs::Finished::misplaced, crate::proofs::Finished::given_up, crate::proofs::Finished::unflushed_replies))]
 fn answer_words<'a, R: NamedFiles + SavedFiles + AllocGlobal, I: Read, O: Write + Drop, E: Write>(
     rt: &R,
     words: Words<'a>,
@@ -276,6 +280,7 @@ fn answer_words<'a, R: NamedFiles + SavedFiles + AllocGlobal, I: Read, O: Write 
 ) -> Result<bool, Fault<'a>>
     requires fresh { messages.now.has_refused ≡ false }
     ensures done { IfOk result (IsDone (⟦<R as RunHost>⟧.files rt.now) words.entry (I.remaining input.old) (writer_contents O.contents output.old) (writer_contents O.contents output.new)) }
+    ensures fault { IfErr result (IsRunFault (⟦<R as RunHost>⟧.files rt.now) words.entry (I.remaining input.old) (I.remaining input.new) (writer_contents O.contents output.old) (writer_contents O.contents output.new)) }
     ensures flushed { OnOk result (writer_buffer output.new ≡ []) }
 {
     let line = words.accept(rt.alloc())?;
@@ -313,7 +318,8 @@ fn answer_line<'a, R: NamedFiles + SavedFiles + AllocGlobal, I: Read, O: Write +
     requires fresh { messages.now.has_refused ≡ false }
     ensures status { IfOk result (λ status. (status ≡ 0) ⊎ (status ≡ 3)) }
     ensures asked { IfOk result (λ status. status ≡ 3 → is_named ≡ true) }
-    ensures done { IfOk result (IsExitStatus (⟦<R as RunHost>⟧.files rt.now) parsed.now is_named (I.remaining input.old) (writer_contents O.contents output.old) (writer_contents O.contents output.new)) }
+    ensures done { IfOk result (IsLineDone (⟦<R as RunHost>⟧.files rt.now) parsed.now is_named (I.remaining input.old) (writer_contents O.contents output.old) (writer_contents O.contents output.new)) }
+    ensures fault { IfErr result (IsLineFault (⟦<R as RunHost>⟧.files rt.now) parsed.now (I.remaining input.old) (I.remaining input.new) (writer_contents O.contents output.old) (writer_contents O.contents output.new)) }
     ensures flushed { OnOk result (writer_buffer output.new ≡ []) }
 {
     match parsed {
@@ -359,7 +365,7 @@ pub fn serve<
     errors: &mut E,
 ) -> u8
     ensures status { result ≤ 3 }
-    ensures done { (result ≡ 0) ⊎ (result ≡ 3) → IsExitStatus (⟦<R as RunHost>⟧.files rt.now) parsed.entry (names_option S.text (codes "--fail-refused") words.now) (I.remaining input.old) (writer_contents O.contents output.old) (writer_contents O.contents output.new) result }
+    ensures done { IsExitStatus (⟦<R as RunHost>⟧.files rt.now) parsed.entry (names_option S.text (codes "--fail-refused") words.now) (I.remaining input.old) (I.remaining input.new) (writer_contents O.contents output.old) (writer_contents O.contents output.new) result }
     ensures flushed { result ≡ 0 → writer_buffer output.new ≡ [] }
     ensures failed { result ≡ 3 → writer_buffer output.new ≡ [] }
     ensures asked { result ≡ 3 → names_option S.text (codes "--fail-refused") words.now ≡ true }

@@ -1,7 +1,7 @@
 // Help and the version.
 use crate::expected::expect;
 use command_lines::NamedFiles;
-use list_program::answer;
+use list_program::{answer, parse};
 use std::io::BufWriter;
 use std::process::Abort;
 use stream_checks::Unwatched;
@@ -268,9 +268,10 @@ fn expect_list<R: Abort + NamedFiles + AllocGlobal>(rt: &R, words: &[&str], text
             rt,
             "memory for a buffer",
         );
+        let parsed = parse(rt.alloc(), words);
         answer(
             rt,
-            words,
+            parsed,
             &mut input,
             &mut buffered,
             &mut errors,

@@ -5,7 +5,7 @@ ghost use Rattle.std.specs.Cmp.Lexicographic.{pointwise};
 use crate::expected::{CODED, NONE, ONE, OPENING, push_frame};
 use crate::runs::frame_with;
 use command_lines::NamedFiles;
-use output_files::{OneUnsaved, Save, SavedFiles, SavedText, Unsaved};
+use output_files::{Kind, OneUnsaved, Place, PlacedFiles, Save, SavedFiles, SavedText, Unsaved};
 use serve_program::{parse, serve};
 use std::alloc::{AllocError, Allocator, Global};
 use std::cell::Cell;
@@ -112,6 +112,16 @@ impl<'a> NamedFiles for Memory<'a> {
             bytes: Vec::new(self.alloc()),
             sum: self.made,
         })
+    }
+}
+
+/// Each path names a file of its own.
+impl PlacedFiles for Memory<'_> {
+    ghost place_at = { λ _ path. Some (Some (record { device = 1; inode = 2; name = path; kind = Kind.File })) };
+
+    fn place_of(&self, alloc: Global, path: &str) -> Result<Option<Place>, AllocError> {
+        let name = String::from_str(alloc, path)?;
+        Ok(Some(Place::of_file(1, 2, name)))
     }
 }
 

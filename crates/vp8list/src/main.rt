@@ -2,7 +2,7 @@
 #![tactic(auto)]
 
 use command_lines::{MessageWriter, exit_status, given, touch_stack};
-use list_program::{BYTES_AT_ONCE, Fault, ProgressLine, answer};
+use list_program::{BYTES_AT_ONCE, Fault, ProgressLine, answer, parse};
 use std::io::{BufWriter, Write};
 use std::process::ExitCode;
 
@@ -13,9 +13,10 @@ fn start<E: Write>(rt: &HostRuntime, errors: &mut E) -> Result<u8, Fault<'static
         |_| Fault::NoMemory,
     )?;
     let mut progress = ProgressLine::new(rt, rt.stderr());
+    let parsed = parse(rt.alloc(), words.as_slice());
     Ok(answer(
         rt,
-        words.as_slice(),
+        parsed,
         &mut rt.stdin(),
         &mut output,
         errors,

@@ -11,7 +11,7 @@ returns-clause-refused g c =
     let i = g.I.Read.remaining c.args.input.now in
     let r = g.O.Write.contents c.args.output.now in
     let r' = g.O.Write.contents c.run_requests-answered.new.replies in
-    let run = run_files (g.R.NamedFiles.bytes_at c.args.rt.now) g.R.Made.Write.contents (g.R.NamedFiles.is_made_at c.args.rt.now) (g.R.SavedFiles.is_saved_at c.args.rt.now) in
+    let run = run_files (g.R.NamedFiles.bytes_at c.args.rt.now) (g.R.PlacedFiles.place_at c.args.rt.now) g.R.Made.Write.contents (g.R.NamedFiles.is_made_at c.args.rt.now) (g.R.SavedFiles.is_saved_at c.args.rt.now) in
     let line = c.args.line.now in
     let sources : map rc_slice_items c.as_slice.result.now ≡ map (λ bytes. bytes.items) c.args.files.sources.items = search rules in
     inl (subst (λ (s : List (List ℕ)). IsLiveRefused run line c.args.files.tables s i r r' c.in-Err.fault) sources
@@ -22,7 +22,7 @@ returns-in_err-session-in-Ok-clause-refused g c =
     let i = g.I.Read.remaining c.args.input.now in
     let r = g.O.Write.contents c.args.output.now in
     let r' = g.O.Write.contents c.run_requests-answered.new.replies in
-    let run = run_files (g.R.NamedFiles.bytes_at c.args.rt.now) g.R.Made.Write.contents (g.R.NamedFiles.is_made_at c.args.rt.now) (g.R.SavedFiles.is_saved_at c.args.rt.now) in
+    let run = run_files (g.R.NamedFiles.bytes_at c.args.rt.now) (g.R.PlacedFiles.place_at c.args.rt.now) g.R.Made.Write.contents (g.R.NamedFiles.is_made_at c.args.rt.now) (g.R.SavedFiles.is_saved_at c.args.rt.now) in
     let sources : map rc_slice_items c.as_slice.result.now ≡ map (λ bytes. bytes.items) c.args.files.sources.items = search rules in
     returned c.from_residual-in_err-session-in-Ok.result _ c.in_err-session-in-Ok.field-0.0 c.from_residual-in_err-session-in-Ok.ensures.1
     (live_unfinished run c.args.line.now i r r' c.args.files.tables c.settings_with-settings.result.tables (map (λ bytes. bytes.items) c.args.files.sources.items) (map rc_slice_items c.as_slice.result.now) c.in-Ok.session.state c.in_err-session-in-Ok.field-0.0 c.settings_with-settings.ensures.tables sources c.in-Ok.ensures.replied c.in_err-session-in-Ok.ensures.fault)

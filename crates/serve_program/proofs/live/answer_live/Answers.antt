@@ -14,7 +14,7 @@ use Rattle.serve_program.proofs.live.answer_live.Goals as goal
 
 pub returns-in_err-files-clause-ended : goal.returns-in_err-files-clause-ended
 returns-in_err-files-clause-ended g c =
-    let run = run_files (g.R.NamedFiles.bytes_at c.args.rt.now) g.R.Made.Write.contents (g.R.NamedFiles.is_made_at c.args.rt.now) (g.R.SavedFiles.is_saved_at c.args.rt.now) in
+    let run = run_files (g.R.NamedFiles.bytes_at c.args.rt.now) (g.R.PlacedFiles.place_at c.args.rt.now) g.R.Made.Write.contents (g.R.NamedFiles.is_made_at c.args.rt.now) (g.R.SavedFiles.is_saved_at c.args.rt.now) in
     let i = g.I.Read.remaining c.args.input.now in
     let o = g.O.Write.contents c.args.output.now in
     returned c.from_residual.result (IsLiveEnded run c.args.line.now i i o o) (file_fault c.in_err-files.field-0.0) c.from_residual.ensures.1 (files_ended run c.args.line.now i o c.in_err-files.field-0.0 c.in_err-files.ensures.fault)
@@ -28,12 +28,12 @@ pub returns-clause-ended : goal.returns-clause-ended
 returns-clause-ended g c =
     let i = g.I.Read.remaining in
     let o = g.O.Write.contents in
-    let run = run_files (g.R.NamedFiles.bytes_at c.args.rt.now) g.R.Made.Write.contents (g.R.NamedFiles.is_made_at c.args.rt.now) (g.R.SavedFiles.is_saved_at c.args.rt.now) in
+    let run = run_files (g.R.NamedFiles.bytes_at c.args.rt.now) (g.R.PlacedFiles.place_at c.args.rt.now) g.R.Made.Write.contents (g.R.NamedFiles.is_made_at c.args.rt.now) (g.R.SavedFiles.is_saved_at c.args.rt.now) in
     IfErr-weaker c.answer_files.result _ _ (λ fault why. live_ended run c.args.line.now (i c.args.input.now) (i c.answer_files.new.input) (o c.args.output.now) (o c.answer_files.new.output) fault c.in_ok-files.files.tables (map (λ bytes. bytes.items) c.in_ok-files.files.sources.items) c.in_ok-files.ensures.read why) c.answer_files.ensures.refused
 
 pub returns-clause-served : goal.returns-clause-served
 returns-clause-served g c =
     let i = g.I.Read.remaining c.args.input.now in
     let o = g.O.Write.contents in
-    let run = run_files (g.R.NamedFiles.bytes_at c.args.rt.now) g.R.Made.Write.contents (g.R.NamedFiles.is_made_at c.args.rt.now) (g.R.SavedFiles.is_saved_at c.args.rt.now) in
-    both_ok c.answer_files.result _ _ _ (λ done replied cached. live_served run c.args.line.now i (o c.args.output.now) (o c.answer_files.new.output) c.in_ok-files.files.tables (map (λ bytes. bytes.items) c.in_ok-files.files.sources.items) replied.0 done.session.state done.session.cache.capacity c.in_ok-files.ensures.read replied.1 replied.2 cached) c.answer_files.ensures.replied c.answer_files.ensures.capacity
+    let run = run_files (g.R.NamedFiles.bytes_at c.args.rt.now) (g.R.PlacedFiles.place_at c.args.rt.now) g.R.Made.Write.contents (g.R.NamedFiles.is_made_at c.args.rt.now) (g.R.SavedFiles.is_saved_at c.args.rt.now) in
+    both_ok c.answer_files.result _ _ _ (λ done replied cached. live_served run c.args.line.now i (o c.args.output.now) (o c.answer_files.new.output) c.in_ok-files.files.tables (map (λ bytes. bytes.items) c.in_ok-files.files.sources.items) replied.0 done.session.state c.in_ok-files.ensures.read replied.1 replied.2) c.answer_files.ensures.replied c.answer_files.ensures.capacity

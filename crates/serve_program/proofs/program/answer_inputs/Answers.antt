@@ -19,7 +19,7 @@ pub returns-in_err-session-clause-ended : goal.returns-in_err-session-clause-end
 returns-in_err-session-clause-ended g c =
     let r = g.O.Write.contents c.args.output.now in
     let r' = g.O.Write.contents c.run_to_path.new.replies in
-    let run = run_files (g.R.NamedFiles.bytes_at c.args.rt.now) g.R.Made.Write.contents (g.R.NamedFiles.is_made_at c.args.rt.now) (g.R.SavedFiles.is_saved_at c.args.rt.now) in
+    let run = run_files (g.R.NamedFiles.bytes_at c.args.rt.now) (g.R.PlacedFiles.place_at c.args.rt.now) g.R.Made.Write.contents (g.R.NamedFiles.is_made_at c.args.rt.now) (g.R.SavedFiles.is_saved_at c.args.rt.now) in
     let sources : map rc_slice_items c.as_slice.result.now ≡ map (λ bytes. bytes.items) c.args.inputs.files.sources.items = search rules in
     let requests : c.as_slice-2.result.now ≡ c.args.inputs.requests.items = search rules in
     returned c.from_residual-in_err-session.result _ c.in_err-session.field-0.0 c.from_residual-in_err-session.ensures.1
@@ -29,7 +29,7 @@ pub returns-in_err-session-2-clause-ended : goal.returns-in_err-session-2-clause
 returns-in_err-session-2-clause-ended g c =
     let r = g.O.Write.contents c.args.output.now in
     let r' = g.O.Write.contents c.run_to_path.new.replies in
-    let run = run_files (g.R.NamedFiles.bytes_at c.args.rt.now) g.R.Made.Write.contents (g.R.NamedFiles.is_made_at c.args.rt.now) (g.R.SavedFiles.is_saved_at c.args.rt.now) in
+    let run = run_files (g.R.NamedFiles.bytes_at c.args.rt.now) (g.R.PlacedFiles.place_at c.args.rt.now) g.R.Made.Write.contents (g.R.NamedFiles.is_made_at c.args.rt.now) (g.R.SavedFiles.is_saved_at c.args.rt.now) in
     let sources : map rc_slice_items c.as_slice.result.now ≡ map (λ bytes. bytes.items) c.args.inputs.files.sources.items = search rules in
     let requests : c.as_slice-2.result.now ≡ c.args.inputs.requests.items = search rules in
     returned c.from_residual-in_err-session-2.result _ c.in_err-session-2.field-0.0 c.from_residual-in_err-session-2.ensures.1
