@@ -6,6 +6,7 @@ use crate::chunks::{CHUNK, drop_empty, make_room, put_in, take_out};
 use std::alloc::{AllocError, Global};
 use std::collections::VecDeque;
 use std::marker::Model;
+use std::mem::replace;
 
 /// A list of any length. An insertion or a removal moves at most 1,024 elements, and one element of
 /// each 1,024 that follow. An element is found at once.
@@ -63,6 +64,15 @@ impl<T: Drop> ChunkedList<T> {
         ensures { self.new ≡ slice_set self.old at x }
     {
         self.chunks[at / CHUNK][at % CHUNK] = x;
+    }
+
+    /// Replaces the element at index `at`, which exists, and returns it.
+    pub fn replace(&mut self, at: usize, x: T) -> T
+        requires { at < length self.old }
+        ensures value { slice_get self.old at ≡ Some result }
+        ensures items { self.new ≡ slice_set self.old at x }
+    {
+        replace(&mut self.chunks[at / CHUNK][at % CHUNK], x)
     }
 
     /// Inserts an element at index `at`, which is at most the length. If memory is refused, nothing

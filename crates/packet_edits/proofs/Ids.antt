@@ -50,16 +50,16 @@ own_removed next zero (x ∷ es) own = own.2
 own_removed next (suc i) (x ∷ es) own = (own.0, not_among_removed x.id i es own.1, own_removed next i es own.2)
 
 -- its id is not among the others
-record IsTakenOut (next i : ℕ) (e : Entry) (es : List Entry) : Type 0 where
-  below : e.id < next
-  away : IsNotAmong e.id (remove es i)
+pub record IsTakenOut (next i : ℕ) (e : Entry) (es : List Entry) : Type 0 where
+  pub below : e.id < next
+  pub away : IsNotAmong e.id (remove es i)
 
 has_id : (id i : ℕ) (e : Entry) (es : List Entry) → IsNotAmong id es → slice_get es i ≡ Some e → e.id ≡ id → ⊥
 has_id id i e [] rest found same = cc
 has_id id zero e (x ∷ es) rest found same = let is : x ≡ e = cc in rest.0 (ap (λ (y : Entry). y.id) is ∙ same)
 has_id id (suc i) e (x ∷ es) rest found same = has_id id i e es rest.1 found same
 
-taken_out : (next i : ℕ) (e : Entry) (es : List Entry) → HaveOwnIds next es → slice_get es i ≡ Some e → IsTakenOut next i e es
+pub taken_out : (next i : ℕ) (e : Entry) (es : List Entry) → HaveOwnIds next es → slice_get es i ≡ Some e → IsTakenOut next i e es
 taken_out next i e [] own found = cc
 taken_out next zero e (x ∷ es) own found =
     let is : x ≡ e = cc in
@@ -70,7 +70,7 @@ taken_out next (suc i) e (x ∷ es) own found =
     record { below = rest.below; away = (λ same. has_id x.id i e es own.1 found (sym same), rest.away) }
 
 -- a packet with another id
-not_among_set : (id i : ℕ) (e : Entry) (es : List Entry) → (e.id ≡ id → ⊥) → IsNotAmong id es → IsNotAmong id (slice_set es i e)
+pub not_among_set : (id i : ℕ) (e : Entry) (es : List Entry) → (e.id ≡ id → ⊥) → IsNotAmong id es → IsNotAmong id (slice_set es i e)
 not_among_set id i e [] other rest = tt
 not_among_set id zero e (x ∷ es) other rest = (other, rest.1)
 not_among_set id (suc i) e (x ∷ es) other rest = (rest.0, not_among_set id i e es other rest.1)

@@ -6,6 +6,7 @@ pub mod Shown
 pub mod Ids
 pub mod Indexed
 pub mod Whole
+pub mod Returns
 pub mod Keys
 pub mod Records
 pub mod Restamped

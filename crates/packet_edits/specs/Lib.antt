@@ -4,6 +4,7 @@ pub mod Shown
 pub mod FlagCounts
 pub mod Nearest
 pub mod Laws
+pub mod Returns
 pub mod Marks
 pub mod Indexes
 pub mod Stores

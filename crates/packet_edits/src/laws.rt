@@ -6,6 +6,7 @@ ghost use Rattle.packet_edits.specs.declared.fault.EditFault.TheVariants as faul
 ghost use Rattle.packet_edits.specs.Edits.{copied, deleted, inserted, pushed, refused_copy, refused_insertion, refused_push, refused_replacement, refused_show_bit, replaced, starting, with_move, with_show_bit_at};
 ghost use Rattle.packet_edits.specs.Laws.{IdsStayOwn, IsShownList, PushesAreInsertions, SizeIsOfLastKey, packet, three, unmarked};
 ghost use Rattle.packet_edits.specs.Marks.{marks_deleted, marks_inserted, marks_moved, marks_replaced};
+ghost use Rattle.packet_edits.specs.Returns.{ReturnsKeepIdsOwn, ReturnsRestore, exchanged, returned};
 ghost use Rattle.packet_edits.specs.Shown.{shown_indexes};
 
 /// The shown list has the indexes of exactly the shown packets, in ascending order.
@@ -16,6 +17,16 @@ pub fn shown_list_is_of_shown_packets()
 /// Each packet has its own id, before and after every edit.
 pub fn ids_stay_own()
     ensures { IdsStayOwn }
+{}
+
+/// Each edit is undone by a return, a removal, an exchange or a move.
+pub fn returns_restore()
+    ensures { ReturnsRestore }
+{}
+
+/// Each packet has its own id after a return or an exchange exactly if the packet may return.
+pub fn returns_keep_ids_own()
+    ensures { ReturnsKeepIdsOwn }
 {}
 
 /// Appending packets is inserting them at the end in sequence.
@@ -49,6 +60,12 @@ pub fn worked_edits()
     ensures spent { refused_replacement (record three { next_id = 0xFFFF_FFFF_FFFF_FFFF }) 2 ≡ Some faults.Spent }
     ensures last_id { refused_push (record three { next_id = 0xFFFF_FFFF_FFFF_FFFE }) (record { stamp = 0; bytes = [] } ∷ []) ≡ None }
     ensures one_too_many { refused_push (record three { next_id = 0xFFFF_FFFF_FFFF_FFFE }) (record { stamp = 0; bytes = [] } ∷ record { stamp = 0; bytes = [] } ∷ []) ≡ Some faults.Spent }
+{}
+
+/// Worked examples: a packet that was deleted returns with its id, and so does one that was replaced; the next id stays.
+pub fn worked_returns()
+    ensures deleted { returned 1 (packet 1 20 66) (deleted 1 three) ≡ three }
+    ensures replaced { exchanged 1 (packet 1 20 66) (replaced 1 (68 ∷ []) three) ≡ record three { next_id = 4 } }
 {}
 
 /// Worked examples: the marks after each edit of four packets. An insertion and a replacement mark

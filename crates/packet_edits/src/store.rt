@@ -5,6 +5,8 @@ ghost use Rattle.packet_edits.specs.Faults.{IsFirstOrNoMemory, unless_refused};
 ghost use Rattle.packet_edits.specs.Marks.{marks_pushed};
 ghost use Rattle.stream_files.specs.Texts.{written_text};
 
+mod returning;
+
 use crate::entry::Entry;
 use crate::fault::{EditFault, RestampFault};
 use crate::flag_index::FlagIndex;
@@ -29,7 +31,7 @@ const SPENT_ID: u64 = u64::MAX;
 /// for the usual one.
 ///
 /// A refused edit changes nothing. Indexes are counted from 0. Only `push_all`, `insert`,
-/// `copy_from`, `copy_within` and `set_show_bit` allocate.
+/// `copy_from`, `copy_within`, `set_show_bit` and `make_place` allocate.
 #[derive(Drop)]
 pub struct Store {
     alloc: Global,

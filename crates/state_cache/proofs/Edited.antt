@@ -23,7 +23,7 @@ use Rattle.state_cache.proofs.Marked.{get_seen, mark_set, seens_set}
 use Rattle.state_cache.proofs.Steps.{marked_any}
 
 -- packets and marks that are inserted, removed and changed together
-seens_inserted : (es : List Entry) (ms : List Bool) (i : ℕ) (e : Entry) (m : Bool) → length ms ≡ length es → marked_packets_of (insert es i e) (insert ms i m) ≡ insert (marked_packets_of es ms) i (marked_packet e m)
+pub seens_inserted : (es : List Entry) (ms : List Bool) (i : ℕ) (e : Entry) (m : Bool) → length ms ≡ length es → marked_packets_of (insert es i e) (insert ms i m) ≡ insert (marked_packets_of es ms) i (marked_packet e m)
 seens_inserted es ms zero e m h = refl
 seens_inserted [] [] (suc i) e m h = refl
 seens_inserted [] (x ∷ ms) (suc i) e m h = absurd (omega (arith, h))
@@ -38,7 +38,7 @@ seens_removed (y ∷ es) [] i h = absurd (omega (arith, h))
 seens_removed (y ∷ es) (x ∷ ms) zero h = refl
 seens_removed (y ∷ es) (x ∷ ms) (suc i) h = ap (λ (ps : List MarkedPacket). marked_packet y x ∷ ps) (seens_removed es ms i (omega (arith, h)))
 
-seens_changed : (es : List Entry) (ms : List Bool) (i : ℕ) (e : Entry) (m : Bool) → length ms ≡ length es → marked_packets_of (slice_set es i e) (slice_set ms i m) ≡ slice_set (marked_packets_of es ms) i (marked_packet e m)
+pub seens_changed : (es : List Entry) (ms : List Bool) (i : ℕ) (e : Entry) (m : Bool) → length ms ≡ length es → marked_packets_of (slice_set es i e) (slice_set ms i m) ≡ slice_set (marked_packets_of es ms) i (marked_packet e m)
 seens_changed [] [] i e m h = refl
 seens_changed [] (x ∷ ms) i e m h = absurd (omega (arith, h))
 seens_changed (y ∷ es) [] i e m h = absurd (omega (arith, h))
@@ -46,7 +46,7 @@ seens_changed (y ∷ es) (x ∷ ms) zero e m h = refl
 seens_changed (y ∷ es) (x ∷ ms) (suc i) e m h = ap (λ (ps : List MarkedPacket). marked_packet y x ∷ ps) (seens_changed es ms i e m (omega (arith, h)))
 
 -- there are still as many marks as packets
-inserted_long : {A B : Type 0} (xs : List A) (ys : List B) (i : ℕ) (x : A) (y : B) → length xs ≡ length ys → length (insert xs i x) ≡ length (insert ys i y)
+pub inserted_long : {A B : Type 0} (xs : List A) (ys : List B) (i : ℕ) (x : A) (y : B) → length xs ≡ length ys → length (insert xs i x) ≡ length (insert ys i y)
 inserted_long xs ys zero x y h = ap suc h
 inserted_long [] [] (suc i) x y h = refl
 inserted_long [] (b ∷ ys) (suc i) x y h = absurd (omega (arith, h))
@@ -61,7 +61,7 @@ removed_long (a ∷ xs) [] i h = absurd (omega (arith, h))
 removed_long (a ∷ xs) (b ∷ ys) zero h = let less : length xs ≡ length ys = omega (arith, h) in less
 removed_long (a ∷ xs) (b ∷ ys) (suc i) h = ap suc (removed_long xs ys i (omega (arith, h)))
 
-set_long : {A : Type 0} (xs : List A) (i : ℕ) (x : A) → length (slice_set xs i x) ≡ length xs
+pub set_long : {A : Type 0} (xs : List A) (i : ℕ) (x : A) → length (slice_set xs i x) ≡ length xs
 set_long [] i x = refl
 set_long (a ∷ xs) zero x = refl
 set_long (a ∷ xs) (suc i) x = ap suc (set_long xs i x)
@@ -114,15 +114,15 @@ below_same (known state) = refl
 below_same failed = refl
 
 -- a packet with its show bit set or cleared
-abbrev showing_packet : Bool → MarkedPacket → MarkedPacket
+abbrev pub showing_packet : Bool → MarkedPacket → MarkedPacket
 showing_packet shown p = record { id = p.id; bytes = with_show_bit shown p.bytes; marked = p.marked }
 
 module _ (tables : TableEntries) where
   -- the outcome cached for a packet fits it, whatever is known before it
-  abbrev FitsAnywhere : MarkedPacket → View → Type 0
+  abbrev pub FitsAnywhere : MarkedPacket → View → Type 0
   FitsAnywhere p kept = (before : Before) → Fits tables (entering before p) p.bytes (kept p.id)
 
-  none_fits : (p : MarkedPacket) (kept : View) → kept p.id ≡ None → FitsAnywhere p kept
+  pub none_fits : (p : MarkedPacket) (kept : View) → kept p.id ≡ None → FitsAnywhere p kept
   none_fits p kept none before = subst (λ (o : Option Kept). Fits tables (entering before p) p.bytes o) (sym none) tt
 
   free_fits : (bytes : List ℕ) (o : Option Kept) → Fits tables unknown bytes o
@@ -152,13 +152,13 @@ module _ (tables : TableEntries) where
   marked_coherent b (p ∷ ps) (suc i) kept f = (f.0, marked_coherent (leaving tables (entering b p) p.bytes (kept p.id)) ps i kept f.1)
 
   -- an inserted packet, and the packet after it marked
-  inserted_coherent : (b : Before) (ps : List MarkedPacket) (i : ℕ) (p : MarkedPacket) (kept : View) → FitsAnywhere p kept → CoherentFrom tables b ps kept → CoherentFrom tables b (mark_set (suc i) true (insert ps i p)) kept
+  pub inserted_coherent : (b : Before) (ps : List MarkedPacket) (i : ℕ) (p : MarkedPacket) (kept : View) → FitsAnywhere p kept → CoherentFrom tables b ps kept → CoherentFrom tables b (mark_set (suc i) true (insert ps i p)) kept
   inserted_coherent b ps zero p kept h f = (h b, marked_any tables b (leaving tables (entering b p) p.bytes (kept p.id)) ps kept f)
   inserted_coherent b [] (suc i) p kept h f = (h b, tt)
   inserted_coherent b (x ∷ ps) (suc i) p kept h f = (f.0, inserted_coherent (leaving tables (entering b x) x.bytes (kept x.id)) ps i p kept h f.1)
 
   -- a replaced packet, and the packet after it marked
-  changed_coherent : (b : Before) (ps : List MarkedPacket) (i : ℕ) (p : MarkedPacket) (kept : View) → FitsAnywhere p kept → CoherentFrom tables b ps kept → CoherentFrom tables b (mark_set (suc i) true (slice_set ps i p)) kept
+  pub changed_coherent : (b : Before) (ps : List MarkedPacket) (i : ℕ) (p : MarkedPacket) (kept : View) → FitsAnywhere p kept → CoherentFrom tables b ps kept → CoherentFrom tables b (mark_set (suc i) true (slice_set ps i p)) kept
   changed_coherent b [] i p kept h f = tt
   changed_coherent b (x ∷ ps) zero p kept h f = (h b, marked_any tables (leaving tables (entering b x) x.bytes (kept x.id)) (leaving tables (entering b p) p.bytes (kept p.id)) ps kept f.1)
   changed_coherent b (x ∷ ps) (suc i) p kept h f = (f.0, changed_coherent (leaving tables (entering b x) x.bytes (kept x.id)) ps i p kept h f.1)
@@ -176,7 +176,7 @@ module _ (tables : TableEntries) where
   left_coherent b (x ∷ ps) zero kept f = marked_any tables (leaving tables (entering b x) x.bytes (kept x.id)) b ps kept f.1
   left_coherent b (x ∷ ps) (suc i) kept f = (f.0, left_coherent (leaving tables (entering b x) x.bytes (kept x.id)) ps i kept f.1)
 
-  less_coherent : (left : Option ℕ) (ps : List MarkedPacket) (old new : View) → IsViewWithout left old new → IsCoherent tables ps old → IsCoherent tables ps new
+  pub less_coherent : (left : Option ℕ) (ps : List MarkedPacket) (old new : View) → IsViewWithout left old new → IsCoherent tables ps old → IsCoherent tables ps new
   less_coherent left ps old new h f = weaker tables ps (known None) (known None) new old (below_same (known None)) (kept_without left old new h) f
 
   insertion_coherent : (store : StoreValue) (kept : View) (duration : Duration) (at stamp : ℕ) (bytes : List ℕ) → IsMarked store → kept store.list.next_id ≡ None
@@ -306,7 +306,7 @@ module _ (tables : TableEntries) where
     stepped_same (known state) shown bytes = ap left_known (steps tables state shown bytes)
     stepped_same failed shown bytes = refl
 
-    leaving_same : (b : Before) (shown : Bool) (bytes : List ℕ) (o : Option Kept) → leaving tables b (with_show_bit shown bytes) o ≡ leaving tables b bytes o
+    pub leaving_same : (b : Before) (shown : Bool) (bytes : List ℕ) (o : Option Kept) → leaving tables b (with_show_bit shown bytes) o ≡ leaving tables b bytes o
     leaving_same b shown bytes None = stepped_same b shown bytes
     leaving_same b shown bytes (Some outcome) = refl
 
@@ -328,7 +328,7 @@ module _ (tables : TableEntries) where
         let there : P (entering b p) = (fits_same (entering b p) shown p.bytes (kept p.id) f.0, subst (λ (w : Before). CoherentFrom tables w ps kept) leaves f.1) in
         subst P enters there
 
-    showing_coherent : (b : Before) (es : List Entry) (ms : List Bool) (at : ℕ) (shown : Bool) (entry : Entry) (kept : View) → slice_get es at ≡ Some entry → CoherentFrom tables b (marked_packets_of es ms) kept
+    pub showing_coherent : (b : Before) (es : List Entry) (ms : List Bool) (at : ℕ) (shown : Bool) (entry : Entry) (kept : View) → slice_get es at ≡ Some entry → CoherentFrom tables b (marked_packets_of es ms) kept
         → CoherentFrom tables b (marked_packets_of (slice_set es at (showing shown entry)) ms) kept
     showing_coherent b [] ms at shown entry kept here f = cc
     showing_coherent b (e ∷ es) [] zero shown entry kept here f =

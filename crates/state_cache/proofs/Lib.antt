@@ -11,6 +11,7 @@ pub mod Found
 pub mod Reached
 pub mod Edited
 pub mod Progress
+pub mod Returned
 pub mod Runs
 pub mod Settled
 pub mod Passed

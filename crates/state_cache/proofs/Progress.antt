@@ -12,22 +12,22 @@ use Rattle.state_cache.specs.EditLaws.{EditsKeepIds, IsViewWithout, LaterIdsAreN
 use Rattle.state_cache.specs.Views.{View}
 
 -- the id of one of these packets
-abbrev IsAmong : ℕ → List Entry → Type 0
+abbrev pub IsAmong : ℕ → List Entry → Type 0
 IsAmong id [] = ⊥
 IsAmong id (e ∷ es) = (e.id ≡ id) ⊎ IsAmong id es
 
-among_at : (es : List Entry) (place id : ℕ) → option_map (λ (e : Entry). e.id) (slice_get es place) ≡ Some id → IsAmong id es
+pub among_at : (es : List Entry) (place id : ℕ) → option_map (λ (e : Entry). e.id) (slice_get es place) ≡ Some id → IsAmong id es
 among_at [] place id h = cc
 among_at (e ∷ es) zero id h = let is : e.id ≡ id = cc in inl is
 among_at (e ∷ es) (suc place) id h = inr (among_at es place id h)
 
-at_among : (es : List Entry) (id : ℕ) → IsAmong id es → (place : ℕ) × (option_map (λ (e : Entry). e.id) (slice_get es place) ≡ Some id)
+pub at_among : (es : List Entry) (id : ℕ) → IsAmong id es → (place : ℕ) × (option_map (λ (e : Entry). e.id) (slice_get es place) ≡ Some id)
 at_among [] id a = absurd a
 at_among (e ∷ es) id (inl is) = (0, ap Some is)
 at_among (e ∷ es) id (inr a) = let rest = at_among es id a in (suc rest.0, rest.1)
 
 -- an inserted packet
-among_inserted : (es : List Entry) (i : ℕ) (e : Entry) (id : ℕ) → IsAmong id es → IsAmong id (insert es i e)
+pub among_inserted : (es : List Entry) (i : ℕ) (e : Entry) (id : ℕ) → IsAmong id es → IsAmong id (insert es i e)
 among_inserted es zero e id a = inr a
 among_inserted [] (suc i) e id a = absurd a
 among_inserted (x ∷ es) (suc i) e id (inl is) = inl is
@@ -39,7 +39,7 @@ put_among [] (suc i) e = inl refl
 put_among (x ∷ es) (suc i) e = inr (put_among es i e)
 
 -- a replaced packet
-among_changed : (es : List Entry) (i : ℕ) (e y : Entry) (id : ℕ) → slice_get es i ≡ Some y → (id ≡ y.id → ⊥) → IsAmong id es → IsAmong id (slice_set es i e)
+pub among_changed : (es : List Entry) (i : ℕ) (e y : Entry) (id : ℕ) → slice_get es i ≡ Some y → (id ≡ y.id → ⊥) → IsAmong id es → IsAmong id (slice_set es i e)
 among_changed [] i e y id h other a = absurd a
 among_changed (x ∷ es) zero e y id h other (inl is) = let same : x ≡ y = cc in absurd (other (sym is ∙ ap (λ (z : Entry). z.id) same))
 among_changed (x ∷ es) zero e y id h other (inr a) = inr a
@@ -47,7 +47,7 @@ among_changed (x ∷ es) (suc i) e y id h other (inl is) = inl is
 among_changed (x ∷ es) (suc i) e y id h other (inr a) = inr (among_changed es i e y id h other a)
 
 -- a packet with the same id
-among_same : (es : List Entry) (i : ℕ) (e y : Entry) (id : ℕ) → slice_get es i ≡ Some y → e.id ≡ y.id → IsAmong id es → IsAmong id (slice_set es i e)
+pub among_same : (es : List Entry) (i : ℕ) (e y : Entry) (id : ℕ) → slice_get es i ≡ Some y → e.id ≡ y.id → IsAmong id es → IsAmong id (slice_set es i e)
 among_same [] i e y id h same a = absurd a
 among_same (x ∷ es) zero e y id h same (inl is) = let here : x ≡ y = cc in inl (same ∙ sym (ap (λ (z : Entry). z.id) here) ∙ is)
 among_same (x ∷ es) zero e y id h same (inr a) = inr a
@@ -59,14 +59,14 @@ further : (id n : ℕ) (x : Entry) (es : List Entry) → (id ≡ n) ⊎ IsAmong 
 further id n x es (inl same) = inl same
 further id n x es (inr a) = inr (inr a)
 
-out_or_left : (es : List Entry) (i : ℕ) (y : Entry) (id : ℕ) → slice_get es i ≡ Some y → IsAmong id es → (id ≡ y.id) ⊎ IsAmong id (remove es i)
+pub out_or_left : (es : List Entry) (i : ℕ) (y : Entry) (id : ℕ) → slice_get es i ≡ Some y → IsAmong id es → (id ≡ y.id) ⊎ IsAmong id (remove es i)
 out_or_left [] i y id h a = absurd a
 out_or_left (x ∷ es) zero y id h (inl is) = let same : x ≡ y = cc in inl (sym is ∙ ap (λ (z : Entry). z.id) same)
 out_or_left (x ∷ es) zero y id h (inr a) = inr a
 out_or_left (x ∷ es) (suc i) y id h (inl is) = inr (inl is)
 out_or_left (x ∷ es) (suc i) y id h (inr a) = further id y.id x (remove es i) (out_or_left es i y id h a)
 
-none_out : (es : List Entry) (i id : ℕ) → slice_get es i ≡ None → IsAmong id es → IsAmong id (remove es i)
+pub none_out : (es : List Entry) (i id : ℕ) → slice_get es i ≡ None → IsAmong id es → IsAmong id (remove es i)
 none_out [] i id h a = absurd a
 none_out (x ∷ es) zero id h a = cc
 none_out (x ∷ es) (suc i) id h (inl is) = inl is
@@ -81,7 +81,7 @@ put_back es to y id (inl same) = subst (λ (n : ℕ). IsAmong n (insert es to y)
 put_back es to y id (inr a) = among_inserted es to y id a
 
 -- an outcome that is cached after a drop has another id, and was cached before
-not_out : (id : ℕ) (new : View) (n : ℕ) → new n ≡ None → IsSome (new id) → id ≡ n → ⊥
+pub not_out : (id : ℕ) (new : View) (n : ℕ) → new n ≡ None → IsSome (new id) → id ≡ n → ⊥
 not_out id new n gone some same = let none : is_some (new id) ≡ false = ap (λ (k : ℕ). is_some (new k)) same ∙ ap is_some gone in cc
 
 -- appended packets

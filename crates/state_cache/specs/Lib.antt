@@ -3,6 +3,7 @@ pub mod Bytes
 pub mod Reaching
 pub mod Costs
 pub mod EditLaws
+pub mod ReturnLaws
 pub mod Walks
 pub mod ProofsOnly
 pub mod CacheViews

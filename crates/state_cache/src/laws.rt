@@ -4,6 +4,7 @@
 ghost use Rattle.state_cache.specs.CostLaws.{UnsettledAreListed};
 ghost use Rattle.state_cache.specs.EvictionLaws.{VictimIsUnique, WorkedVictims};
 ghost use Rattle.state_cache.specs.EditLaws.{DropsKeepCoherence, EditsKeepCoherence, EditsKeepIds, LaterIdsAreNotCached, NextIdIsNotCached};
+ghost use Rattle.state_cache.specs.ReturnLaws.{ReturningIsNotCached, ReturnsKeepCoherence, ReturnsKeepIds};
 ghost use Rattle.state_cache.specs.CacheViews.{CoherentIsCacheView};
 ghost use Rattle.state_cache.specs.WalkLaws.{NextIsUnique, WalksSettle, WalksStepInOrder};
 
@@ -36,6 +37,25 @@ pub fn next_id_is_not_cached()
 /// Nor is one cached for any later id, so appended packets have none.
 pub fn later_ids_are_not_cached()
     ensures { LaterIdsAreNotCached }
+{}
+
+/// After a return of a packet that has no cached outcome the cache is coherent: the packet has no mark, and the packet after it is
+/// marked. The same holds of an exchange, and of a show bit that is set back.
+pub fn returns_keep_coherence(tables: &Tables)
+    ensures { ReturnsKeepCoherence tables.now }
+{
+    frame_header::show_laws::only_the_show_bit_changes();
+    stream_steps::laws::show_bits_keep_steps();
+}
+
+/// After a return or an exchange outcomes are cached only for packets of the list.
+pub fn returns_keep_ids()
+    ensures { ReturnsKeepIds }
+{}
+
+/// A packet that may return has no cached outcome.
+pub fn returning_is_not_cached()
+    ensures { ReturningIsNotCached }
 {}
 
 /// A view is coherent exactly if each cached outcome results from the nearest one cached before it
