@@ -1,8 +1,9 @@
 // What is known of a session, to explain why a request was refused.
-ghost use Rattle.std.specs.Prelude.{◌≡◌, ◌≤◌, IfSome, is_some, length, nat_lt};
+ghost use Rattle.std.specs.Prelude.{◌≡◌, ◌<◌, ◌≤◌, IfSome, is_some, length, nat_lt};
 ghost use Rattle.packet_edits.specs.Nearest.{IsLast};
 ghost use Rattle.packet_edits.specs.Shown.{stream_of};
 ghost use Rattle.packet_edits.specs.Sizes.{key_tag_at};
+ghost use Rattle.frame_session.specs.Cached.{packet_of_frame};
 ghost use Rattle.frame_session.specs.Sessions.{current_list};
 ghost use Rattle.frame_session.specs.Told.{packets_in, stated_size};
 
@@ -60,6 +61,17 @@ impl Session {
         ensures { result ≡ self.now.state.size }
     {
         self.size
+    }
+
+    /// The source and the index of the packet that frame `n` of the current script comes from, if there is such a frame.
+    pub fn packet_of(&self, n: u64) -> Option<(usize, usize)>
+        ensures packet { result ≡ packet_of_frame self.now.state n }
+        ensures source { IfSome result (λ packet. packet.0 < length self.now.state.lists) }
+        ensures within { IfSome result (λ packet. packet.1 < length (list_at self.now.state.lists packet.0).entries) }
+    {
+        let (source, frame, _) = self.script.trace(&self.shown_counts(), n)?;
+        let place = self.shown_place(source, frame)?;
+        Some((source, place))
     }
 
     /// The size of frame `n` of the current script, from the last key packet up to its own and the crops; `None` if
