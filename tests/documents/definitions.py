@@ -1,13 +1,13 @@
 #!/usr/bin/env python3
-"""Counts the definitions that the headline stands on, and compares the documents with the sources: definitions.py
-[--quiet]
+"""Counts the definitions that the outermost contracts speak of, by name, and compares the documents with the sources:
+definitions.py [--quiet]
 
-The contract of `run` speaks of `Means` (frame_session, Answers). The files that it stands on are those whose
-definitions it uses, by the `use` lines, down to the lowest crate. The first part of docs/design/definitions.md must
-name each of them and no other, and each file that it names anywhere must exist. Each word in backquotes of
-definitions.md, proofs.md and architecture.md must be one of the sources, and the numbers of files, lines, crates, wrong
-bodies, clips, streams and points must be those that are counted here. No definition has more than ten lines besides one
-for each case, field or element. With --quiet it prints what is wrong only. The gate runs it.
+reached.py has the three readings of docs/design/definitions.md. The first part must name each file of the first
+reading and no other, the second part those that only questions use; the third part names the rest. Each file that is
+named anywhere must exist. Each word in backquotes of definitions.md, proofs.md and architecture.md must be one of the
+sources, and the numbers of files, lines, crates, wrong bodies, clips, streams and points must be those that are counted
+here. No definition has more than ten lines besides one for each case, field or element. With --quiet it prints what is
+wrong only. The gate runs it.
 """
 
 import functools
@@ -17,24 +17,12 @@ import sys
 
 TOP = pathlib.Path(__file__).resolve().parents[2]
 sys.path.insert(1, str(TOP / "compare"))
+import reached  # noqa: E402
 import results  # noqa: E402
-
-USE = re.compile(r"^use Rattle\.([a-z_0-9]+)\.specs\.([A-Z]\w*)", re.M)
 
 
 def path_of(crate, name):
     return TOP / "crates" / crate / "specs" / f"{name}.antt"
-
-
-def below(start):
-    """The files that a file uses, itself too."""
-    found, left = set(), [start]
-    while left:
-        file = left.pop()
-        if file.is_file() and file not in found:
-            found.add(file)
-            left += [path_of(*used) for used in USE.findall(file.read_text())]
-    return found
 
 
 def named(text):
@@ -64,19 +52,23 @@ SCRIPTS = (
     ".ci/run",
 )
 FOLDERS = ("must-fail",)
+READINGS = ("first", "second", "third")
+COUNTS = ("files", "lines", "types", "lines of types")
 # What the documents say in figures: the document, the text around the figures, and what they are.
 FIGURES = (
-    ("README.md", r"definitions\]\([^)]*\): ([\d,]+) files with\s+([\d,]+) lines", ("files", "code")),
-    ("README.md", r"([\d,]+) small streams", ("streams",)),
     (
-        "docs/design/definitions.md",
-        r"these ([\d,]+) files, ([\d,]+) lines with comments and imports",
-        ("files", "lines"),
+        "README.md",
+        r"definitions\]\([^)]*\): ([\d,]+)\s+lines\s+in\s+([\d,]+)\s+files.*?for\s+questions\s+([\d,]+)\s+more",
+        ("lines 1", "files 1", "lines 2"),
     ),
-    (
-        "docs/design/definitions.md",
-        r"speaks of ([\d,]+) files more, ([\d,]+) lines of definitions",
-        ("files of costs", "lines of costs"),
+    ("README.md", r"([\d,]+) small streams", ("streams",)),
+    *(
+        (
+            "docs/design/definitions.md",
+            rf"\| \[the {name}\][^|]*\|[^|]*\| ([\d,]+) \| ([\d,]+) \| ([\d,]+), ([\d,]+) \|",
+            tuple(f"{what} {place}" for what in COUNTS),
+        )
+        for place, name in enumerate(READINGS, 1)
     ),
     ("docs/design/proofs.md", r"There are ([\d,]+) crates and ([\d,]+) wrong bodies", ("crates", "wrong bodies")),
     ("docs/design/proofs.md", r"every frame of ([\d,]+) clips", ("clips",)),
@@ -119,25 +111,17 @@ def unknown_names():
                     yield f"{document}: there is no {word}, in `{code}`"
 
 
-def code_of(files):
-    """The lines of files without comments, imports and empty ones."""
-    return [
-        line
-        for file in files
-        for line in file.read_text().splitlines()
-        if line.strip() and not line.startswith(("use ", "--"))
-    ]
+def counts(readings):
+    """What a table of readings has, by the name of each figure."""
+    for place, reading in enumerate(readings, 1):
+        found = len(reading.files()), reading.lines(), len(reading.types()), reading.lines_of_types()
+        yield from ((f"{what} {place}", figure) for what, figure in zip(COUNTS, found))
 
 
-def counted(lines, code, wanted):
+def counted(readings):
     """What the documents say in figures."""
-    more = below(path_of("frame_session", "LineCosts")) - wanted
     return {
-        "files of costs": len(more),
-        "lines of costs": len(code_of(more)),
-        "files": len(wanted),
-        "lines": lines,
-        "code": code,
+        **dict(counts(readings)),
         "crates": sum(1 for path in (TOP / "crates").iterdir() if (path / "src").is_dir()),
         "wrong bodies": sum(1 for _ in (TOP / "crates").glob("*/must-fail/*.edit")),
         "clips": len(list((TOP / "crates/gate_clips/data").glob("*.ivf"))),
@@ -245,39 +229,45 @@ def long_definitions():
                 yield f"{path.relative_to(TOP)}: {count} lines from {case[0]:.60}"
 
 
-def main():
-    headline, rest = (TOP / "docs/design/definitions.md").read_text().split("\n## The rest\n")
-    listed = set(named(headline))
-    wanted = below(path_of("frame_session", "Answers"))
-    gone = sorted(file for file in listed | set(named(rest)) if not file.is_file())
-    missing = sorted(wanted - listed)
-    more = sorted(listed - wanted - set(gone))
-    missing += sorted(below(path_of("frame_session", "LineCosts")) - wanted - set(named(rest)))
-    for file in gone:
-        print(f"{file.relative_to(TOP)} is named, but does not exist")
-    for file in missing:
-        print(
-            f"{file.relative_to(TOP)} is not named in"
-            f" {'the first part' if file in wanted else 'the rest, and the costs stand on it'}"
+def misplaced(readings):
+    """The files that a part of definitions.md lacks, or has although its reading does not use them."""
+    parts = re.split(r"\n## (?:First|Second|Third) reading.*\n", (TOP / "docs/design/definitions.md").read_text())[1:]
+    listed = [set(named(part)) for part in parts]
+    core = readings[0].files()
+    wanted = core, readings[1].files() - core
+    yield from (
+        f"{file.relative_to(TOP)} is named, but does not exist"
+        for file in sorted(set.union(*listed))
+        if not file.is_file()
+    )
+    for name, has, uses in zip(READINGS, listed, wanted):
+        yield from (f"{file.relative_to(TOP)} is not named in the {name} part" for file in sorted(uses - has))
+        yield from (
+            f"{file.relative_to(TOP)} is named in the {name} part, which does not use it"
+            for file in sorted(has - uses)
+            if file.is_file()
         )
-    for file in more:
-        print(f"{file.relative_to(TOP)} is named in the first part, but the headline does not stand on it")
-    lines = [line for file in wanted for line in file.read_text().splitlines()]
-    code = code_of(wanted)
-    others = [
+    yield from (
+        f"{file.relative_to(TOP)} is named nowhere" for file in sorted(readings[2].files() - set.union(*listed))
+    )
+
+
+def main():
+    readings = reached.readings()
+    wrong = [
+        *misplaced(readings),
         *unknown_names(),
         *long_definitions(),
         *wrong_groups(),
-        *wrong_figures(counted(len(lines), len(code), wanted)),
+        *wrong_figures(counted(readings)),
     ]
-    print(*others, sep="\n", end="\n" if others else "")
-    is_wrong = bool(gone or missing or more or others)
+    print(*wrong, sep="\n", end="\n" if wrong else "")
     results.total(
-        f"{len(wanted)} files, {len(lines)} lines, {len(code)} of them without comments, imports and empty ones",
-        is_wrong,
+        "; ".join(f"{len(reading.files())} files, {reading.lines()} lines" for reading in readings),
+        bool(wrong),
         version=results.sources(),
     )
-    return 1 if is_wrong else 0
+    return 1 if wrong else 0
 
 
 if __name__ == "__main__":
