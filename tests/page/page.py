@@ -281,6 +281,7 @@ FUNCTIONS = """
         "keys", "engine", "loupe", "shots", "programme", "curves", "cutting", "times", "sound"]) {
       modules[name] = await import(new URL(`${name}.js`, document.baseURI));
     }
+    const views = await import(new URL("engines/views.js", document.baseURI));
     const { steps, player, script, window: part, fragment, colours, timeline, tiles, findings, keys, engine, loupe,
         shots, programme, curves, cutting, times, sound } = modules;
     const { ranges } = cutting;
@@ -333,7 +334,7 @@ FUNCTIONS = """
           colours.toDifference(frame, other, "colour", 16).map((pixel) => pixel & 255).join(),
       colours.compared(frame, other).differing, colours.compared(frame, other).psnr.y.toFixed(4),
           colours.compared(frame, frame).psnr.v === Infinity, colours.toPlane(frame, "v")[3] & 255,
-      [2, 3, 9].map((value) => timeline.firstAt([1, 3, 5], value)), [1, 0.5, 0.3, 0.001].map(tiles.perOf),
+      [2, 3, 9].map((value) => views.firstAt([1, 3, 5], value)), [1, 0.5, 0.3, 0.001].map(tiles.perOf),
       findings.ordered([{ severity: "note" }, { severity: "damage" }]).map(({ place }) => place),
           keys.nameOf({ key: "Z", ctrlKey: true, shiftKey: true }), keys.nameOf({ key: "?", shiftKey: true }),
       engine.sizeOf(175, 143), loupe.textAt(frame, other, 1, 1),
