@@ -14,13 +14,14 @@ use Rattle.frame_session.specs.Sessions.{SessionState}
 use Rattle.frame_session.specs.declared.export.Export.{Export}
 use Rattle.serve_arguments.specs.CommandLines.{IsAccepted, IsMistake}
 use Rattle.serve_arguments.specs.Locations.{ArePlaced, AreSeparate, IsPlaceFault}
-use Rattle.command_lines.specs.Endings.{exit_status}
-use Rattle.serve_arguments.specs.Statuses.{status_of}
+use Rattle.command_lines.specs.Endings.{IsHelpFault, exit_status}
+use Rattle.command_lines.specs.declared.fault.ArgumentFault.{ArgumentFault}
+use Rattle.serve_arguments.specs.Statuses.{argument_fault, status_of}
 use Rattle.serve_arguments.specs.declared.fault.Fault.{Fault}
 use Rattle.serve_arguments.specs.declared.fault.Fault.TheVariants.{CannotWrite}
 use Rattle.serve_arguments.specs.declared.words.Accepted.{Accepted}
 use Rattle.serve_arguments.specs.declared.words.Words.{Words}
-use Rattle.serve_program.specs.Done.{IsDone, IsEndedAs, IsExitStatus, IsLineDone, IsLineFault, IsRunFault, IsServedAs}
+use Rattle.serve_program.specs.Done.{IsDone, IsEndedAs, IsExitStatus, IsLineDone, IsLineFault, IsRunFault, IsServedAs, IsUnanswered}
 use Rattle.serve_program.specs.Endings.{AreLiveReplied, AreReplied, Gained, IsBatchEnded, IsLiveEnded, IsLiveReplied, IsOut, IsOver, IsReplied, IsServed, OverSources, RunFiles}
 use Rattle.serve_program.specs.Noted.{AreLiveNoted, AreNoted, IsLiveNoted, IsNoted, IsNotedAs}
 use Rattle.serve_program.specs.Outs.{IsFlushed}
@@ -253,3 +254,7 @@ module _ (run : RunFiles) (words : Words) (left r : Option (List ℕ)) where
   -- requests were not answered, or what was asked for was not saved
   pub given_up : (line : Accepted) (left' r' : Option (List ℕ)) (fault : Fault) → IsAccepted words line → ArePlaced run.places line AreSeparate → IsEndedAs run line left left' r r' fault → IsRunFault run words left left' r r' fault
   given_up line left' r' fault accepted placed ended = inr (record { line = line; accepted = accepted; placed = placed; ended = ended })
+
+-- arguments could not be parsed, and this is why they were not answered
+pub unanswered : (error : Error) (r r' : Option (List ℕ)) (why : ArgumentFault) (fault : Fault) → fault ≡ argument_fault why → IsHelpFault error r r' why → IsUnanswered error r r' fault
+unanswered error r r' why fault is cause = record { why = why; reported = is; not_helped = cause }

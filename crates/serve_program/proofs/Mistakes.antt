@@ -11,7 +11,7 @@ use Rattle.serve_arguments.specs.declared.fault.Fault.TheVariants.{CommandLine, 
 use Rattle.serve_arguments.specs.declared.words.Accepted.{Accepted}
 use Rattle.serve_arguments.specs.declared.words.Words.{Words}
 use Rattle.serve_program.specs.Done.{IsNotBegun, IsRunFault}
-use Rattle.serve_program.specs.Endings.{IsBatchEnded, IsEnded, IsLiveEnded, OfSources, RunFiles, fault_by_live}
+use Rattle.serve_program.specs.Endings.{AreLiveReplied, AreLiveStopped, AreReplied, AreStopped, IsBatchEnded, IsEnded, IsLiveEnded, OfSources, RunFiles, fault_by_live}
 
 no_one_is_2 : 1 ≡ 2 → ⊥
 no_one_is_2 is = omega (arith, is)
@@ -37,11 +37,11 @@ module _ (files : RunFiles) (line : Accepted) (left left' r r' : Option (List �
   live_status path lives.NoMemory = refl
 
   no_ending : (live : Bool) (fault : Fault) → status_of fault ≡ 2 → MatchBool live (IsLiveEnded files line left left' r r' fault) (IsBatchEnded files line left left' r r' fault) → ⊥
-  no_ending true fault is (inl ended) = no_end _ _ fault is ended
+  no_ending true fault is (inl ended) = no_end (AreLiveStopped files line left r r') (AreLiveReplied files line left r r') fault is ended
   no_ending true fault is (inr cut) =
       let short = cut.3 in
       no_one_is_2 (sym (live_status short.path short.why) ∙ sym (ap status_of short.reported) ∙ is)
-  no_ending false fault is ended = no_end _ _ fault is ended
+  no_ending false fault is ended = no_end (AreStopped files line left r r') (AreReplied files line left r r') fault is ended
 
 pub mistake_begins_nothing : (files : RunFiles) (words : Words) (left left' r r' : Option (List ℕ)) (fault : Fault) → status_of fault ≡ 2 → IsRunFault files words left left' r r' fault → IsNotBegun files words fault × (left' ≡ left) × (r' ≡ r)
 mistake_begins_nothing files words left left' r r' fault is (inl begun) = begun

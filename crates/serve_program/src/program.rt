@@ -307,6 +307,7 @@ fn status_after(fails_refused: bool, has_refused: bool) -> u8
 
 /// Does what a parsed command line asks for, flushes the replies, and returns the exit status. `is_named` says whether `--fail-refused` is among
 /// the arguments: no contract says which argument sets the flag of an option.
+#[tactic(auto, using(crate::proofs::Finished::unanswered))]
 fn answer_line<'a, R: NamedFiles + SavedFiles + AllocGlobal, I: Read, O: Write + Drop, E: Write>(
     rt: &R,
     parsed: &Result<Words<'a>, clap::Error>,
