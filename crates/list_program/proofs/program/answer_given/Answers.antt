@@ -16,8 +16,8 @@ returns g c = record {
   range = tt;
   flushed = tt;
   ended = unanswered
-    (g.R.NamedFiles.bytes_at c.args.rt.now) c.args.given (g.I.Read.remaining c.args.input.now) (g.I.Read.remaining c.read_given.new.input)
-    (writer_contents g.O.Write.contents c.args.output.now) (writer_contents g.O.Write.contents c.answer_to.new.w)
-    c.in-Some.kind (search) c.in-Ok.read.tables (rc_slice_items c.in-Ok-from_vec.bytes) c.in-Ok.read.bytes.items c.in-Ok-from_vec.ensures c.in-Ok.ensures.read
-    c.in-Err-answer_to.fault c.in-Err-answer_to.ensures.fault
+      (g.R.NamedFiles.bytes_at c.args.rt.now) c.args.given (g.I.Read.remaining c.args.input.now) (g.I.Read.remaining c.read_given.new.input)
+      (writer_contents g.O.Write.contents c.args.output.now) (writer_contents g.O.Write.contents c.answer_to.new.w)
+      c.in-Some.kind (search) c.in-Ok.read.tables (rc_slice_items c.in-Ok-from_vec.bytes) c.in-Ok.read.bytes.items c.in-Ok-from_vec.ensures c.in-Ok.ensures.read
+      c.in-Err-answer_to.fault c.in-Err-answer_to.ensures.fault;
 }
