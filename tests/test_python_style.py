@@ -20,17 +20,7 @@ CLIENT = TOP / "clients/python"
 WIDTH, LIMIT = 120, 900
 BLACK = ("black", "--check", "-q", "-l", str(WIDTH), "-t", "py39")
 # The modules of the package whose types are whole, which mypy reads strictly.
-TYPED = (
-    "base",
-    "errors.py",
-    "media/colours.py",
-    "media/png.py",
-    "media/y4m.py",
-    *(
-        f"session/{name}.py"
-        for name in ("edit_files frames library listing named origins outcomes pipes records runs scripts".split())
-    ),
-)
+TYPED = ("system.py", "errors.py", "base", "media", "session", "tools")
 # The folders and modules of the package, the lowest layer first.
 LAYERS = (
     ("system", "errors", "base"),

@@ -203,7 +203,7 @@ def taken(replies, asked, refusal):
     return found
 
 
-def found_at(replies, asked):
+def findings_of(replies, asked):
     """The findings of the replies to these questions, which are taken off the list; the last question has none."""
     found = []
     for line in asked[:-1]:
@@ -317,7 +317,7 @@ def one_list(dice, folder, streams):
     lists = [None, taken(left, second, "refused Place")]
     others.append(next(left))
     lists[0] = taken(left, first, "refused Place")
-    findings = found_at(left, checks)
+    findings = findings_of(left, checks)
     found = taken(left, origins, "refused NoSuchFrame")
     for question in details:
         word, number = question.split()

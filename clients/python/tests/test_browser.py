@@ -774,7 +774,7 @@ class Requests(BrowserCase):
             self.assertEqual(tile, self.look("timeline"))
             self.assertEqual(
                 self.js("return wokureti.findings.check.findings.map(({ group, ...finding }) => finding)"),
-                self.found()["findings"],
+                self.check_members()["findings"],
             )
 
     def test_a_delete_that_damages(self):
@@ -839,7 +839,7 @@ class Requests(BrowserCase):
     def test_findings_while_nothing_is_asked(self):
         """A page that was hidden, or lost its server, is told all of the check again."""
         self.open(self.damaged())
-        wanted = self.found()["findings"]
+        wanted = self.check_members()["findings"]
         self.assertTrue(wanted)
         self.js(
             "wokureti.findings.check = null; Object.defineProperty(document, 'hidden', { value: true, configurable:"

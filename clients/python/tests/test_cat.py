@@ -431,7 +431,7 @@ class Failures(Case):
             self.assertRaises(KeyboardInterrupt),
         ):
             list(here)
-        with self.assertRaises(Failed), here.started(["sleep", "30"]):
+        with self.assertRaises(Failed), here.started(["sleep", "30"], None, None):
             pass
 
     def test_an_interrupt(self):

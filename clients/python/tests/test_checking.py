@@ -261,12 +261,12 @@ class Between(CheckCase):
 
         with mock.patch.object(checking, "answer", answer):
             limit = time.monotonic() + 10 * SLOW
-            while not (found := self.found())["over"]:
+            while not (found := self.check_members())["over"]:
                 self.assertLess(time.monotonic(), limit)
             self.assertEqual(found["failed"], "the disk is gone")
             self.assertLess(found["done"], found["packets"])
             # The same packets are not checked again and again.
-            self.assertEqual(self.found()["check"], found["check"])
+            self.assertEqual(self.check_members()["check"], found["check"])
         self.step("delete 3")
         self.assertEqual(self.checked()["findings"], self.saved())
         # A check that failed is none of these packets.
@@ -279,7 +279,7 @@ class Between(CheckCase):
             threading, "excepthook"
         ):
             limit = time.monotonic() + 10 * SLOW
-            while not (found := self.found())["over"]:
+            while not (found := self.check_members())["over"]:
                 self.assertLess(time.monotonic(), limit)
         self.assertIn("ZeroDivisionError", found["failed"])
 
@@ -287,7 +287,7 @@ class Between(CheckCase):
         small_ranges(self)
         self.serve(self.broken(40))
         held = self.waiting()
-        first = self.found()
+        first = self.check_members()
         held.wait(self)
         self.step("delete 0", "delete 0")
         held.let.set()
@@ -302,7 +302,7 @@ class Between(CheckCase):
         path = self.broken(40)
         self.serve(path)
         held = self.waiting()
-        self.found()
+        self.check_members()
         held.wait(self)
         self.change("delete 0")
         held.let.set()
@@ -318,7 +318,7 @@ class Between(CheckCase):
         small_ranges(self)
         self.serve(SCENES)
         held = Held(self)
-        self.found()
+        self.check_members()
         held.wait(self)
         done = []
         thread = threading.Thread(target=lambda: done.append(self.step("delete 3")))
@@ -332,7 +332,7 @@ class Between(CheckCase):
         small_ranges(self)
         self.serve(SCENES)
         held = self.waiting()
-        self.found()
+        self.check_members()
         held.wait(self)
         with self.within(5):
             self.picture("/frames/20.y4m")
@@ -347,7 +347,7 @@ class Between(CheckCase):
                 checking.Pace, "is_late", return_value=True
             ):
                 held = self.waiting()
-                self.found()
+                self.check_members()
                 held.wait(self)
                 with mock.patch("sys.stderr"):
                     crash(self.live.session)
@@ -367,12 +367,12 @@ class Between(CheckCase):
 
         with mock.patch.object(checking, "answer", answer), mock.patch("sys.stderr"):
             limit = time.monotonic() + 10 * SLOW
-            while not (found := self.found())["failed"] or found["check"] <= checking.MOST_TRIES:
+            while not (found := self.check_members())["failed"] or found["check"] <= checking.MOST_TRIES:
                 self.assertLess(time.monotonic(), limit)
                 time.sleep(0.02)
             self.assertTrue(found["over"])
             for _ in range(5):
-                self.assertEqual(self.found()["check"], found["check"])
+                self.assertEqual(self.check_members()["check"], found["check"])
         self.await_list()
         self.assertLessEqual(self.members("/session")["restarts"], checking.MOST_TRIES + 1)
         self.step("delete 3")
@@ -399,7 +399,7 @@ class Between(CheckCase):
             ):
                 self.serve(SCENES)
                 held = self.waiting()
-                self.found()
+                self.check_members()
                 held.wait(self)
                 check = self.live.check
                 with self.within(5):
@@ -418,7 +418,7 @@ class Between(CheckCase):
         ):
             self.serve(self.broken(40))
             held = self.waiting()
-            self.found()
+            self.check_members()
             held.wait(self)
             check, beside = self.live.check, self.live.beside
             self.live.add_source(str(DATA / "odd-size.ivf"), "odd", ".ivf")
@@ -436,9 +436,9 @@ class Between(CheckCase):
         small_ranges(self)
         self.serve(self.broken(40))
         for line in ("delete 30", "hold 3", "undo", "replace 0 -", "undo", "use 0"):
-            self.found()
+            self.check_members()
             self.change(line)
-            self.found()
+            self.check_members()
         self.assertEqual(self.checked()["findings"], self.saved())
 
     def test_another_source_is_current(self):

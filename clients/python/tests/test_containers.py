@@ -995,13 +995,13 @@ class Blocks(Case):
             matroska.write(file, kind, parts, made)
         return out.read_bytes(), [(number, time // MS, data) for time, number, _, data in made]
 
-    def found(self, data):
+    def blocks_of(self, data):
         found = blocks.find(data)
         return [(block.track, block.time, block.data) for block in found.blocks], found
 
     def test_a_file_that_is_whole(self):
         data, made = self.file()
-        found, rest = self.found(data)
+        found, rest = self.blocks_of(data)
         self.assertEqual((found, rest.gaps), (made, []))
         self.assertEqual(
             {
@@ -1020,7 +1020,7 @@ class Blocks(Case):
             hit = sorted(dice.randrange(start, len(data) - 600) for _ in range(3))
             for at in hit:
                 data[at : at + 300] = bytes(300)
-            found, rest = self.found(bytes(data))
+            found, rest = self.blocks_of(bytes(data))
             # What was hit by no sector is found, but for the block before a gap, whose end leads nowhere. Where the
             # time of a cluster was hit, it is that of the blocks before, which may have been hit too.
             times = {(track, data): time for track, time, data in made if track == 2}
@@ -1043,7 +1043,7 @@ class Blocks(Case):
         data, made = self.file()
         place = data.index(bytes.fromhex("2ad7b188"))
         data = data[: place + 4] + (MS // 10).to_bytes(8, "big") + data[place + 12 :]
-        self.assertEqual(self.found(data)[0], [(number, time // 10, data) for number, time, data in made])
+        self.assertEqual(self.blocks_of(data)[0], [(number, time // 10, data) for number, time, data in made])
 
     @needs_ffmpeg
     @unittest.skipUnless(shutil.which("mkvmerge"), "mkvmerge is not here")
@@ -1109,14 +1109,14 @@ class Blocks(Case):
 
     def test_half_of_a_file(self):
         data, made = self.file()
-        found, rest = self.found(data[: len(data) // 2])
+        found, rest = self.blocks_of(data[: len(data) // 2])
         self.assertEqual((found, len(rest.gaps)), (made[: len(found)], 1))
         self.assertGreater(len(found), len(made) // 2 - 3)
 
     def test_the_beginning_is_lost(self):
         data, made = self.file()
         start = data.index(bytes.fromhex(matroska.CLUSTER))
-        found, rest = self.found(bytes(start + 4) + data[start + 4 :])
+        found, rest = self.blocks_of(bytes(start + 4) + data[start + 4 :])
         self.assertEqual((found, rest.tracks, blocks.video_track(rest)), (made, {}, 1))
         room = self.folder()
         head, packets, gaps = blocks.as_file(rest, "", str(room / "out.ivf"))

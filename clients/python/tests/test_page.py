@@ -149,7 +149,7 @@ class PageCase(ServerCase):
         self.assertEqual(status, 200, body)
         return json.loads(body)
 
-    def found(self, first=0):
+    def check_members(self, first=0):
         """What is known of the check of the current stream."""
         return json.loads(json.dumps(self.live.checked().members(first)))
 
@@ -157,7 +157,7 @@ class PageCase(ServerCase):
         """The findings of the current stream, once the check is over."""
         limit = time.monotonic() + 20 * SLOW
         while True:
-            found = self.found()
+            found = self.check_members()
             if found["over"]:
                 self.assertIsNone(found["failed"])
                 return found
@@ -1132,7 +1132,7 @@ class Checks(PageCase):
             (sum(one["severity"] == "damage" for one in wanted), sum(one["severity"] == "note" for one in wanted)),
         )
         self.assertGreater(found["damage"], 0)
-        self.assertEqual(self.found(1)["findings"], wanted[1:])
+        self.assertEqual(self.check_members(1)["findings"], wanted[1:])
         self.change("replace 5 -")
         self.change("save")
         other = self.checked()
@@ -1168,7 +1168,7 @@ class Checks(PageCase):
     def test_a_check_that_is_stopped_by_edits(self):
         self.serve(SCENES)
         for _ in range(10):
-            self.found()
+            self.check_members()
             self.step("delete 1")
         self.change("undo")
         self.assertTrue(self.checked()["over"])
@@ -1601,7 +1601,7 @@ class Killed(PageCase):
                 with mock.patch.object(checking, "MOST_TOLD", most):
                     for edit in ("delete 0", "undo"):
                         name, findings, data = told()
-                        whole = self.found()
+                        whole = self.check_members()
                         self.assertEqual(
                             (name, findings, data["damage"], data["revision"]),
                             ("edit", whole["findings"], whole["damage"], self.live.revision),

@@ -21,17 +21,18 @@ import sys
 import tempfile
 import threading
 import time
-from typing import Any, Callable, Iterable, Optional, Union
+from typing import BinaryIO, Callable, Iterable, Iterator, Optional, Sequence, Union
 
 try:
     import fcntl
 except ImportError:
-    fcntl = None
+    fcntl = None  # type: ignore[assignment]  # Windows has none.
 try:
     import msvcrt
 except ImportError:
-    msvcrt = None
+    msvcrt = None  # type: ignore[assignment]  # Only Windows has it.
 
+AnyPath = Union[str, bytes, "os.PathLike[str]", "os.PathLike[bytes]"]
 IS_WINDOWS, IS_MACOS = sys.platform == "win32", sys.platform == "darwin"
 NAME = "Windows" if IS_WINDOWS else "macOS" if IS_MACOS else "Linux"
 
@@ -47,7 +48,7 @@ MOST_BUSY = 2
 
 
 @contextlib.contextmanager
-def position(descriptor: int, place: int) -> Any:
+def position(descriptor: int, place: int) -> Iterator[None]:
     """The file is at a place in the block, and back where it was after it: a Python file over the same descriptor reads
     on from there.
     """
@@ -60,18 +61,19 @@ def position(descriptor: int, place: int) -> Any:
             os.lseek(descriptor, before, os.SEEK_SET)
 
 
-def seek_and_read(descriptor, size, place):
+def seek_and_read(descriptor: int, size: int, place: int) -> bytes:
     with position(descriptor, place):
         return os.read(descriptor, size)
 
 
-def seek_and_write(descriptor, data, place):
+def seek_and_write(descriptor: int, data: Union[bytes, bytearray, memoryview], place: int) -> int:
     with position(descriptor, place):
         return os.write(descriptor, data)
 
 
 # Bytes of a file from a place on, at most so many; and the number of bytes that were written at a place.
-pread, pwrite = getattr(os, "pread", seek_and_read), getattr(os, "pwrite", seek_and_write)
+pread: Callable[[int, int, int], bytes] = getattr(os, "pread", seek_and_read)
+pwrite: Callable[[int, Union[bytes, bytearray, memoryview], int], int] = getattr(os, "pwrite", seek_and_write)
 
 
 def pread_all(descriptor: int, size: int, place: int) -> bytes:
@@ -132,7 +134,7 @@ def remove_and_close(path: str, descriptor: int) -> None:
             os.unlink(path)
 
 
-def open_to_remove(path):
+def open_to_remove(path: AnyPath) -> BinaryIO:
     """A file that is read, and gone once it is closed."""
     if hasattr(os, "O_TEMPORARY"):
         return open(os.open(path, os.O_RDONLY | BINARY | os.O_TEMPORARY), "rb")
@@ -198,12 +200,12 @@ def is_private(found: os.stat_result) -> bool:
     return IS_WINDOWS or (is_mine(found) and not found.st_mode & 0o077)
 
 
-def owner() -> str:
+def owner() -> tuple[int, int]:
     """The numbers of this user and their group; 0 where there are none."""
     return (os.getuid(), os.getgid()) if hasattr(os, "getuid") else (0, 0)
 
 
-def is_writable(folder):
+def is_writable(folder: str) -> bool:
     """Whether files can be made in a folder. Windows only knows when one is made."""
     if not IS_WINDOWS:
         return os.access(folder or ".", os.W_OK | os.X_OK)
@@ -214,7 +216,7 @@ def is_writable(folder):
         return False
 
 
-def is_full(folder, least):
+def is_full(folder: str, least: int) -> bool:
     """Whether a folder has fewer free bytes than these, or no place for another file."""
     if not hasattr(os, "statvfs"):
         return shutil.disk_usage(folder).free < least
@@ -234,12 +236,12 @@ def descriptor_path(descriptor: int) -> str:
     return f"/dev/fd/{descriptor}"
 
 
-def is_device(path: Union[str, bytes, "os.PathLike[str]", "os.PathLike[bytes]"]) -> bool:
+def is_device(path: AnyPath) -> bool:
     """Whether a path is that of a device, which may be another one in another process."""
     return not IS_WINDOWS and os.path.abspath(os.fsdecode(path)).startswith(("/dev/", "/proc/"))
 
 
-def is_null(path):
+def is_null(path: AnyPath) -> bool:
     """Whether a path is that of the device that is always empty. Windows takes the name that it has elsewhere too."""
     if IS_WINDOWS:
         return os.fsdecode(path).lower() in ("nul", "\\\\.\\nul", "/dev/null")
@@ -250,7 +252,7 @@ def is_null(path):
     return stat.S_ISCHR(found.st_mode) and found.st_rdev == os.stat(os.devnull).st_rdev
 
 
-def open_input(path):
+def open_input(path: AnyPath) -> BinaryIO:
     """A file to read. Standard input is not a path everywhere, and other processes read it too."""
     return open(os.dup(0), "rb") if path == STANDARD_INPUT and not HAS_DESCRIPTOR_PATHS else open(path, "rb")
 
@@ -279,7 +281,7 @@ def ready(reading: Iterable[int], writing: Iterable[int], milliseconds: Optional
     return [one for one in reading if events.get(one, 0) & readable], [one for one in writing if one in events]
 
 
-def is_readable(connection):
+def is_readable(connection: socket.socket) -> bool:
     """Whether a socket has bytes, or was closed, now. Elsewhere than on Windows `select` refuses descriptors from 1024
     on.
     """
@@ -313,25 +315,25 @@ def at_fork(after_in_child: Callable[[], None]) -> None:
         os.register_at_fork(after_in_child=after_in_child)
 
 
-def started_apart():
+def started_apart() -> dict[str, int]:
     """How a command is started that `interrupt` ends."""
-    return {"creationflags": subprocess.CREATE_NEW_PROCESS_GROUP} if IS_WINDOWS else {}
+    return {"creationflags": getattr(subprocess, "CREATE_NEW_PROCESS_GROUP")} if IS_WINDOWS else {}
 
 
-def interrupt(process):
+def interrupt(process: subprocess.Popen[bytes]) -> None:
     """Ends a command as Ctrl-C does. Windows refuses that without a console."""
     with contextlib.suppress(OSError):
-        process.send_signal(signal.CTRL_BREAK_EVENT if IS_WINDOWS else signal.SIGINT)
+        process.send_signal(getattr(signal, "CTRL_BREAK_EVENT") if IS_WINDOWS else signal.SIGINT)
 
 
-def is_closed_pipe(error):
+def is_closed_pipe(error: BaseException) -> bool:
     """Whether an error of a write says that nobody reads any more. Windows says that an argument is invalid."""
     return isinstance(error, BrokenPipeError) or (
         IS_WINDOWS and isinstance(error, OSError) and error.errno == errno.EINVAL and error.filename is None
     )
 
 
-def prepare_output():
+def prepare_output() -> None:
     """Messages have names of files, which the character set of a pipe on Windows may not have: such letters are
     escaped.
     """
@@ -340,7 +342,7 @@ def prepare_output():
             file.reconfigure(errors="backslashreplace")
 
 
-def processors():
+def processors() -> int:
     """How many processors this process may use."""
     return len(os.sched_getaffinity(0)) if hasattr(os, "sched_getaffinity") else os.cpu_count() or 1
 
@@ -363,13 +365,13 @@ def process_text(pid: int, is_locked: bool = False) -> str:
     return "\n".join([LOCKED if is_locked else "not locked", socket.gethostname(), str(pid), ""])
 
 
-def process_space():
+def process_space() -> tuple[str, str]:
     """The start of this machine, and the processes that this one sees."""
     with open("/proc/sys/kernel/random/boot_id", encoding="ascii") as file:
         return file.read().strip(), os.readlink("/proc/self/ns/pid")
 
 
-def process_start(pid):
+def process_start(pid: Union[int, str]) -> str:
     """When a process was started, as the system has it; an empty text if it is gone, also if nobody waited for it
     yet.
     """
@@ -417,7 +419,7 @@ def is_abandoned(descriptor: int) -> bool:
     return True
 
 
-def read_by_process(pid, path):
+def read_by_process(pid: int, path: AnyPath) -> Optional[int]:
     """How many bytes of a file a process has read, or None where the system does not say so."""
     real = os.path.realpath(path)
     with contextlib.suppress(OSError, ValueError):
@@ -428,7 +430,7 @@ def read_by_process(pid, path):
     return None
 
 
-def paths_of_process(pid: int) -> Any:
+def paths_of_process(pid: int) -> Iterator[str]:
     """The paths of the files that a process has open, where the system lists them."""
     with contextlib.suppress(OSError):
         for name in os.listdir(f"/proc/{pid}/fd"):
@@ -469,7 +471,7 @@ def library_places() -> list[str]:
     return [f"glibc-hwcaps/{build}" for build in builds()[:-1]] + [""]
 
 
-def state_folder():
+def state_folder() -> str:
     """The folder for what a program of this user keeps."""
     named = os.environ.get("XDG_STATE_HOME", "")
     if os.path.isabs(named):
@@ -481,7 +483,7 @@ def state_folder():
     return os.path.join(home, "wokureti")
 
 
-def has_windows():
+def has_windows() -> bool:
     """Whether a browser with windows can be shown."""
     return IS_WINDOWS or IS_MACOS or bool(os.environ.get("DISPLAY") or os.environ.get("WAYLAND_DISPLAY"))
 
@@ -509,7 +511,7 @@ def names_of(path: str) -> list[str]:
     return list(dict.fromkeys((os.path.basename(path), ntpath.basename(path))))
 
 
-def plain_folder():
+def plain_folder() -> str:
     """A folder for temporary files whose path neither a list of paths nor a shell divides. On Windows no shell gets it,
     and there is no other one.
     """
@@ -524,12 +526,12 @@ def plain_folder():
     return folder
 
 
-def command_text(words):
+def command_text(words: Sequence[str]) -> str:
     """A command line of these words, as a shell of the system reads it."""
     return subprocess.list2cmdline(words) if IS_WINDOWS else shlex.join(words)
 
 
-def words_of_command(text):
+def words_of_command(text: str) -> list[str]:
     """The words of a command line, as the shell of the system has them: on Windows a backslash is a part of a path."""
     if not IS_WINDOWS:
         return shlex.split(text)

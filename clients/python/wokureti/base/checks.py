@@ -9,7 +9,7 @@ from typing import Any, BinaryIO, Iterable, SupportsIndex, Union
 from .. import system
 from . import lines
 
-AnyPath = Union[str, bytes, "os.PathLike[str]", "os.PathLike[bytes]"]
+AnyPath = system.AnyPath
 # A stream: its path, the bytes of its file, or an open file.
 AnyStream = Union[str, "os.PathLike[str]", "os.PathLike[bytes]", bytes, bytearray, memoryview, BinaryIO]
 AnyBytes = Union[bytes, bytearray, memoryview]

@@ -4,13 +4,17 @@ from __future__ import annotations
 
 import contextlib
 import errno
+import mmap
 import os
 import stat
 import tempfile
-from typing import IO, Iterable, Iterator, Optional
+from typing import IO, Iterable, Iterator, Optional, Union
 
 from .. import system
-from .checks import AnyPath
+from .checks import AnyBytes, AnyPath
+
+# The bytes of a file, read or mapped.
+Data = Union[AnyBytes, mmap.mmap]
 
 # What a write that finds no room fails with.
 FULL = (errno.ENOSPC, errno.EDQUOT, errno.EFBIG)

@@ -3,9 +3,11 @@
 
 A capture that is damaged is read on where its records follow each other again, and says so."""
 
+from __future__ import annotations
+
 import json
 import struct
-from typing import NamedTuple
+from typing import NamedTuple, Optional
 
 from ..errors import NotRead
 
@@ -71,7 +73,7 @@ class Capture:
         return found
 
 
-def kind_of(head):
+def kind_of(head: bytes) -> Optional[str]:
     """The kind of a capture that begins with these bytes, or None."""
     if head[:4] in PCAP:
         return "pcap"

@@ -1,11 +1,14 @@
 """The frames of a stream of VP8 in a capture of RTP, as an IVF file."""
 
+from __future__ import annotations
+
 import json
 import mmap
 import os
-from typing import NamedTuple
+from typing import Any, Callable, NamedTuple, Optional
 
 from ..errors import NotRead
+from ..base.checks import AnyPath
 from ..base.progress import say
 from ..media import ivf
 from . import captures, partitions, rtp
@@ -78,7 +81,7 @@ class Call(NamedTuple):
 missing = {}
 
 
-def is_capture(path):
+def is_capture(path: AnyPath) -> bool:
     """Whether a file is a capture of network packets."""
     if not os.path.isfile(path):
         return False
@@ -194,7 +197,7 @@ def packets_of(call):
     ]
 
 
-def read(path, out, name, is_quiet):
+def read(path: AnyPath, out: AnyPath, name: str, is_quiet: bool) -> list[str]:
     """Writes the frames of a capture as an IVF file. Returns sentences about what is missing."""
     choice = choose(path, name, is_quiet=is_quiet)
     call = call_of(choice.frames)
@@ -233,7 +236,9 @@ class Searched:
     one.
     """
 
-    def __init__(self, path, name, second=None, second_name=None):
+    def __init__(
+        self, path: AnyPath, name: str, second: Optional[AnyPath] = None, second_name: Optional[AnyPath] = None
+    ) -> None:
         choice = choose(path, name, is_quiet=False)
         frames, self.said = choice.frames, []
         if second is not None:
@@ -253,12 +258,12 @@ class Searched:
             raise NotRead(f"{name}: no frame of its stream is there to the end of its first partition")
         self.damage = choice.damage
 
-    def write(self, out):
+    def write(self, out: AnyPath) -> None:
         packets = packets_of(self.call)
         with open(out, "wb") as file:
             file.writelines(ivf.pieces(self.call.head, len(packets), packets))
 
-    def give(self, found, packet):
+    def give(self, found: Any, packet: Callable[..., Any]) -> None:
         """Gives a `Repair` its packets, each made by `packet`, and says what is missing."""
         found.head = self.call.head
         after = [*self.call.after_gap[1:], False]

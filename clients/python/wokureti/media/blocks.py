@@ -3,16 +3,24 @@
 Elements lead from one to the next: a number, a length, the content. Where one leads to something that is no element,
 the next place is searched from which blocks or clusters follow each other."""
 
+from __future__ import annotations
+
 import bisect
 import itertools
+import mmap
 import os
 import struct
 from array import array
-from typing import NamedTuple
+from typing import Iterator, NamedTuple, Optional, Union
 
 from ..errors import NotIvf
+from ..base.checks import AnyBytes, AnyPath
+from ..base.files import Data
+from ..base.progress import Watch
 from . import containers, ivf, opus, salvage
 
+# The bytes of a file in which a mark is looked for.
+Searchable = Union[bytes, bytearray, mmap.mmap]
 MS = 10**6
 # Elements whose content is read as elements, and those that are skipped.
 SEGMENT, CLUSTER, GROUP = 0x18538067, 0x1F43B675, 0xA0
@@ -50,7 +58,7 @@ class Block(NamedTuple):
     track: int
     time: int
     place: int
-    data: bytes
+    data: AnyBytes
 
 
 class Entry(NamedTuple):
@@ -71,12 +79,12 @@ class Found(NamedTuple):
     """What was found: the blocks, the gaps, of which each is a first byte, the byte after it and how many blocks were
     found before, and the tracks by their numbers, where the file still has them."""
 
-    blocks: list
-    gaps: list
-    tracks: dict
+    blocks: list[Block]
+    gaps: list[tuple[int, int, int]]
+    tracks: dict[int, Entry]
 
 
-def number_at(data, place, keeps_mark):
+def number_at(data: Data, place: int, keeps_mark: bool) -> Optional[tuple[int, int]]:
     """A number of variable length (RFC 8794, section 4), and the place after it; None if there is none."""
     if place >= len(data) or not data[place]:
         return None
@@ -88,7 +96,7 @@ def number_at(data, place, keeps_mark):
     return (value if keeps_mark else value & (1 << 7 * count) - 1), end
 
 
-def element_at(data, place):
+def element_at(data: Data, place: int) -> Optional[tuple[int, int, Optional[int]]]:
     """The number of an element at a place, where its content begins, and where it ends: None for one of unknown length.
     None if none that is known begins there, or the file is too short for it."""
     found = number_at(data, place, True)
@@ -108,12 +116,12 @@ def element_at(data, place):
     return found[0], start, end
 
 
-def is_block(data, start, end):
+def is_block(data: Data, start: int, end: int) -> bool:
     """Whether a block may begin here: it has a small track number."""
     return end - start >= 4 and 0x81 <= data[start] <= 0x80 + MOST_TRACK
 
 
-def follow(data, place, count):
+def follow(data: Data, place: int, count: int) -> bool:
     """Whether so many elements follow each other from a place on, or all up to the end of the file."""
     for _ in range(count):
         if place == len(data):
@@ -125,13 +133,16 @@ def follow(data, place, count):
     return True
 
 
-def next_place(data, place):
+def next_place(data: Searchable, place: int) -> Optional[int]:
     """The next place from which blocks or clusters follow each other, or None."""
     marks = (b"\xa3", b"\xa0", b"\x1f\x43\xb6\x75")
     found = {mark: data.find(mark, place) for mark in marks}
     while True:
-        at, mark = min(((at, mark) for mark, at in found.items() if at >= 0), default=(None, None))
-        if at is None or follow(data, at, CHAIN):
+        places = [(at, mark) for mark, at in found.items() if at >= 0]
+        if not places:
+            return None
+        at, mark = min(places)
+        if follow(data, at, CHAIN):
             return at
         found[mark] = data.find(mark, at + 1)
 
@@ -143,7 +154,7 @@ class Damage(NamedTuple):
     is_cut: bool
 
 
-def simple_end(data, place):
+def simple_end(data: Data, place: int) -> int:
     """The end of a block of up to 2 MB that is not in a group, at a place with six bytes or more: nearly all elements
     of a file are such blocks. 0 if none is there.
     """
@@ -161,11 +172,12 @@ def simple_end(data, place):
     return start + length if 4 <= length < most and 0x81 <= data[start] <= 0x80 + MOST_TRACK else 0
 
 
-def damage(data, watch=containers.NOBODY):
+def damage(data: Data, watch: Watch = containers.NOBODY) -> Optional[Damage]:
     """The first damage of a file, or None if its elements lead from one to the next up to its end. What is in blocks is
     not looked at. `watch` hears how far it is.
     """
-    place, size, cut = 0, len(data), None
+    place, size = 0, len(data)
+    cut: Optional[int] = None
     for turn in itertools.count(1):
         if place >= size:
             break
@@ -176,9 +188,9 @@ def damage(data, watch=containers.NOBODY):
             place = end
             continue
         number = number_at(data, place, True)
-        length = number and number_at(data, number[1], False)
-        if not length or number[0] not in KNOWN:
-            return Damage(place, cut is not None and not length and size - place < LONGEST)
+        length = None if number is None else number_at(data, number[1], False)
+        if number is None or length is None or number[0] not in KNOWN:
+            return Damage(place, cut is not None and length is None and size - place < LONGEST)
         (word, after), (count, start) = number, length
         if count == (1 << 7 * (start - after)) - 1:
             if word not in (SEGMENT, CLUSTER):
@@ -198,11 +210,16 @@ def damage(data, watch=containers.NOBODY):
     return None if cut is None else Damage(size, True)
 
 
-def find(data, watch=containers.NOBODY):
+def find(data: Searchable, watch: Watch = containers.NOBODY) -> Found:
     """What is in a file. Blocks with several packets, which only sound has, are left out. `watch` hears how far it
     is.
     """
-    blocks, gaps, tracks, scale, base, place, is_sure, clocks = [], [], {}, MS, 0, 0, True, {}
+    scale, base, place, is_sure = MS, 0, 0, True
+    blocks: list[Block] = []
+    gaps: list[tuple[int, int, int]] = []
+    tracks: dict[int, Entry] = {}
+    # The last time of each track, and the step to it.
+    clocks: dict[int, tuple[int, int]] = {}
     for turn in itertools.count(1):
         if place >= len(data):
             break
@@ -222,9 +239,9 @@ def find(data, watch=containers.NOBODY):
             )
             is_sure = value * scale // MS <= (MOST_START if latest is None else latest * scale // MS + MOST_LEAP)
             base = value if is_sure else base
-        elif number == INFO:
+        elif number == INFO and end is not None:
             scale = int.from_bytes(dict(children(data, start, end)).get(SCALE, b""), "big") or MS
-        elif number == TRACKS:
+        elif number == TRACKS and end is not None:
             tracks = dict(entries(data, start, end))
         elif number in (SIMPLE, BLOCK):
             time = struct.unpack_from(">h", data, start + 1)[0]
@@ -239,23 +256,23 @@ def find(data, watch=containers.NOBODY):
     return Found(blocks, gaps, tracks)
 
 
-def children(data, start, end):
+def children(data: Data, start: int, end: int) -> Iterator[tuple[int, AnyBytes]]:
     """The elements between two places: the number and the content of each."""
     while start < end:
         number = number_at(data, start, True)
-        size = number and number_at(data, number[1], False)
-        if not size or size[1] + size[0] > end:
+        size = None if number is None else number_at(data, number[1], False)
+        if number is None or size is None or size[1] + size[0] > end:
             return
         start = size[1] + size[0]
         yield number[0], data[size[1] : start]
 
 
-def string(content):
+def string(content: AnyBytes) -> bytes:
     """The value of a string, which a byte of 0 may end."""
     return bytes(content).partition(b"\0")[0]
 
 
-def entries(data, start, end):
+def entries(data: Data, start: int, end: int) -> Iterator[tuple[int, Entry]]:
     """The tracks: their numbers and entries."""
     for number, text in children(data, start, end):
         if number != ENTRY:
@@ -282,7 +299,7 @@ def entries(data, start, end):
         )
 
 
-def video_track(found):
+def video_track(found: Found) -> Optional[int]:
     """The number of the track of video: that of the file, else that whose blocks have the start code of a key packet.
     None if there is none.
     """
@@ -290,7 +307,9 @@ def video_track(found):
     return named or next((block.track for block in found.blocks if ivf.key_size(block.data[:10])), None)
 
 
-def as_file(found, path, out, pictures=None):
+def as_file(
+    found: Found, path: AnyPath, out: str, pictures: Optional[list[Block]] = None
+) -> tuple[ivf.Head, list[salvage.Found], list[salvage.Gap]]:
     """Writes the packets of the video as an IVF file, and those of the sound next to it. The packets are `pictures`,
     those that vp8list reads, or else those that were found. The head, the packets and the gaps as `salvage.find` has
     them; `NotIvf` if no packet is one of VP8. `containers.media_of` has the rest.
@@ -322,7 +341,7 @@ def as_file(found, path, out, pictures=None):
     return head, [salvage.Found(max(0, block.time), block.data, block.place) for block in pictures], gaps
 
 
-def sound_of(found, number, path):
+def sound_of(found: Found, number: int, path: str) -> Optional[containers.Sound]:
     """A track of sound, or None if it is of a codec that is not known here."""
     blocks = [block for block in found.blocks if block.track == number]
     entry = found.tracks.get(number)

@@ -2,6 +2,8 @@
 
 Python's `av` reads a container if it is installed, else ffmpeg. Times are in nanoseconds, and those of the file."""
 
+from __future__ import annotations
+
 import concurrent.futures
 import itertools
 import json
@@ -12,14 +14,18 @@ import statistics
 import subprocess
 import time
 from array import array
-from typing import NamedTuple
+from typing import Any, Callable, Dict, Iterable, Iterator, Mapping, NamedTuple, Optional, Sequence
 
 from .. import system
 from ..errors import Failed
 from ..base import checks, programs
+from ..base.checks import AnyPath
 from ..base.progress import Watch
 from . import ivf, times
+from .ivf import Rate
 
+# What ffprobe says of a file, or of a track: an object of JSON.
+Probed = Dict[str, Any]
 MOST_TIME = 3600
 # Seconds between two looks at how much a program wrote; packets, and bytes of a list of them, between two looks at how
 # far reading is.
@@ -53,22 +59,22 @@ class Sound(NamedTuple):
     private: bytes
     rate: int
     channels: int
-    tags: dict
+    tags: dict[str, str]
     language: str
-    index: int
+    index: int  # type: ignore[assignment]  # It is not the method of a tuple.
     path: str
-    starts: array
-    sizes: array
-    times: array
-    durations: array
+    starts: array[int]
+    sizes: array[int]
+    times: array[int]
+    durations: array[int]
 
-    def packet(self, number):
+    def packet(self, number: int) -> bytes:
         """The bytes of a packet."""
         with open(self.path, "rb") as file:
             file.seek(self.starts[number])
             return file.read(self.sizes[number])
 
-    def packets(self, numbers):
+    def packets(self, numbers: Iterable[int]) -> Iterator[bytes]:
         """The bytes of packets, one after the other."""
         with open(self.path, "rb") as file:
             for number in numbers:
@@ -81,48 +87,49 @@ class Media(NamedTuple):
     no rate; the tags of the file and of the video; the tracks of sound; and what the program that read it complained
     of."""
 
-    path: str
-    rate: object
-    tags: dict
-    video_tags: dict
+    path: AnyPath
+    rate: Optional[Rate]
+    tags: dict[str, str]
+    video_tags: dict[str, str]
     language: str
-    sounds: list
+    sounds: list[Sound]
     said: str
 
     @property
-    def has_sound(self):
+    def has_sound(self) -> bool:
         return bool(self.sounds)
 
     @property
-    def source(self):
+    def source(self) -> tuple[AnyPath, tuple[int, ...]]:
         """The path that a program reads, and the descriptors that it has to get for that."""
         return self.path, ()
 
 
 # What was read in this process, by the path of the IVF file that has the packets of the video; and sentences about the
 # damage of the containers.
-known, damaged = {}, {}
+known: dict[AnyPath, Media] = {}
+damaged: dict[AnyPath, list[str]] = {}
 # The paths that were given for them.
-origins = {}
+origins: dict[AnyPath, AnyPath] = {}
 
 
-def media_of(path):
+def media_of(path: AnyPath) -> Optional[Media]:
     """What the container had from which this IVF file was made, or None."""
     return known.get(os.fspath(path))
 
 
-def damage_of(path):
+def damage_of(path: AnyPath) -> list[str]:
     """Sentences about the damage of the container from which this IVF file was made."""
     return damaged.get(os.fspath(path), [])
 
 
-def name_of(path):
+def name_of(path: AnyPath) -> str:
     """What a file is called in messages: the path that was given for it, or standard input."""
     found = origins.get(path, path)
     return "standard input" if found == system.STANDARD_INPUT else os.fsdecode(found)
 
 
-def has_av():
+def has_av() -> bool:
     try:
         import av  # noqa: F401
 
@@ -131,15 +138,15 @@ def has_av():
         return False
 
 
-def has_ffmpeg():
+def has_ffmpeg() -> bool:
     return bool(shutil.which("ffmpeg") and shutil.which("ffprobe"))
 
 
-def can_read():
+def can_read() -> bool:
     return has_av() or has_ffmpeg()
 
 
-def read(path, out, watch=NOBODY):
+def read(path: AnyPath, out: str, watch: Watch = NOBODY) -> str:
     """Writes the packets of the first track of video as an IVF file, and returns the name of the program that did it.
     `media_of` has the rest. `watch` hears how many of the bytes were read."""
     tool, found = (
@@ -149,7 +156,7 @@ def read(path, out, watch=NOBODY):
     return tool
 
 
-def kept_tags(tags):
+def kept_tags(tags: Mapping[str, str]) -> dict[str, str]:
     return {
         name.lower(): value
         for name, value in tags.items()
@@ -157,7 +164,7 @@ def kept_tags(tags):
     }
 
 
-def rate_of(path, named):
+def rate_of(path: AnyPath, named: Optional[Rate]) -> Optional[Rate]:
     """The frames a second of an IVF file: the rate that the container names, if it is that of the time stamps, else
     that of their median step. If there is no step, the named one."""
     with open(path, "rb") as file:
@@ -165,7 +172,7 @@ def rate_of(path, named):
     return rate_of_stamps(head, index.stamps, index.tags, named)
 
 
-def rate_of_stamps(head, stamps, tags, named):
+def rate_of_stamps(head: ivf.Head, stamps: Sequence[int], tags: Sequence[int], named: Optional[Rate]) -> Optional[Rate]:
     """The same of a file with this head, and packets with these time stamps and tags."""
     steps = times.steps_of(stamps, tags)
     if not steps:
@@ -179,7 +186,7 @@ def rate_of_stamps(head, stamps, tags, named):
 # By vp8serve
 
 
-def read_by_core(path, out, watch=NOBODY):
+def read_by_core(path: AnyPath, out: str, watch: Watch = NOBODY) -> bool:
     """The same of a WebM or Matroska file, whose packets vp8serve reads as they are, and whose sound ffmpeg reads
     meanwhile, if it is there. False if vp8serve does not read it: an earlier version reads none."""
     program = programs.find("vp8serve")
@@ -196,7 +203,7 @@ def read_by_core(path, out, watch=NOBODY):
             saving.result()
         except (Failed, OSError):
             return False
-    if facts is not None:
+    if facts is not None and video is not None:
         known[os.fspath(out)] = media_by(
             path, facts, video, rate_of(out, fraction(video.get("avg_frame_rate", "0/0"))), sounds, said
         )
@@ -206,25 +213,27 @@ def read_by_core(path, out, watch=NOBODY):
 # By ffmpeg
 
 
-def read_by_ffmpeg(path, out, watch=NOBODY):
+def read_by_ffmpeg(path: AnyPath, out: str, watch: Watch = NOBODY) -> Media:
     """The same by the programs ffmpeg and ffprobe."""
     facts = probe(path)
-    video = next(
+    video: Probed = next(
         (
             one
             for one in facts["streams"]
             if one.get("codec_type") == "video" and not one.get("disposition", {}).get("attached_pic")
         ),
-        None,
+        {},
     )
-    check_video(path, video and video.get("codec_name"))
+    check_video(path, video.get("codec_name"))
     [pictures, *sounds], said = copy_tracks(path, facts["streams"], [video["index"]], out, watch)
     watch.stage(f"copying the packets of {os.fsdecode(path)}")
     rate = rate_of_stamps(*write_ivf(out, video, pictures, watch), fraction(video.get("avg_frame_rate", "0/0")))
     return media_by(path, facts, video, rate, sounds, said)
 
 
-def media_by(path, facts, video, rate, sounds, said):
+def media_by(
+    path: AnyPath, facts: Probed, video: Probed, rate: Optional[Rate], sounds: list[Sound], said: str
+) -> Media:
     """What ffprobe says of a file and of its video, with the rate and the sound."""
     tags = video.get("tags", {})
     return Media(
@@ -238,12 +247,12 @@ def media_by(path, facts, video, rate, sounds, said):
     )
 
 
-def read_sounds(path, out):
+def read_sounds(path: AnyPath, out: str) -> list[Sound]:
     """The tracks of sound of a file, by ffmpeg. Files that are made begin with `out`."""
     return copy_tracks(path, probe(path)["streams"], [], out)[0]
 
 
-def probe(path, shared=()):
+def probe(path: AnyPath, shared: Sequence[int] = ()) -> Probed:
     """What ffprobe says of a file. It gets the descriptors `shared`."""
     words = [
         "ffprobe",
@@ -260,7 +269,14 @@ def probe(path, shared=()):
     return {"streams": [], **found}
 
 
-def copy_tracks(path, streams, more, out, watch=NOBODY, shared=()):
+def copy_tracks(
+    path: AnyPath,
+    streams: Iterable[Probed],
+    more: Sequence[int],
+    out: str,
+    watch: Watch = NOBODY,
+    shared: Sequence[int] = (),
+) -> tuple[list[Sound], str]:
     """Writes the packets of tracks to files, those with the indexes `more` and all of sound. Returns the tracks, and
     what ffmpeg, which gets the descriptors `shared`, complains of. (Its IVF files are not used: where two packets have
     one time, it gives the second one a later one.)
@@ -286,7 +302,9 @@ def copy_tracks(path, streams, more, out, watch=NOBODY, shared=()):
     ], "\n".join(said)
 
 
-def write_ivf(path, facts, track, watch=NOBODY):
+def write_ivf(
+    path: AnyPath, facts: Probed, track: Sound, watch: Watch = NOBODY
+) -> tuple[ivf.Head, array[int], bytearray]:
     """Writes the packets of a track of video as an IVF file, with the time base of the container. Returns its head, and
     the time stamps and tags of its packets.
     """
@@ -302,7 +320,9 @@ def write_ivf(path, facts, track, watch=NOBODY):
     return head, stamps, tags
 
 
-def tagged(packets, tags, count, watch):
+def tagged(
+    packets: Iterable[tuple[int, bytes]], tags: bytearray, count: int, watch: Watch
+) -> Iterator[tuple[int, bytes]]:
     """The packets, so many of them, whose tags are added to those that are known."""
     for number, packet in enumerate(packets, 1):
         data = packet[1]
@@ -312,7 +332,7 @@ def tagged(packets, tags, count, watch):
             watch.part(number, count)
 
 
-def check_video(path, codec):
+def check_video(path: AnyPath, codec: Optional[str]) -> None:
     if codec != "vp8":
         name = os.fsdecode(path)
         if codec is None:
@@ -323,14 +343,14 @@ def check_video(path, codec):
         )
 
 
-def fraction(text):
+def fraction(text: str) -> Optional[Rate]:
     """A rate such as 30000/1001, or None."""
     found = re.fullmatch(r"([0-9]+)/([0-9]+)", text)
-    pair = tuple(map(int, found.groups())) if found else (0, 0)
-    return pair if all(pair) else None
+    rate, scale = map(int, found.groups()) if found else (0, 0)
+    return (rate, scale) if rate and scale else None
 
 
-def sound_of(facts, path, times_path, watch=NOBODY):
+def sound_of(facts: Probed, path: str, times_path: str, watch: Watch = NOBODY) -> Sound:
     """The track of sound of what ffprobe says, of the packets in a file, and of the list of their times."""
     (times, durations), sizes = times_of(times_path, watch)
     os.unlink(times_path)
@@ -346,7 +366,7 @@ def sound_of(facts, path, times_path, watch=NOBODY):
     )  # fmt: skip
 
 
-def times_of(path, watch=NOBODY):
+def times_of(path: str, watch: Watch = NOBODY) -> tuple[list[array[int]], array[int]]:
     """The times and the durations of packets, in nanoseconds, and their sizes, of a list that ffmpeg's framecrc
     wrote.
     """
@@ -369,13 +389,13 @@ def times_of(path, watch=NOBODY):
     return [array("q", [value * unit // ticks for value in column]) for column in columns], sizes
 
 
-def undumped(text):
+def undumped(text: str) -> bytes:
     """The bytes that ffprobe shows as lines such as `00000000: 4f70 7573  Opus`."""
     lines = re.findall(r"^[0-9a-f]+: ((?:[0-9a-f]{2,4} ?)+) ", text, re.MULTILINE)
     return bytes.fromhex("".join(lines))
 
 
-def count_packets(path):
+def count_packets(path: AnyPath) -> None:
     """Writes the number of packets into the header of an IVF file: some programs write another number there."""
     with open(path, "r+b") as file:
         _, index = ivf.read_index(file.fileno())
@@ -383,13 +403,13 @@ def count_packets(path):
         file.write(len(index).to_bytes(4, "little"))
 
 
-def part_of(path, outs, watch):
+def part_of(path: AnyPath, outs: Sequence[str], watch: Watch) -> Callable[[int], None]:
     """A function that tells how much of a file a process has read, or where the system does not say that, how much of
     it is in these files by now.
     """
     total = os.path.getsize(path)
 
-    def look(pid):
+    def look(pid: int) -> None:
         done = system.read_by_process(pid, path)
         if done is None:
             done = sum(os.path.getsize(out) for out in outs if os.path.exists(out))
@@ -398,7 +418,9 @@ def part_of(path, outs, watch):
     return look
 
 
-def run(words, look=lambda pid: None, shared=()):
+def run(
+    words: Sequence[str], look: Callable[[int], None] = lambda pid: None, shared: Sequence[int] = ()
+) -> tuple[bytes, str]:
     """The text that a program writes, and what it complains of. `Failed` if it fails. `look` is called with its process
     now and then until it ends. It gets the descriptors `shared`."""
     limit = time.monotonic() + MOST_TIME
@@ -426,14 +448,14 @@ def run(words, look=lambda pid: None, shared=()):
 # By Python's av
 
 
-def read_by_av(path, out, watch=NOBODY):
+def read_by_av(path: AnyPath, out: str, watch: Watch = NOBODY) -> Media:
     """The same by Python's av."""
     import av
 
     total = os.path.getsize(path)
     try:
         with av.open(checks.path(path)) as container:
-            video = next(iter(container.streams.video), None)
+            video: Any = next(iter(container.streams.video), None)
             check_video(path, video and video.codec_context.name)
             tracks = list(container.streams.audio)
             writers = {track.index: Writer(f"{out}.sound{number}", track) for number, track in enumerate(tracks)}
@@ -476,18 +498,18 @@ def read_by_av(path, out, watch=NOBODY):
 class Writer:
     """The packets of a track of sound, while they are read."""
 
-    def __init__(self, path, track):
+    def __init__(self, path: str, track: Any) -> None:
         self.path, self.track, self.file = path, track, open(path, "wb")
         self.starts, self.sizes, self.times, self.durations = array("Q"), array("I"), array("q"), array("q")
 
-    def add(self, packet):
+    def add(self, packet: Any) -> None:
         self.starts.append(self.file.tell())
         self.sizes.append(packet.size)
         for items, value in ((self.times, packet.pts), (self.durations, packet.duration or 0)):
             items.append(int(value * packet.time_base * NANO // 1))
         self.file.write(bytes(packet))
 
-    def sound(self):
+    def sound(self) -> Sound:
         context, tags = self.track.codec_context, dict(self.track.metadata)
         channels = len(context.layout.channels)
         private = bytes(context.extradata or b"")
@@ -508,6 +530,6 @@ class Writer:
         )
 
 
-def plain_name(name):
+def plain_name(name: str) -> str:
     """The name of a codec, from that of the decoder that was chosen for it."""
     return {"libopus": "opus", "libvorbis": "vorbis", "mp3float": "mp3", "libvpx": "vp8"}.get(name, name)

@@ -2,7 +2,11 @@
 do not say so.
 """
 
+from __future__ import annotations
+
 import struct
+
+from ..base.files import Data
 
 # Numbers of a length that its writer did not know: a RIFF file that was written to a pipe.
 UNKNOWN = (0, 0xFFFFFFFF)
@@ -12,7 +16,7 @@ PAGE = struct.Struct("<4sBBqIIIB")
 BEGINS, ENDS = 2, 4
 
 
-def is_cut(kind, data):
+def is_cut(kind: str, data: Data) -> bool:
     """Whether the bytes of a file of this kind, as `convert.kind_of` calls it, end before it does. A file of another
     kind is not looked at.
     """
@@ -20,7 +24,7 @@ def is_cut(kind, data):
     return check is not None and check(data)
 
 
-def is_cut_riff(data):
+def is_cut_riff(data: Data) -> bool:
     """Of RIFF chunks, one after the other, the last one is longer than the file, or has no length."""
     place, size = 0, len(data)
     while place < size and data[place : place + 4] == b"RIFF"[: size - place]:
@@ -36,13 +40,13 @@ def is_cut_riff(data):
     return False
 
 
-def is_cut_boxes(data):
+def is_cut_boxes(data: Data) -> bool:
     """The same of the boxes of an MP4 file."""
     place, size = 0, len(data)
     while place < size:
         if size - place < 8:
             return True
-        length = struct.unpack_from(">I", data, place)[0]
+        length: int = struct.unpack_from(">I", data, place)[0]
         if length == 1 and size - place >= 16:
             length = struct.unpack_from(">Q", data, place + 8)[0]
         if length < 8:
@@ -52,9 +56,10 @@ def is_cut_boxes(data):
     return place > size
 
 
-def is_cut_ogg(data):
+def is_cut_ogg(data: Data) -> bool:
     """The last page is not whole, or a stream has no last page."""
-    place, size, running = 0, len(data), set()
+    place, size = 0, len(data)
+    running: set[int] = set()
     while place < size:
         if size - place < PAGE.size:
             return True

@@ -5,11 +5,11 @@ from __future__ import annotations
 import os
 import subprocess
 import tempfile
-from typing import Iterable, Iterator
+from typing import Iterable, Iterator, Optional, Sequence
 
 from ..errors import Ended
 from ..base import programs, rooms
-from ..base.checks import AnyPath
+from ..base.checks import AnyBytes, AnyPath
 from . import ivf
 
 # Seconds that a run may take, and bytes of the file for each of which it may take one more.
@@ -20,8 +20,8 @@ OF_OTHERS = ("NoKeyFrame", "lost")
 
 
 def run(
-    lister: str, path: AnyPath, *options: str, pass_fds: Iterable[int] = (), statuses: Iterable[int] = (0,)
-) -> Iterator[str]:
+    lister: str, path: AnyPath, *options: str, pass_fds: Sequence[int] = (), statuses: Iterable[int] = (0,)
+) -> Iterator[bytes]:
     """The lines that vp8list prints of a file, one after the other."""
     with tempfile.TemporaryFile() as out:
         words = [lister, path, *options]
@@ -47,7 +47,9 @@ def run(
         yield from out
 
 
-def run_on(lister, packets, *options, statuses=(0,)):
+def run_on(
+    lister: str, packets: Iterable[tuple[int, AnyBytes]], *options: str, statuses: Iterable[int] = (0,)
+) -> Iterator[bytes]:
     """The same of these packets, pairs of a time stamp and bytes."""
     with rooms.Room() as folder:
         path = os.path.join(folder, "packets.ivf")
@@ -56,7 +58,7 @@ def run_on(lister, packets, *options, statuses=(0,)):
         yield from run(lister, path, *options, statuses=statuses)
 
 
-def outlines(lines):
+def outlines(lines: Iterator[bytes]) -> Iterator[tuple[int, Optional[str], Optional[str]]]:
     """For each line of a list its flags, the size of a key packet or None, and the cause against its header or None."""
     names = next(lines, b"").decode("ascii").rstrip("\n").split("\t")
     kind, show, size, cause = (names.index(name) if name in names else 0 for name in ("kind", "show", "size", "cause"))

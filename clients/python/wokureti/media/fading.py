@@ -1,14 +1,19 @@
 """Packets of Opus that fade: those of the fade are coded again, and all others stay."""
 
+from __future__ import annotations
+
 import collections
 import operator
 import os
-from typing import NamedTuple
+from array import array
+from typing import Iterable, Iterator, NamedTuple, Sequence, Tuple
 
 from ..errors import NoSound
 from . import fades, opus, opus_coding
 
 NANO = 10**9
+# A packet: its time, and its bytes.
+Packet = Tuple[int, bytes]
 # Packets before a fade that are decoded, so that the decoder has converged; nanoseconds of them that the encoder is
 # given too; packets after it by which the end is measured.
 LEAD, MOST_LEAD, AFTER = 60, 200 * opus.MS, 5
@@ -21,7 +26,7 @@ class Way(NamedTuple):
     beginning, in samples.
     """
 
-    options: tuple
+    options: tuple[str, ...]
     bits: int
     delay: int
 
@@ -38,11 +43,14 @@ SILK = [
 ]
 
 
-def faded(packets, ramps, channels, room):
+def faded(packets: Iterable[Packet], ramps: Sequence[fades.Ramp], channels: int, room: str) -> Iterator[Packet]:
     """Packets, pairs of a time and bytes, each after the one before it: those that have a sample in a ramp are coded
     again.
     """
-    before, group, after, place = collections.deque(maxlen=LEAD), [], [], 0
+    before: collections.deque[Packet] = collections.deque(maxlen=LEAD)
+    group: list[Packet] = []
+    after: list[Packet] = []
+    place = 0
     for packet in packets:
         time, data = packet
         while place < len(ramps) and ramps[place].end <= time:
@@ -68,14 +76,14 @@ def faded(packets, ramps, channels, room):
 class Group(NamedTuple):
     """Packets that are coded again, and those before and after them, which stay."""
 
-    before: list
-    packets: list
-    after: list
-    ramps: list
+    before: list[Packet]
+    packets: list[Packet]
+    after: list[Packet]
+    ramps: Sequence[fades.Ramp]
     channels: int
     room: str
 
-    def coded(self):
+    def coded(self) -> list[Packet]:
         """The packets of the group, coded again: that way of which the ends are best, as it is decoded."""
         start, length, lead = self.packets[0][0], length_of(self.packets), length_of(self.before)
         given, wanted = (self.faded(decoder, start - lead) for decoder in ("libopus", "opus"))
@@ -88,20 +96,22 @@ class Group(NamedTuple):
             found += [self.tried(given, wanted[skipped:], step, way, skipped) for way in SILK]
         return min(found)[2]
 
-    def tried(self, given, wanted, step, way, skipped):
+    def tried(
+        self, given: array[int], wanted: array[int], step: int, way: Way, skipped: int
+    ) -> tuple[int, int, list[Packet]]:
         """How bad a way is, as `score` has it, and the packets that it makes."""
         packets = [
             (self.packets[0][0] + number * step, data) for number, data in enumerate(self.code(given, step, way))
         ]
         return (*self.score(self.decoded([*self.before, *packets, *self.after], "opus")[skipped:], wanted), packets)
 
-    def faded(self, decoder, time):
+    def faded(self, decoder: str, time: int) -> array[int]:
         """The samples of all packets, faded."""
         samples = self.decoded([*self.before, *self.packets, *self.after], decoder)
         fades.fade(samples, time, self.channels, self.ramps, opus_coding.RATE)
         return samples
 
-    def score(self, heard, wanted):
+    def score(self, heard: array[int], wanted: array[int]) -> tuple[int, int]:
         """How bad the ends of samples are: how much greater their greatest step is, roughly, for that is a click; and
         how far they are from what they are to be.
         """
@@ -111,16 +121,16 @@ class Group(NamedTuple):
         far = sum(sum((one - other) ** 2 for one, other in zip(heard[part], wanted[part])) for part in parts)
         return max(0, round(4 * (click / max(QUIET, step) - 1))), far
 
-    def steepest(self, samples):
+    def steepest(self, samples: array[int]) -> int:
         """The greatest step between two samples of a channel."""
         return max(map(abs, map(operator.sub, samples[self.channels :], samples)), default=0)
 
-    def decoded(self, packets, decoder):
+    def decoded(self, packets: Iterable[Packet], decoder: str) -> array[int]:
         return opus_coding.decode(
             [data for _, data in packets], self.channels, os.path.join(self.room, "faded"), decoder
         )
 
-    def code(self, samples, step, way):
+    def code(self, samples: array[int], step: int, way: Way) -> list[bytes]:
         """Codes the samples from the first one of the group on, after a lead-in for the encoder, as packets of `step`
         nanoseconds.
         """
@@ -142,6 +152,6 @@ class Group(NamedTuple):
         return packets[ahead // step :]
 
 
-def length_of(packets):
+def length_of(packets: Iterable[Packet]) -> int:
     """The nanoseconds of packets."""
     return sum(opus.duration(data) for _, data in packets)

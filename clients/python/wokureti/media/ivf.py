@@ -7,10 +7,11 @@ from __future__ import annotations
 import os
 import struct
 from array import array
-from typing import NamedTuple
+from typing import Iterable, Iterator, NamedTuple, Optional, Tuple
 
 from .. import system
 from ..errors import NotIvf
+from ..base.checks import AnyBytes, AnyPath
 
 HEAD = struct.Struct("<4sHH4sHHIIII")
 RECORD = struct.Struct("<IQ")
@@ -18,6 +19,8 @@ MOST_PACKETS = 1 << 20
 # Bytes that are read at a time.
 WINDOW = 1 << 18
 KEY, SHOWN, NO_BYTES = 1, 2, 8
+# Frames or ticks a second, as numerator and denominator.
+Rate = Tuple[int, int]
 
 
 class Head(NamedTuple):
@@ -28,7 +31,7 @@ class Head(NamedTuple):
     rate: int
     scale: int
 
-    def text(self, count):
+    def text(self, count: int) -> bytes:
         """The header of a file with this many packets."""
         return HEAD.pack(b"DKIF", 0, 32, b"VP80", self.width, self.height, self.rate, self.scale, count, 0)
 
@@ -41,10 +44,10 @@ class Index:
     """Where the packets of a file are: for each its first byte, its size, its time stamp, and whether its tag is that
     of a key packet (`KEY`) and of a shown one (`SHOWN`), and whether it has no bytes (`NO_BYTES`)."""
 
-    def __init__(self):
+    def __init__(self) -> None:
         self.starts, self.sizes, self.stamps, self.tags = array("Q"), array("I"), array("Q"), bytearray()
 
-    def __len__(self):
+    def __len__(self) -> int:
         return len(self.starts)
 
 
@@ -62,17 +65,17 @@ def parse_head(text: bytes) -> tuple[Head, int]:
     return Head(width, height, rate, scale), length
 
 
-def is_key(data):
+def is_key(data: AnyBytes) -> bool:
     """Whether a packet has a key tag: 3 bytes or more, and bit 0 of the first one is 0."""
     return len(data) >= 3 and not data[0] & 1
 
 
-def is_shown(data):
+def is_shown(data: AnyBytes) -> bool:
     """Whether a packet is shown as a frame: bit 4 of its tag is 1, or it has no tag."""
     return len(data) < 3 or bool(data[0] & 16)
 
 
-def key_size(data):
+def key_size(data: AnyBytes) -> Optional[tuple[int, int]]:
     """The width and height that a key packet of at least 10 bytes gives, or None."""
     if not is_key(data) or len(data) < 10 or data[3:6] != b"\x9d\x01\x2a":
         return None
@@ -80,7 +83,7 @@ def key_size(data):
     return (width, height) if width and height else None
 
 
-def tag_of(size, first):
+def tag_of(size: int, first: int) -> int:
     """Whether a packet of this size with this first byte is a key packet, whether it is shown, and whether it is
     empty.
     """
@@ -93,7 +96,7 @@ def tag_of(size, first):
 TAGS = bytes(tag_of(3, first) for first in range(256))
 
 
-def read_index(descriptor):
+def read_index(descriptor: int) -> tuple[Head, Index]:
     """The head of the file, and the index of its whole records. The bytes of a record that is cut off are left out."""
     length_of_file = os.fstat(descriptor).st_size
     head, place = parse_head(system.pread(descriptor, HEAD.size, 0))
@@ -124,18 +127,18 @@ def read_index(descriptor):
     return head, index
 
 
-def left_after(descriptor, index):
+def left_after(descriptor: int, index: Index) -> int:
     """The number of bytes after the last whole record of a file."""
     end = index.starts[-1] + index.sizes[-1] if len(index) else parse_head(system.pread(descriptor, HEAD.size, 0))[1]
     return max(0, os.fstat(descriptor).st_size - end)
 
 
-def damage_text(name, index, left):
+def damage_text(name: str, index: Index, left: int) -> list[str]:
     """Sentences about a file that has so many bytes after its last whole record."""
     return [f"{name} ends in the middle of packet {len(index)}: {left:,} bytes of its record are there"] if left else []
 
 
-def read_packets(path):
+def read_packets(path: AnyPath) -> tuple[Head, list[tuple[int, bytes]]]:
     """The head of a file, and its packets as pairs of a time stamp and bytes."""
     with open(path, "rb") as file:
         head, index = read_index(file.fileno())
@@ -146,7 +149,7 @@ def read_packets(path):
     return head, packets
 
 
-def pieces(head, count, packets):
+def pieces(head: Head, count: int, packets: Iterable[tuple[int, AnyBytes]]) -> Iterator[bytes]:
     """The text of a file, piece by piece. `packets` are pairs of a time stamp and bytes."""
     yield head.text(count)
     for stamp, data in packets:

@@ -1,6 +1,10 @@
 """What a file looks like that is no stream which can be read here, and what would help."""
 
+from __future__ import annotations
+
 import os
+
+from ..base.checks import AnyPath
 
 # The first bytes of files, what they are, and what helps; `{}` is the file.
 ENCODE = "its frames have to be coded as VP8 first: ffmpeg -i {} -c:v libvpx OUT.webm"
@@ -25,7 +29,7 @@ SEARCH = "`wokureti repair {} OUT` searches it for packets of VP8"
 HEAD = 512
 
 
-def of(path):
+def of(path: AnyPath) -> tuple[str, str]:
     """What a file looks like, and what would help: a pair of texts."""
     with open(path, "rb") as file:
         head = file.read(HEAD)
@@ -42,7 +46,7 @@ def of(path):
     return "bytes of an unknown kind", SEARCH.format(name)
 
 
-def hint(path):
+def hint(path: AnyPath) -> str:
     """What a message says more of a file in which no packet was found: what it looks like and what would help, if that
     is known.
     """
@@ -55,7 +59,7 @@ def hint(path):
     return "" if helps == SEARCH.format(os.fsdecode(path)) else f": it looks like {look}; {helps}"
 
 
-def is_text(head):
+def is_text(head: bytes) -> bool:
     """Whether bytes are a text: the last letter may be cut off."""
     for end in range(len(head), max(0, len(head) - 4), -1):
         try:
@@ -66,7 +70,7 @@ def is_text(head):
     return False
 
 
-def sentence(path, name, error):
+def sentence(path: AnyPath, name: str, error: Exception) -> str:
     """Why a file cannot be read as IVF."""
     with open(path, "rb") as file:
         is_ivf = file.read(4) == b"DKIF"

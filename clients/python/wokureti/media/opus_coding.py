@@ -1,10 +1,13 @@
 """Opus by ffmpeg: samples as packets, and packets as samples of 16 bits at 48,000 a second."""
 
+from __future__ import annotations
+
 import os
 import shutil
 import subprocess
 import tempfile
 from array import array
+from typing import Iterable, Sequence
 
 from ..errors import NoSound
 from . import containers, matroska, opus
@@ -12,7 +15,7 @@ from . import containers, matroska, opus
 RATE = 48000
 
 
-def code(pieces, channels, options, path):
+def code(pieces: Iterable[bytes], channels: int, options: Sequence[str], path: str) -> containers.Sound:
     """Codes samples, which come in pieces of bytes, as Opus. Returns the track; its packets are in a file that begins
     with `path`.
     """
@@ -43,9 +46,10 @@ def code(pieces, channels, options, path):
         subprocess.Popen(words, stdin=subprocess.PIPE, stdout=subprocess.DEVNULL, stderr=errors) as process,
     ):
         try:
-            with process.stdin:
+            assert process.stdin is not None
+            with process.stdin as pipe:
                 for piece in pieces:
-                    process.stdin.write(piece)
+                    pipe.write(piece)
         except BrokenPipeError:
             pass
         except BaseException:
@@ -57,12 +61,13 @@ def code(pieces, channels, options, path):
     return containers.read_sounds(out, path)[0]
 
 
-def decode(packets, channels, path, decoder):
+def decode(packets: Iterable[bytes], channels: int, path: str, decoder: str) -> array[int]:
     """The samples that a decoder of ffmpeg makes of packets that follow each other, from the first one of the first
     packet on, those of all channels together. Files that are made begin with `path`."""
     # No sample is dropped, and the gain of the track's own header is left to the player.
     private = b"OpusHead" + bytes([1, channels, 0, 0]) + RATE.to_bytes(4, "little") + bytes(3)
-    blocks, time = [], 0
+    blocks: list[matroska.Block] = []
+    time = 0
     for data in packets:
         blocks.append((time, 1, True, data))
         time += opus.duration(data)

@@ -5,11 +5,14 @@ size leads to something that is no record. Then the next place is searched from 
 their sizes lead from one to the next, their time stamps go on, and their packets begin as packets of VP8 do.
 """
 
+from __future__ import annotations
+
 import re
 import struct
-from typing import NamedTuple
+from typing import NamedTuple, Optional
 
 from ..errors import NotIvf
+from ..base.checks import AnyBytes
 from . import ivf
 
 SOME = re.compile(rb"[^\0]")
@@ -28,7 +31,7 @@ class Found(NamedTuple):
     """A packet that was found, and where its record begins."""
 
     stamp: int
-    data: bytes
+    data: AnyBytes
     place: int
 
 
@@ -51,7 +54,7 @@ class Guess(NamedTuple):
     is_cut: bool
 
 
-def begins_packet(data, place, size):
+def begins_packet(data: AnyBytes, place: int, size: int) -> bool:
     """Whether a packet of this size may begin at a place: its tag, its start code, and the size of its first
     partition.
     """
@@ -67,7 +70,7 @@ def begins_packet(data, place, size):
     return bool(tag & 1) or ivf.key_size(data[place : place + 10]) is not None
 
 
-def sized_at(data, place, last):
+def sized_at(data: AnyBytes, place: int, last: Optional[int]) -> Optional[tuple[int, int]]:
     """The size and time stamp of a record at a place, whatever its packet is, or None. `last` is the time stamp before
     it, if there is one.
     """
@@ -84,13 +87,13 @@ def sized_at(data, place, last):
     return size, stamp
 
 
-def record_at(data, place, last):
+def record_at(data: AnyBytes, place: int, last: Optional[int]) -> Optional[tuple[int, int]]:
     """The same if the packet begins as one of VP8."""
     found = sized_at(data, place, last)
     return found if found is not None and begins_packet(data, place + RECORD.size, found[0]) else None
 
 
-def follow(data, place, last, count):
+def follow(data: AnyBytes, place: int, last: Optional[int], count: int) -> bool:
     """Whether so many records follow each other from a place on, or all up to the end of the file, or up to a last one
     that is cut off.
     """
@@ -105,7 +108,7 @@ def follow(data, place, last, count):
     return True
 
 
-def is_cut(data, place, last):
+def is_cut(data: AnyBytes, place: int, last: Optional[int]) -> bool:
     """Whether a record begins at a place that the end of the file cuts off."""
     left = len(data) - place
     if left < RECORD.size:
@@ -114,7 +117,7 @@ def is_cut(data, place, last):
     return left < RECORD.size + size <= MOST_SIZE and (last is None or 0 <= stamp - last <= MOST_STEP)
 
 
-def next_place(data, place, last):
+def next_place(data: bytes, place: int, last: Optional[int]) -> Optional[int]:
     """The next place from which records follow each other, or None."""
     # Most places are none: the high bytes of a time stamp that goes on are those of the last one.
     high = struct.pack("<I", (last or 0) >> 32)
@@ -133,7 +136,7 @@ def next_place(data, place, last):
             at = len(data) if more is None else more.start() - RECORD.size
 
 
-def head_of(data):
+def head_of(data: bytes) -> tuple[Optional[ivf.Head], int]:
     """The head of a file and where its records begin; the head of an empty stream, and 0, if the header is lost."""
     try:
         head, length = ivf.parse_head(data[: ivf.HEAD.size])
@@ -142,12 +145,12 @@ def head_of(data):
         return None, 0
 
 
-def find(data):
+def find(data: bytes) -> tuple[Optional[ivf.Head], list[Found], list[Gap]]:
     """The head or None, the packets, and the gaps between them."""
     return find_all(data)[:3]
 
 
-def guess_at(data, place, end, last):
+def guess_at(data: bytes, place: int, end: int, last: Optional[int]) -> Optional[Found]:
     """A packet between a record whose size is wrong and the next record, or None."""
     if place + RECORD.size > end:
         return None
@@ -159,7 +162,9 @@ def guess_at(data, place, end, last):
     return Found(stamp, memoryview(data)[place + RECORD.size : end], place)
 
 
-def guesses_at(data, number, gap, last, cut):
+def guesses_at(
+    data: bytes, number: int, gap: Gap, last: Optional[int], cut: Optional[tuple[int, Optional[int]]]
+) -> list[Guess]:
     """The guesses at a gap, the likelier one first. `cut` is where the packet before it begins that was cut at its
     size, and the time stamp before that, or None."""
     found = [(guess_at(data, gap.start, gap.end, last), False)]
@@ -168,11 +173,15 @@ def guesses_at(data, number, gap, last, cut):
     return [Guess(number, packet, is_cut) for packet, is_cut in found if packet is not None]
 
 
-def find_all(data):
+def find_all(data: bytes) -> tuple[Optional[ivf.Head], list[Found], list[Gap], list[list[Guess]]]:
     """The same, and for each gap the guesses at a packet whose size is wrong."""
     head, place = head_of(data)
     # Packets are parts of the file, and no copies of it.
-    packets, gaps, guesses, last, view = [], [], [], None, memoryview(data)
+    packets: list[Found] = []
+    gaps: list[Gap] = []
+    guesses: list[list[Guess]] = []
+    last: Optional[int] = None
+    view = memoryview(data)
     while place < len(data):
         found = sized_at(data, place, last)
         if found is not None:
@@ -186,23 +195,24 @@ def find_all(data):
                 found = None
         resumed = next_place(data, place + 1 if found is None else place + RECORD.size, last)
         start = place
-        is_cut = found is not None and (resumed is None or resumed >= end)
-        if is_cut:
+        # Where a packet that is cut at its size begins, and the time stamp before it.
+        cut: Optional[tuple[int, Optional[int]]] = None
+        if found is not None and (resumed is None or resumed >= end):
             # The record is where the one before it leads to, and its packet ends before the next one that was found.
             packets.append(Found(found[1], view[place + RECORD.size : end], place))
-            before, last, start = last, found[1], end
+            cut, last, start = (place, last), found[1], end
         stop = len(data) if resumed is None else resumed
         if stop > start:
             gaps.append(Gap(start, stop, len(packets)))
             if resumed is not None:
-                guesses.append(guesses_at(data, len(gaps) - 1, gaps[-1], last, (place, before) if is_cut else None))
+                guesses.append(guesses_at(data, len(gaps) - 1, gaps[-1], last, cut))
         if resumed is None:
             break
         place = resumed
     return head, packets, gaps, guesses
 
 
-def plain(data):
+def plain(data: bytes) -> Optional[tuple[ivf.Head, list[Found], int]]:
     """The head and the packets as vp8serve reads them; None if it does not."""
     try:
         head, place = ivf.parse_head(data[: ivf.HEAD.size])

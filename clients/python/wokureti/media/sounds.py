@@ -2,14 +2,20 @@
 packets as they are where that is exact.
 """
 
+from __future__ import annotations
+
 import bisect
 import contextlib
 import os
 from array import array
-from typing import NamedTuple
+from typing import IO, TYPE_CHECKING, Callable, Iterable, Iterator, NamedTuple, Optional, Sequence
 
 from ..errors import NoSound
 from . import containers, fades, fading, opus, opus_coding
+from .containers import Sound
+
+if TYPE_CHECKING:
+    from .webm import AnyMedia
 
 NANO = 10**9
 MODES = ("copy", "encode", "none")
@@ -24,10 +30,10 @@ class Span(NamedTuple):
     """Some time of the output, with the sound of a recording from `start` on, or silence if `media` is None. In
     nanoseconds. `levels` is how loud it is at its beginning and at its end, 0 to 1."""
 
-    media: object
+    media: Optional[AnyMedia]
     start: int
     length: int
-    levels: tuple = fades.LEVEL
+    levels: fades.Levels = fades.LEVEL
 
 
 class Output(NamedTuple):
@@ -40,8 +46,8 @@ class Output(NamedTuple):
     channels: int
     delay: int
     language: str
-    tags: dict
-    packets: object
+    tags: dict[str, str]
+    packets: Iterable[tuple[int, bytes]]
 
 
 class How(NamedTuple):
@@ -50,15 +56,15 @@ class How(NamedTuple):
     """
 
     ending: str
-    mode: object
-    say: object
+    mode: Optional[str]
+    say: Callable[[str], None]
     room: str
-    ramps: list
+    ramps: list[fades.Ramp]
 
 
-def joined(spans):
+def joined(spans: Iterable[Span]) -> list[Span]:
     """The spans with those made one that follow each other in a recording, at their full level."""
-    found = []
+    found: list[Span] = []
     for span in spans:
         span = span._replace(levels=fades.LEVEL)
         last = found[-1] if found else None
@@ -73,7 +79,9 @@ def joined(spans):
     return found
 
 
-def outputs(spans, ending, mode, say, room):
+def outputs(
+    spans: Sequence[Span], ending: str, mode: Optional[str], say: Callable[[str], None], room: str
+) -> list[Output]:
     """The tracks of sound of an output with this ending, which have the sound of the spans. `say` is called with a
     sentence if a track is coded again, in the folder `room`. `NoSound` if `mode` is copy and a track cannot be
     copied."""
@@ -87,7 +95,7 @@ def outputs(spans, ending, mode, say, room):
     return [output(spans, [medias[one] for one in recordings], number, how) for number in range(count)]
 
 
-def output(spans, medias, number, how):
+def output(spans: Sequence[Span], medias: Sequence[AnyMedia], number: int, how: How) -> Output:
     """One track."""
     first = next(media.sounds[number] for media in medias if number < len(media.sounds))
     why = None if how.mode == "encode" else obstacle(spans, medias, number, first, how)
@@ -108,12 +116,12 @@ def output(spans, medias, number, how):
     return encoded(spans, number, first, how)
 
 
-def track_of(media, number):
+def track_of(media: Optional[AnyMedia], number: int) -> Optional[Sound]:
     """A track of a recording, or None."""
     return media.sounds[number] if media is not None and number < len(media.sounds) else None
 
 
-def obstacle(spans, medias, number, first, how):
+def obstacle(spans: Sequence[Span], medias: Iterable[AnyMedia], number: int, first: Sound, how: How) -> Optional[str]:
     """Why a track cannot be copied packet by packet, or None. Of a track of Opus that fades the other packets can."""
     if first.codec not in COPIED[how.ending]:
         return f"{first.codec} cannot be copied to {how.ending} here"
@@ -141,10 +149,11 @@ def obstacle(spans, medias, number, first, how):
 # Copied
 
 
-def copied(spans, number):
+def copied(spans: Sequence[Span], number: int) -> tuple[Iterator[tuple[int, bytes]], int]:
     """The packets of one span, as they are, and no delay."""
     [span] = spans
     track = track_of(span.media, number)
+    assert track is not None
     numbers = [
         place
         for place, time in enumerate(track.times)
@@ -153,7 +162,7 @@ def copied(spans, number):
     return ((max(0, track.times[place] - span.start), data) for place, data in zip(numbers, track.packets(numbers))), 0
 
 
-def copied_opus(spans, number, first):
+def copied_opus(spans: Iterable[Span], number: int, first: Sound) -> tuple[Iterator[tuple[int, bytes]], int]:
     """The packets of Opus of all spans, and the delay of the first one, which begins earlier by as much. Packets follow
     each other without a gap; where a span begins, and where it ends, the packet is the nearest one, so picture and
     sound part by half a packet at most, and each span begins anew.
@@ -162,16 +171,19 @@ def copied_opus(spans, number, first):
     return opus_packets(spans, number, first, delay), delay
 
 
-def opus_packets(spans, number, first, delay):
+def opus_packets(spans: Iterable[Span], number: int, first: Sound, delay: int) -> Iterator[tuple[int, bytes]]:
     out, clock = -delay, 0
     with contextlib.ExitStack() as stack:
         for span in spans:
             track = track_of(span.media, number)
             file = None if track is None else stack.enter_context(open(track.path, "rb"))
-            end, place = clock + span.length, None
+            end = clock + span.length
+            place: Optional[int] = None
             while True:
                 place = None if track is None else nearest(track, place, out + span.start - clock)
-                data, length = silent(first) if place is None else read_packet(track, file, place)
+                data, length = (
+                    silent(first) if track is None or file is None or place is None else read_packet(track, file, place)
+                )
                 if out + length // 2 > end:
                     break
                 yield out, data
@@ -179,18 +191,18 @@ def opus_packets(spans, number, first, delay):
             clock = end
 
 
-def silent(track):
+def silent(track: Sound) -> tuple[bytes, int]:
     """A silent packet for a track, and its length."""
     return opus.silence(max(track.durations, default=opus.CELT[-1]), track.channels)
 
 
-def read_packet(track, file, place):
+def read_packet(track: Sound, file: IO[bytes], place: int) -> tuple[bytes, int]:
     file.seek(track.starts[place])
     data = file.read(track.sizes[place])
     return data, opus.duration(data) or track.durations[place] or opus.CELT[-1]
 
 
-def nearest(track, last, time):
+def nearest(track: Sound, last: Optional[int], time: int) -> Optional[int]:
     """The packet at a time: the one after the last one, as long as it is about that time; None where the track has
     none.
     """
@@ -207,14 +219,14 @@ def nearest(track, last, time):
     return near if near is not None and abs(times[near] - time) <= length_of(track, near) // 2 + NANO // 1000 else None
 
 
-def length_of(track, place):
+def length_of(track: Sound, place: int) -> int:
     return track.durations[place] or opus.CELT[-1]
 
 
 # Coded again
 
 
-def encoded(spans, number, first, how):
+def encoded(spans: Iterable[Span], number: int, first: Sound, how: How) -> Output:
     """The samples of all spans, coded as Opus by ffmpeg."""
     pieces = samples(spans, number, first.channels, how.room)
     if how.ramps:
@@ -228,7 +240,7 @@ def encoded(spans, number, first, how):
     )
 
 
-def quieter(pieces, channels, ramps):
+def quieter(pieces: Iterable[bytes], channels: int, ramps: Sequence[fades.Ramp]) -> Iterator[bytes]:
     """Pieces of samples that fade."""
     done = 0
     for piece in pieces:
@@ -238,21 +250,22 @@ def quieter(pieces, channels, ramps):
         yield part.tobytes()
 
 
-def following(track, time):
+def following(track: Sound, time: int) -> Iterator[tuple[int, bytes]]:
     """The packets of Opus of a track, each after the one before it."""
     for data in track.packets(range(len(track.sizes))):
         yield time, data
         time += opus.duration(data)
 
 
-def samples(spans, number, channels, room):
+def samples(spans: Iterable[Span], number: int, channels: int, room: str) -> Iterator[bytes]:
     """The samples of all spans, of 16 bits, piece by piece."""
-    decoded, clock, across = {}, 0, 2 * channels
+    clock, across = 0, 2 * channels
+    decoded: dict[str, str] = {}
     for span in spans:
         track, end = track_of(span.media, number), clock + span.length
         left = (end * OPUS_RATE // NANO - clock * OPUS_RATE // NANO) * across
         clock = end
-        if track is not None:
+        if track is not None and span.media is not None:
             if track.path not in decoded:
                 decoded[track.path] = decode(span.media, track, channels, room)
             with open(decoded[track.path], "rb") as file:
@@ -269,7 +282,7 @@ def samples(spans, number, channels, room):
             left -= len(piece)
 
 
-def decode(media, track, channels, room):
+def decode(media: AnyMedia, track: Sound, channels: int, room: str) -> str:
     """A file of the samples of a track, of which the first is at time 0."""
     path = os.path.join(room, f"{os.path.basename(track.path)}.pcm")
     source, shared = media.source

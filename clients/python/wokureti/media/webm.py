@@ -1,6 +1,8 @@
 """WebM and Matroska files that the programs read where they are: what their beginning says of the video, where its
 packets are, by vp8list, and what is damaged. ffmpeg reads their sound and their tags, when these are needed first."""
 
+from __future__ import annotations
+
 import fractions
 import functools
 import math
@@ -10,13 +12,14 @@ import re
 import subprocess
 import tempfile
 import threading
-from array import array
-from typing import NamedTuple
+from typing import IO, NamedTuple, Optional, Protocol, Sequence, Tuple, Union
 
 from .. import system
 from ..base import checks, programs
-from ..base.progress import Reading, of_program
+from ..base.checks import AnyBytes, AnyPath
+from ..base.progress import Reading, Watch, of_program
 from . import blocks, containers, ivf
+from .ivf import Rate
 
 MARK = b"\x1a\x45\xdf\xa3"
 EBML, ENCODINGS, DURATION = 0x1A45DFA3, 0x6D80, 0x23E383
@@ -35,7 +38,9 @@ TAGS = {
 SPARE = re.compile(r"^spare (\d+)$", re.MULTILINE)
 # The indexes of the last files, by what tells one file from another: a session that is started again has the same ones.
 MOST_KNOWN = 16
-known, knowing = {}, threading.Lock()
+Signature = Tuple[int, int, int, int]
+known: dict[Signature, ivf.Index] = {}
+knowing = threading.Lock()
 
 
 class Facts(NamedTuple):
@@ -47,7 +52,7 @@ class Facts(NamedTuple):
     has_sound: bool
 
     @property
-    def rate(self):
+    def rate(self) -> Optional[Rate]:
         """The frames a second that the file names, as a pair, as ffmpeg rounds them, or None."""
         if not self.duration:
             return None
@@ -55,7 +60,7 @@ class Facts(NamedTuple):
         found = exact.limit_denominator(max(1, min(MOST_RATE, math.floor(MOST_RATE / exact))))
         return (found.numerator, found.denominator) if found else None
 
-    def served(self, step):
+    def served(self, step: int) -> Rate:
         """The frames a second that vp8serve writes before the frames, if `step` is the median step of the time stamps:
         the first of these with 32 bits.
         """
@@ -68,12 +73,12 @@ class Facts(NamedTuple):
 PLAIN = Facts(ivf.Head(0, 0, 1000, 1), 0, False)
 
 
-def is_marked(descriptor):
+def is_marked(descriptor: int) -> bool:
     """Whether an open file begins as WebM and Matroska files do."""
     return system.pread(descriptor, len(MARK), 0) == MARK
 
 
-def is_read(path, program=None, lister=None):
+def is_read(path: AnyPath, program: Optional[str] = None, lister: Optional[str] = None) -> bool:
     """Whether a path is that of a file that the programs read where it is. Of others the libraries that read containers
     say why they cannot be read. Python's `av` reads the sound where it is the only one."""
     with open(path, "rb") as file:
@@ -85,7 +90,7 @@ def is_read(path, program=None, lister=None):
     )
 
 
-def facts_of(descriptor):
+def facts_of(descriptor: int) -> Optional[Facts]:
     """What the beginning of a file says; None if it is not one of VP8 whose packets are in it as they are, or is not
     whole.
     """
@@ -110,14 +115,15 @@ def facts_of(descriptor):
     return Facts(head, value_of(video.get(DURATION), 0), any(entry.get(KIND) == SOUND for entry in entries))
 
 
-def parts_of(descriptor):
+def parts_of(descriptor: int) -> dict[int, bytes]:
     """The contents of the first elements of each name before the first cluster."""
-    place, size, found = 0, os.fstat(descriptor).st_size, {}
+    place, size = 0, os.fstat(descriptor).st_size
+    found: dict[int, bytes] = {}
     while place < size:
         text = system.pread(descriptor, blocks.LONGEST, place)
         number = blocks.number_at(text, 0, True)
-        length = number and blocks.number_at(text, number[1], False)
-        if not length or number[0] == blocks.CLUSTER or number[0] not in blocks.KNOWN:
+        length = None if number is None else blocks.number_at(text, number[1], False)
+        if number is None or length is None or number[0] == blocks.CLUSTER or number[0] not in blocks.KNOWN:
             break
         start = place + length[1]
         if number[0] == blocks.SEGMENT:
@@ -131,22 +137,22 @@ def parts_of(descriptor):
     return found
 
 
-def first(text):
+def first(text: AnyBytes) -> dict[int, bytes]:
     """The elements in an element, by their names: the first one of each."""
-    found = {}
+    found: dict[int, bytes] = {}
     for name, content in blocks.children(text, 0, len(text)):
         found.setdefault(name, bytes(content))
     return found
 
 
-def value_of(content, missing):
+def value_of(content: Optional[bytes], missing: int) -> int:
     return int.from_bytes(content, "big") if content else missing
 
 
 # The packets
 
 
-def index_of(lister, path, shared, signature, name):
+def index_of(lister: str, path: str, shared: Sequence[int], signature: Signature, name: str) -> ivf.Index:
     """The index of the packets of a file with this name, as vp8list lists them. `OSError` if it does not."""
     with knowing:
         found = known.get(signature)
@@ -159,7 +165,7 @@ def index_of(lister, path, shared, signature, name):
     return found
 
 
-def read_index(lister, path, shared, name):
+def read_index(lister: str, path: str, shared: Sequence[int], name: str) -> ivf.Index:
     with tempfile.TemporaryFile() as out, tempfile.TemporaryFile() as errors:
         with subprocess.Popen(
             [lister, path], stdin=subprocess.DEVNULL, stdout=out, stderr=errors, pass_fds=shared
@@ -175,7 +181,7 @@ def read_index(lister, path, shared, name):
         return parsed(out)
 
 
-def parsed(file):
+def parsed(file: IO[bytes]) -> ivf.Index:
     """The index in a list that vp8list wrote."""
     index, names = ivf.Index(), file.readline().rstrip(b"\n").split(b"\t")
     count = len(names)
@@ -192,14 +198,17 @@ def parsed(file):
     return index
 
 
-def blocks_of(path, data):
+def blocks_of(path: AnyPath, data: AnyBytes) -> Optional[list[blocks.Block]]:
     """The packets of a file with these bytes, as `blocks.Block` has them, as vp8list reads them; None if it does not,
     or if their times cannot be right. In a damaged file it finds more of them than `blocks.find`, unless the beginning
     is damaged: then it reads nothing."""
     if not is_read(path):
         return None
     with open(path, "rb") as file:
-        head = facts_of(file.fileno()).head
+        facts = facts_of(file.fileno())
+    if facts is None:
+        return None
+    head = facts.head
     try:
         index = read_index(programs.find("vp8list"), checks.path(path), (), containers.name_of(path))
     except OSError:
@@ -219,14 +228,16 @@ def blocks_of(path, data):
 # Damage
 
 
-def damage_of(program, path, shared, name, watch=containers.NOBODY):
+def damage_of(program: str, path: str, shared: Sequence[int], name: str, watch: Watch = containers.NOBODY) -> list[str]:
     """Sentences about the damage of a file. Whether bytes of it are skipped vp8serve says, if elements do not lead from
     one to the next.
     """
     with open(path, "rb") as file, mmap.mmap(file.fileno(), 0, access=mmap.ACCESS_READ) as data:
         found, size = blocks.damage(data, watch), len(data)
-    spare = 0 if found is None else spare_of(program, path, shared)
-    if found is not None and found.is_cut:
+    if found is None:
+        return []
+    spare = spare_of(program, path, shared)
+    if found.is_cut:
         return [f"{name} ends in the middle, after {size:,} bytes: the packets that followed are missing"]
     return (
         [f"{name} is damaged at byte {found.place:,}: {spare:,} bytes are skipped, and packets may be missing"]
@@ -235,7 +246,7 @@ def damage_of(program, path, shared, name, watch=containers.NOBODY):
     )
 
 
-def spare_of(program, path, shared):
+def spare_of(program: str, path: str, shared: Sequence[int]) -> int:
     """The number of bytes that vp8serve skips."""
     done = subprocess.run(
         [program, path],
@@ -253,6 +264,22 @@ def spare_of(program, path, shared):
 # What else there is
 
 
+class File(Protocol):
+    """What is used of an input of a session."""
+
+    def readable(self) -> tuple[str, tuple[int, ...]]:
+        ...
+
+    def records(self) -> ivf.Index:
+        ...
+
+    def folder(self) -> str:
+        ...
+
+    def check(self) -> None:
+        ...
+
+
 class Around:
     """What a file has besides the packets of its video, as `containers.Media` has it. `item` is the input whose file it
     is, or None if only the beginning of the file matters. ffmpeg reads the tags and the sound when they are needed
@@ -260,21 +287,22 @@ class Around:
 
     said = ""
 
-    def __init__(self, path, facts, item=None):
+    def __init__(self, path: AnyPath, facts: Facts, item: Optional[File] = None) -> None:
         self.path, self.facts, self.item = path, facts, item
-        self.lock, self.found_sounds = threading.Lock(), None
+        self.lock = threading.Lock()
+        self.found_sounds: Optional[list[containers.Sound]] = None
 
     @property
-    def has_sound(self):
+    def has_sound(self) -> bool:
         return self.facts.has_sound and containers.has_ffmpeg()
 
     @property
-    def source(self):
+    def source(self) -> tuple[AnyPath, tuple[int, ...]]:
         """The path that a program reads, and the descriptors that it has to get for that."""
         return (self.path, ()) if self.item is None else self.item.readable()
 
     @functools.cached_property
-    def probed(self):
+    def probed(self) -> containers.Probed:
         if not containers.has_ffmpeg():
             return {"streams": []}
         found = containers.probe(*self.source)
@@ -282,55 +310,66 @@ class Around:
         return found
 
     @functools.cached_property
-    def rate(self):
+    def rate(self) -> Optional[Rate]:
         """The frames a second: those that the track names, if they are those of the time stamps."""
-        index = self.item.records()
+        index = self.opened().records()
         return containers.rate_of_stamps(self.facts.head, index.stamps, index.tags, self.facts.rate)
 
     @property
-    def tags(self):
+    def tags(self) -> dict[str, str]:
         return containers.kept_tags(self.probed.get("format", {}).get("tags", {}))
 
     @property
-    def said_of_video(self):
+    def said_of_video(self) -> dict[str, str]:
         """The tags of the video."""
-        return next((one for one in self.probed["streams"] if one.get("codec_name") == "vp8"), {}).get("tags", {})
+        video: containers.Probed = next((one for one in self.probed["streams"] if one.get("codec_name") == "vp8"), {})
+        tags: dict[str, str] = video.get("tags", {})
+        return tags
 
     @property
-    def video_tags(self):
+    def video_tags(self) -> dict[str, str]:
         return containers.kept_tags(self.said_of_video)
 
     @property
-    def language(self):
+    def language(self) -> str:
         return self.said_of_video.get("language", "und")
 
     @property
-    def sounds(self):
+    def sounds(self) -> list[containers.Sound]:
         """The tracks of sound, read once. Other threads that need them wait."""
         with self.lock:
             if self.found_sounds is None:
                 self.found_sounds = self.copied() if self.has_sound else []
             return self.found_sounds
 
-    def copied(self):
+    def copied(self) -> list[containers.Sound]:
         """The tracks of sound, in the folder of the input."""
         path, shared = self.source
         found = containers.copy_tracks(
-            path, self.probed["streams"], [], os.path.join(self.item.folder(), "sound"), shared=shared
+            path, self.probed["streams"], [], os.path.join(self.opened().folder(), "sound"), shared=shared
         )[0]
         self.check()
         return found
 
-    def check(self):
+    def opened(self) -> File:
+        """The input. Only of one the packets and the sound are read."""
+        assert self.item is not None
+        return self.item
+
+    def check(self) -> None:
         if self.item is not None:
             self.item.check()
 
 
-def media_of(path):
+# What a container has, or had, besides the packets of the video.
+AnyMedia = Union[containers.Media, Around]
+
+
+def media_of(path: AnyPath) -> Optional[AnyMedia]:
     """What the container had in which a stream is, or was; None of an IVF file."""
     found = containers.media_of(path)
     if found is None and os.path.isfile(path):
         with open(path, "rb") as file:
             facts = facts_of(file.fileno()) if is_marked(file.fileno()) else None
-        return facts and Around(path, facts)
+        return None if facts is None else Around(path, facts)
     return found

@@ -2,7 +2,7 @@
 
 from __future__ import annotations
 
-from typing import IO, Iterator
+from typing import Generator, Protocol
 
 from ..errors import NotY4m
 
@@ -42,14 +42,24 @@ def header_of(size: tuple[int, int], rate: tuple[int, int]) -> bytes:
     return b"YUV4MPEG2 W%d H%d F%d:%d Ip C420jpeg\n" % (*size, *rate)
 
 
-def read_line(file: IO[bytes]) -> bytes:
+class Readable(Protocol):
+    """A file that is read from its beginning on."""
+
+    def readline(self, __most: int) -> bytes:
+        ...
+
+    def read(self, __size: int) -> bytes:
+        ...
+
+
+def read_line(file: Readable) -> bytes:
     line = file.readline(MOST_LINE)
     if line and not line.endswith(b"\n"):
         raise NotY4m("a line of the text has no end")
     return line
 
 
-def read_frames(file: IO[bytes]) -> Iterator[tuple[int, int, bytes]]:
+def read_frames(file: Readable) -> Generator[tuple[int, int, bytes], None, None]:
     """The width, height and samples of each frame."""
     line = read_line(file)
     try:
@@ -75,7 +85,7 @@ def read_frames(file: IO[bytes]) -> Iterator[tuple[int, int, bytes]]:
         number += 1
 
 
-def read_exactly(file: IO[bytes], size: int) -> bytes:
+def read_exactly(file: Readable, size: int) -> bytes:
     """So many bytes, or those that there are."""
     pieces, left = [], size
     while left:

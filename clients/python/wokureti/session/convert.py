@@ -2,19 +2,22 @@
 time stamps.
 """
 
+from __future__ import annotations
+
 import contextlib
 import mmap
 import os
 import shutil
 import stat
+from typing import ContextManager, NamedTuple, Optional, Sequence, Union
 
 from .. import system
 from ..errors import Failed, NotIvf
 from ..base import checks
-from ..base.progress import Copied, Stages, say
-from ..media import blocks, containers, ends, ivf, looks, webm
+from ..base.checks import AnyPath
+from ..base.progress import Copied, Stages, Watch, say
+from ..media import blocks, containers, ends, ivf, looks, salvage, webm
 from ..calls import captures, recordings
-
 
 # A file of network packets, in which a stream of RTP is.
 CAPTURE = "capture of RTP"
@@ -22,7 +25,16 @@ CAPTURE = "capture of RTP"
 SEARCHES = "searches a damaged file for all its packets"
 
 
-def kind_of(head):
+class Searched(NamedTuple):
+    """What was found in a damaged file: the head, the packets, the gaps between them, and the length of the file."""
+
+    head: ivf.Head
+    packets: list[salvage.Found]
+    gaps: list[salvage.Gap]
+    size: int
+
+
+def kind_of(head: bytes) -> Optional[str]:
     """The container of a file that begins with these bytes, or None."""
     if head[:4] == b"\x1a\x45\xdf\xa3":
         return "WebM or Matroska"
@@ -37,7 +49,7 @@ def kind_of(head):
     return CAPTURE if captures.kind_of(head) is not None else None
 
 
-def is_container(path):
+def is_container(path: AnyPath) -> bool:
     """Whether a path is a file in another container than IVF."""
     if not os.path.isfile(path):
         return False
@@ -45,7 +57,7 @@ def is_container(path):
         return kind_of(file.read(12)) not in (None, CAPTURE)
 
 
-def spooled(path, folder):
+def spooled(path: AnyPath, folder: str) -> str:
     """A pipe as a file in the folder."""
     out = new_name(folder, "spooled")
     with system.open_input(path) as pipe, open(out, "xb") as file:
@@ -53,18 +65,27 @@ def spooled(path, folder):
     return out
 
 
-def new_name(folder, ending):
+def new_name(folder: str, ending: str) -> str:
     return os.path.join(folder, f"{len(os.listdir(folder))}.{ending}")
 
 
-def readable(path, folder, is_quiet=False, is_checked=True, watch=None):
+def readable(
+    path: AnyPath, folder: str, is_quiet: bool = False, is_checked: bool = True, watch: Optional[Watch] = None
+) -> str:
     """The path of the stream for a session and for vp8list: a WebM or Matroska file that these read is itself; else as
     `as_ivf` has it.
     """
     return as_ivf(path, folder, is_quiet, is_checked, watch, in_place=True)
 
 
-def as_ivf(path, folder, is_quiet=False, is_checked=True, watch=None, in_place=False):
+def as_ivf(
+    path: AnyPath,
+    folder: str,
+    is_quiet: bool = False,
+    is_checked: bool = True,
+    watch: Optional[Watch] = None,
+    in_place: bool = False,
+) -> str:
     """The path of the stream as IVF: the file itself, or a file in the folder. `-` is standard input, and /dev/null an
     empty stream, for which a session has the path `-`. With `is_checked` a file that does not begin as one raises
     `NotIvf`, which says what it looks like. `watch` hears how far a container is; a terminal shows it if there is
@@ -84,19 +105,20 @@ def as_ivf(path, folder, is_quiet=False, is_checked=True, watch=None, in_place=F
         return given
     if in_place and webm.is_read(given):
         out = spooled(given, folder) if system.is_device(given) else given
-        if not is_quiet and webm.media_of(out).facts.has_sound and not containers.has_ffmpeg():
+        media = webm.media_of(out)
+        if not is_quiet and isinstance(media, webm.Around) and media.facts.has_sound and not containers.has_ffmpeg():
             say(f"the sound of {name} is left out: install ffmpeg for that")
     else:
         out = taken_out(given, folder, name, kind, is_quiet, watch)
-    containers.origins[out] = path if given == path else system.STANDARD_INPUT
+    containers.origins[out] = system.STANDARD_INPUT if os.fspath(path) == "-" else path
     return out
 
 
-def as_file(path, folder):
+def as_file(path: AnyPath, folder: str) -> tuple[str, str, bool]:
     """The path of a stream, or of a file in the folder with what a pipe gives; what it is called; and whether it is a
     file that can be read.
     """
-    given = system.STANDARD_INPUT if os.fspath(path) == "-" else path
+    given = system.STANDARD_INPUT if os.fspath(path) == "-" else os.fsdecode(path)
     name = "standard input" if given == system.STANDARD_INPUT else os.fsdecode(given)
     if given == system.STANDARD_INPUT and not system.HAS_DESCRIPTOR_PATHS:
         return spooled(given, folder), name, True
@@ -112,7 +134,9 @@ def as_file(path, folder):
     return given if stat.S_ISREG(found.st_mode) else spooled(given, folder), name, True
 
 
-def searched(path, folder, watch=None, second=None):
+def searched(
+    path: AnyPath, folder: str, watch: Optional[Watch] = None, second: Optional[AnyPath] = None
+) -> tuple[str, Union[Searched, recordings.Searched, None]]:
     """The path of a stream as IVF, as `as_ivf` has it. A WebM or Matroska file that is damaged is searched for its
     packets, and then also the head, the packets, the gaps, and the length of the file, else None. Of a capture the
     frames that can be decoded, with those of a `second` capture.
@@ -121,11 +145,10 @@ def searched(path, folder, watch=None, second=None):
     if not is_file:
         return given, None
     if recordings.is_capture(given):
-        found, out = recordings.Searched(given, name, second and as_file(second, folder)[0], second), new_name(
-            folder, "ivf"
-        )
-        found.write(out)
-        return out, found
+        other = None if second is None else as_file(second, folder)[0]
+        call, out = recordings.Searched(given, name, other, second), new_name(folder, "ivf")
+        call.write(out)
+        return out, call
     with open(given, "rb") as file:
         head = file.read(12)
         if head[:4] == b"DKIF" or (kind_of(head) or "WebM or Matroska") != "WebM or Matroska":
@@ -146,13 +169,16 @@ def searched(path, folder, watch=None, second=None):
         f"{name} is a damaged WebM or Matroska file: its packets were"
         f" searched{sound_text(containers.media_of(out))}{lost}"
     )
-    return out, (*sought, len(data))
+    return out, Searched(*sought, len(data))
 
 
-def taken_out(path, folder, name, kind, is_quiet, watch=None):
+def taken_out(path: AnyPath, folder: str, name: str, kind: str, is_quiet: bool, watch: Optional[Watch] = None) -> str:
     """The packets of a container as an IVF file in the folder."""
     out = new_name(folder, "ivf")
-    with contextlib.nullcontext(watch or containers.NOBODY) if watch is not None or is_quiet else Stages() as stages:
+    context: ContextManager[Watch] = contextlib.nullcontext(watch or containers.NOBODY)
+    if watch is None and not is_quiet:
+        context = Stages()
+    with context as stages:
         stages.stage(f"taking the packets out of {name}")
         if kind == CAPTURE:
             containers.damaged[out] = recordings.read(path, out, name, is_quiet)
@@ -174,13 +200,13 @@ def taken_out(path, folder, name, kind, is_quiet, watch=None):
     return out
 
 
-def say_damage(texts, helps=SEARCHES):
+def say_damage(texts: Sequence[str], helps: str = SEARCHES) -> None:
     """Says what is damaged of a file that was read, and what `wokureti repair` does with it."""
     for place, text in enumerate(texts):
         say(f"{text}. `wokureti repair` {helps}" if helps and place == len(texts) - 1 else text)
 
 
-def read(path, out, name, kind, watch):
+def read(path: AnyPath, out: str, name: str, kind: str, watch: Watch) -> str:
     """Takes the packets of a container out, and returns the name of the program that did it."""
     if (
         kind == "WebM or Matroska"
@@ -197,7 +223,7 @@ def read(path, out, name, kind, watch):
     return "mkvextract"
 
 
-def damage_of(path, name, kind, watch=containers.NOBODY):
+def damage_of(path: AnyPath, name: str, kind: str, watch: Watch = containers.NOBODY) -> list[str]:
     """Sentences about the damage of a file: the programs that read one go on after it, or end, and do not always say
     so.
     """
@@ -217,7 +243,7 @@ def damage_of(path, name, kind, watch=containers.NOBODY):
     return [f"{name} is damaged at byte {found.place:,}: packets may be missing"]
 
 
-def sound_text(media):
+def sound_text(media: Optional[containers.Media]) -> str:
     """What is said of the sound."""
     if media is None:
         return ", and left its sound out: install python3-av or ffmpeg for that"

@@ -55,6 +55,12 @@ class Entry:
         return f"{self.before}{self.line}\n"
 
     @property
+    def undoing(self) -> Operation:
+        """What takes it back, which is known where the contents are."""
+        assert self.inverse is not None
+        return self.inverse
+
+    @property
     def is_use(self) -> bool:
         return first_word(self.line) == "use"
 
@@ -107,7 +113,7 @@ class EditList:
         # Called with a sentence if the file is another one than was thought; without it that is a warning.
         self.on_notice: Optional[Callable[[str], None]] = None
         if path is not None:
-            self._use(EditFile(path))
+            self._use(EditFile(os.fsdecode(path)))
             self._named = self._path
 
     def _use(self, file: EditFile) -> None:
@@ -130,7 +136,7 @@ class EditList:
         """The list as text."""
         return "".join(entry.text for entry in self._entries)
 
-    def save(self, path: Union[str, bytes, os.PathLike[str], os.PathLike[bytes]]) -> None:
+    def save(self, path: AnyPath) -> None:
         """Writes the list to another file."""
         write_whole(path, [self.text().encode()])
 
@@ -172,15 +178,15 @@ class EditList:
         """Makes the edits of the file."""
         if self._file is None:
             return
-        text = self._file.text()
+        path, text = self._file.path, self._file.text()
         if text and not text.endswith("\n"):
             last = lines_in(text)[-1]
             raise ValueError(
-                f"{self.path}: the last line has no newline, so it may be cut off: {last[:80]!r}. End the line, or"
+                f"{path}: the last line has no newline, so it may be cut off: {last[:80]!r}. End the line, or"
                 " delete it"
             )
-        entries, numbers, after = self._parsed(text, self.path)
-        plan = self._replay(entries, self.path, numbers)
+        entries, numbers, after = self._parsed(text, path)
+        plan = self._replay(entries, path, numbers)
         self._entries, self._after = entries, after
         self._know(self._contents, entries, plan)
         self._step = entries[-1].step if entries else 0
@@ -190,13 +196,14 @@ class EditList:
             place += sum(len(line.encode()) + 1 for line in lines[before:number])
             self._ends.append(place)
 
-    def run(self, path: Union[str, bytes, os.PathLike[str], os.PathLike[bytes]]) -> None:
+    def run(self, path: AnyPath) -> None:
         """Makes the edits of a list, which is only read. `ValueError` if one is refused: those that were made by then
         are in this list.
         """
         with open(path, encoding="utf-8") as file:
             text = file.read()
-        entries, numbers, _ = self._parsed(text, path)
+        name = os.fsdecode(path)
+        entries, numbers, _ = self._parsed(text, name)
         with self._session.turn():
             replies, plan = self._send([entry.line for entry in entries])
             self.accept(
@@ -207,7 +214,7 @@ class EditList:
                 ],
                 plan,
             )
-            check(entries, path, numbers, replies)
+            check(entries, name, numbers, replies)
 
     def _parsed(self, text: str, path: str) -> tuple[list[Entry], list[int], str]:
         """The entries of a list, which must be of this stream."""
@@ -279,9 +286,9 @@ class EditList:
         for entry, inverse in zip(entries, inverses):
             entry.inverse = contents.whole_by(inverse, entry.lost)
         contents.kept.add(
-            entry.inverse.packet
-            for entry in entries
-            if entry.inverse.is_lost and entry.inverse.packet is not None and entry.inverse.packet < contents.of_files
+            one.packet
+            for one in (entry.undoing for entry in entries)
+            if one.is_lost and one.packet is not None and one.packet < contents.of_files
         )
 
     @property
@@ -366,8 +373,8 @@ class EditList:
         for line, lost in edits:
             self._new_step()
             before = self._after or ("" if self._entries or entries else self._first_line())
-            sources = () if entries else self._unnamed()
-            entries.append(Entry(line, self._step, before + "".join(sources.values() if sources else ()), lost=lost))
+            sources: dict[int, str] = {} if entries else self._unnamed()
+            entries.append(Entry(line, self._step, before + "".join(sources.values()), lost=lost))
             entries[-1].sources = tuple(sources)
             self._after = ""
         self._know(self._contents, entries, plan)
@@ -390,11 +397,9 @@ class EditList:
         items = self._session._inputs.all
         if self._file is None or len(items) == 1:
             return {}
-        known, folder, found = (
-            {source for entry in self._entries for source in entry.sources},
-            os.path.dirname(os.path.realpath(self._path)),
-            {},
-        )
+        known = {source for entry in self._entries for source in entry.sources}
+        folder = os.path.dirname(os.path.realpath(self._file.path))
+        found: dict[int, str] = {}
         for number, item in enumerate(items[1:], 1):
             if number not in known and item.descriptor is not None:
                 with contextlib.suppress(OSError):
@@ -405,17 +410,18 @@ class EditList:
         """Brings the file up to date. `NotWritten` if that fails: the next edit tries again."""
         if self._path is None or self._depth:
             return
-        change = "is not open any more" if self._file is None else self._file.change()
-        if change is not None:
-            self._move(f"{self._path} {change}")
+        file = self._file
+        change = "is not open any more" if file is None else file.change()
+        if file is None or change is not None:
+            self._move(self._path, f"{self._path} {change}")
             return
         del self._ends[len(self._entries) :]
         new = [entry.text.encode() for entry in self._entries[len(self._ends) :]]
         start = self._ends[-1] if self._ends else 0
-        if not new and start == self._file.size:
+        if not new and start == file.size:
             return
         try:
-            self._file.write(b"".join(new), start)
+            file.write(b"".join(new), start)
         except OSError as error:
             raise NotWritten(error, self._path, len(new), self.written) from None
         self._extend(new)
@@ -427,21 +433,21 @@ class EditList:
             place += len(text)
             self._ends.append(place)
 
-    def _move(self, why: str) -> None:
+    def _move(self, path: str, why: str) -> None:
         """Writes the whole list to another file, since the one that it had is no more its own: what somebody else wrote
         is left as it is.
         """
         new = [entry.text.encode() for entry in self._entries]
         self._ends = []
         try:
-            file = EditFile.beside(self._named)
+            file = EditFile.beside(self._named or path)
             try:
                 file.write(b"".join(new), 0)
             except BaseException:
                 file.close()
                 raise
         except OSError as error:
-            raise NotWritten(error, self._path, len(new), 0, why) from None
+            raise NotWritten(error, path, len(new), 0, why) from None
         if self._file is not None:
             self._file.close()
         self._use(file)
@@ -475,7 +481,9 @@ class EditList:
         if refused is None:
             with self.step(title):
                 self.accept(made, plan)
-            return replies[-1][0] if replies else ""
+            last = replies[-1][0] if replies else ""
+            assert isinstance(last, str)
+            return last
         self._depth += 1
         try:
             new = self.contents().next_number
@@ -516,7 +524,7 @@ class EditList:
         """Takes back the last entries, the last one first."""
         # What takes an entry back is found when the contents are.
         self.contents()
-        self._perform([entry.inverse for entry in reversed(group)], timeout, new)
+        self._perform([entry.undoing for entry in reversed(group)], timeout, new)
 
     def _perform(
         self, operations: Sequence[Operation], timeout: Optional[float], new: Optional[int] = None
@@ -558,7 +566,7 @@ class EditList:
                 made.append(entry)
         self._know(contents, made, plan)
         if refused is not None:
-            self._perform([entry.inverse for entry in reversed(made)], timeout, new)
+            self._perform([entry.undoing for entry in reversed(made)], timeout, new)
             raise refused
         self._undone.pop()
         self._entries += group

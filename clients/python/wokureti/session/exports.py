@@ -10,15 +10,38 @@ import re
 import subprocess
 import tempfile
 import time
-from typing import NamedTuple
+from typing import (
+    IO,
+    TYPE_CHECKING,
+    Callable,
+    Iterable,
+    Iterator,
+    NamedTuple,
+    Optional,
+    Sequence,
+    Tuple,
+    TypeVar,
+    Union,
+)
 
 from .. import system
 from ..errors import Ended, Failed, Unexported
 from ..base import checks, files, progress, rooms
+from ..base.checks import AnyPath
 from ..base.lines import is_refusal
 from ..media import excerpts, ivf, muxing, opus, times
+from ..media.fades import Levels
+from ..media.sounds import Span
 from . import runs
+from .inputs import Inputs
 from .origins import joined, runs_of
+
+if TYPE_CHECKING:
+    from .contents import Contents
+
+Piece = TypeVar("Piece")
+# A shown packet, its duration, and its source.
+Shown = Tuple[int, int, int]
 
 # Streams that the programs read at a time, and frames that a stream has at most.
 MOST_STREAMS, MOST_FRAMES = 8, 1 << 20
@@ -72,8 +95,14 @@ class Frames:
     other runs of frames.
     """
 
-    def __init__(self, contents, streams=None, runs=None):
-        self.contents, self.runs, self.shown = contents, runs, []
+    def __init__(
+        self,
+        contents: Contents,
+        streams: Optional[Iterable[Sequence[int]]] = None,
+        runs: Optional[Sequence[tuple[int, int, int]]] = None,
+    ) -> None:
+        self.contents, self.runs = contents, runs
+        self.shown: list[list[Shown]] = []
         contents.listing.learn()
         for source, stream in enumerate(contents.streams if streams is None else streams):
             pairs = [
@@ -83,12 +112,12 @@ class Frames:
             ]
             self.shown.append([(number, duration, source) for number, duration in pairs])
 
-    def served(self):
+    def served(self) -> list[Shown]:
         """The packets of the frames that the script serves, with their durations and sources."""
         runs = joined(runs_of(self.contents.session)) if self.runs is None else self.runs
         return [frame for count, source, first in runs for frame in self.shown[source][first : first + count]]
 
-    def length_text(self):
+    def length_text(self) -> str:
         """How long source 0 is."""
         head = self.contents.inputs.all[0].head
         return (
@@ -96,7 +125,7 @@ class Frames:
             f" {clock_text(times.nano(sum(duration for _, duration, _ in self.shown[0]), head))}"
         )
 
-    def place(self, text, is_end):
+    def place(self, text: str, is_end: bool) -> int:
         """The frame of source 0 that a number or a time names: that which is shown then, or for an end the first one
         that begins then or later.
         """
@@ -111,7 +140,7 @@ class Frames:
             clock = after
         return len(frames)
 
-    def delay(self):
+    def delay(self) -> int:
         """The nanoseconds after the beginning of the file of source 0, which a player counts from, at which its first
         frame is shown: sound may begin before it.
         """
@@ -138,13 +167,13 @@ def nanoseconds(text: str) -> int:
     return round((3600 * hours + 60 * minutes + seconds) * times.NANO)
 
 
-def seconds_text(words):
+def seconds_text(words: Iterable[Optional[str]]) -> Optional[str]:
     """A sentence if one of these places was a number of a frame in earlier versions, else None."""
     number = next((word for word in words if word is not None and re.fullmatch("[0-9]*[1-9][0-9]*", word)), None)
     return number and f"{number} is a time in seconds, as in ffmpeg; frame {number} is f{number}"
 
 
-def cut_script(frames, parts):
+def cut_script(frames: Frames, parts: Sequence[tuple[Optional[str], Optional[str]]]) -> str:
     """The script of parts of source 0, pairs of texts of the first frame and of the end, or None for the beginning or
     the end of the stream.
     """
@@ -189,7 +218,7 @@ def known(script: str, program: str) -> str:
     return "; ".join(nodes)
 
 
-def frames_within(contents, served, text):
+def frames_within(contents: Contents, served: Sequence[Shown], text: str) -> int:
     """How many of these frames, one at least, are within a time from their beginning; or a number of frames, as f24."""
     if re.fullmatch("f[0-9]+", text):
         return max(1, min(int(text[1:]), len(served)))
@@ -201,7 +230,7 @@ def frames_within(contents, served, text):
     return len(served)
 
 
-def fade_script(script, count, fades):
+def fade_script(script: str, count: int, fades: Iterable[int]) -> str:
     """A script with a fade in at its beginning and out at its end, of so many frames each; `count` is how many frames
     it serves.
     """
@@ -231,8 +260,8 @@ class Output(NamedTuple):
 
     path: str
     pad: bool
-    sound: object
-    say: object
+    sound: Optional[str]
+    say: Callable[[str], None]
     watch: progress.Watch = progress.Watch()
 
 
@@ -241,22 +270,24 @@ class Added(NamedTuple):
     say the times and the sound; and if the sound fades, its levels at the beginning and at the end of each frame."""
 
     path: str
-    served: list
-    levels: object = None
+    served: Sequence[Shown]
+    levels: Optional[Sequence[Levels]] = None
 
 
 class With(NamedTuple):
     """The inputs of a session with one more."""
 
-    words: list
-    shared: tuple
+    words: list[str]
+    shared: tuple[int, ...]
 
 
-def export(contents, lines, out, room, added=None):
+def export(contents: Contents, lines: Iterable[str], out: Output, room: str, added: Optional[Added] = None) -> Told:
     """Writes the frames that a session with these contents and edits serves as packets: an IVF file, or WebM or
     Matroska with their sound. Returns what was written. Files that are made on the way are in the folder `room`."""
     between = os.path.join(room, "exported.ivf")
-    inputs = contents.inputs if added is None else With([*contents.inputs.words, added.path], contents.inputs.shared)
+    inputs: Union[Inputs, With] = contents.inputs
+    if added is not None:
+        inputs = With([*inputs.words, added.path], inputs.shared)
     try:
         run(contents.program, inputs, lines, between, out.pad, contents.tables, watch=out.watch)
     except Ended as ended:
@@ -274,8 +305,8 @@ def export(contents, lines, out, room, added=None):
             spans = [span._replace(levels=levels) for span, levels in zip(spans, added.levels)]
         out.watch.stage(f"writing {os.path.basename(os.fsdecode(out.path))}")
         if muxing.ending_of(out.path) is None:
-            size = os.fstat(file.fileno()).st_size
-            files.write_whole(out.path, watched(iter(lambda: file.read(PIECE), b""), len, size, out.watch), size)
+            length = os.fstat(file.fileno()).st_size
+            files.write_whole(out.path, watched(iter(lambda: file.read(PIECE), b""), len, length, out.watch), length)
             return told
         size = excerpts.first_size(file, index) or (head.width, head.height)
         rate = contents.rate if excerpts.is_constant([span.length for span in spans], contents.rate) else None
@@ -285,7 +316,7 @@ def export(contents, lines, out, room, added=None):
     return told
 
 
-def export_plain(contents, lines, out, pad):
+def export_plain(contents: Contents, lines: Iterable[str], out: AnyPath, pad: bool) -> None:
     """Writes the frames that a session with these contents and edits serves as an IVF file. `Unexported` if they are
     not exported.
     """
@@ -302,7 +333,9 @@ def export_plain(contents, lines, out, pad):
             files.write_whole(out, iter(lambda: file.read(PIECE), b""), os.fstat(file.fileno()).st_size)
 
 
-def watched(pieces, size, total, watch):
+def watched(
+    pieces: Iterable[Piece], size: Callable[[Piece], int], total: int, watch: progress.Watch
+) -> Iterator[Piece]:
     """The pieces, and who watches hears how many bytes of all they were."""
     done = 0
     for piece in pieces:
@@ -311,7 +344,16 @@ def watched(pieces, size, total, watch):
         watch.part(done, total)
 
 
-def run(program, inputs, lines, out, pad, tables, explains=True, watch=progress.Watch()):
+def run(
+    program: str,
+    inputs: Union[Inputs, With],
+    lines: Iterable[str],
+    out: str,
+    pad: bool,
+    tables: Optional[AnyPath],
+    explains: bool = True,
+    watch: progress.Watch = progress.Watch(),
+) -> None:
     """Runs the program on the edits of a session. `Ended` with what it says if it refuses; it says nothing of how far
     it is.
     """
@@ -339,7 +381,7 @@ def run(program, inputs, lines, out, pad, tables, explains=True, watch=progress.
             raise Ended(process.returncode, errors.read().decode(errors="replace").strip())
 
 
-def await_end(process, program, watch):
+def await_end(process: subprocess.Popen[bytes], program: str, watch: progress.Watch) -> None:
     """Waits until a program ends. It is ended if that takes too long, or is stopped."""
     limit = time.monotonic() + MOST_TIME
     try:
@@ -356,7 +398,7 @@ def await_end(process, program, watch):
         raise
 
 
-def told_of(index, spans):
+def told_of(index: ivf.Index, spans: Sequence[Span]) -> Told:
     """What the exported file has. `ValueError` if its frames are not as many as those of the script."""
     shown = sum(bool(tags & ivf.SHOWN) for tags in index.tags)
     if shown != len(spans):
@@ -365,7 +407,7 @@ def told_of(index, spans):
     return Told(sum(span.length for span in spans), shown, len(index), len(hidden), sum(hidden), sum(index.sizes))
 
 
-def timed(file, index, spans):
+def timed(file: IO[bytes], index: ivf.Index, spans: Iterable[Span]) -> Iterator[tuple[int, bytes]]:
     """The packets with their times: those of the spans, and for a hidden one that of the next shown one."""
     clock, lengths = 0, iter([span.length for span in spans])
     for start, size, tags in zip(index.starts, index.sizes, index.tags):

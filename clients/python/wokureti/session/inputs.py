@@ -11,14 +11,21 @@ import stat
 import tempfile
 import threading
 import weakref
-from typing import Optional
+from array import array
+from typing import IO, BinaryIO, Callable, Iterable, Iterator, Optional, Sequence, Tuple, Union
 
 from .. import system
 from ..errors import NotIvf, NotVideo
 from ..base import checks, programs, rooms
+from ..base.checks import AnyBytes, AnyPath
 from ..base.progress import Copied, Reading
 from ..media import containers, ivf, looks, times, webm
+from ..media.ivf import Rate
+from ..media.webm import AnyMedia
 from . import convert
+
+# The paths of vp8serve and vp8list.
+Tools = Tuple[str, str]
 
 # Bytes that are read at a time, and of a file that is read whole.
 WINDOW, PART = 1 << 20, 1 << 26
@@ -29,50 +36,54 @@ class Input:
     WebM, of which `facts` are those of its beginning. It is closed when it is collected. `tools` are vp8serve and
     vp8list."""
 
-    def __init__(self, path, tools=None):
+    def __init__(self, path: str, tools: Optional[Tools] = None) -> None:
         self.path = self.word = path
         self.tools = tools or (programs.find("vp8serve"), programs.find("vp8list"))
-        self.descriptor, self.closing = None, None
-        self.signature, self.facts = None, None
+        self.descriptor: Optional[int] = None
+        self.closing: Optional[Callable[[], object]] = None
+        self.signature: Optional[webm.Signature] = None
+        self.facts: Optional[webm.Facts] = None
         self.head = ivf.EMPTY
-        self.index = None
-        self.lock = threading.Lock()
-        self.found_digest, self.digesting, self.found_step, self.found_durations, self.found_left = (
-            None,
-            threading.Lock(),
-            None,
-            None,
-            None,
-        )
-        self.found_rate, self.found_damage, self.damaging = None, None, threading.Lock()
-        self.is_shared, self.room = False, None
+        self.index: Optional[ivf.Index] = None
+        self.lock, self.digesting, self.damaging = threading.Lock(), threading.Lock(), threading.Lock()
+        # What was asked for before.
+        self.known_digest: Optional[str] = None
+        self.known_step: Optional[int] = None
+        self.known_durations: Optional[array[int]] = None
+        self.known_left: Optional[int] = None
+        self.known_rate: Optional[Rate] = None
+        self.known_damage: Optional[list[str]] = None
+        self.is_shared = False
+        self.room: Optional[rooms.Room] = None
         if path == "-":
             return
         self.hold(os.open(path, os.O_RDONLY | system.BINARY))
-        kind = os.fstat(self.descriptor).st_mode
+        descriptor = self.opened()
+        kind = os.fstat(descriptor).st_mode
         if stat.S_ISDIR(kind):
             self.close()
             raise IsADirectoryError(errno.EISDIR, os.strerror(errno.EISDIR), path)
         if not stat.S_ISREG(kind) or system.is_device(path):
             # Another process cannot open a pipe again, and /dev/stdin is another file there.
             self.share(stat.S_ISREG(kind))
-        self.signature = self.sign(os.fstat(self.descriptor))
-        if webm.is_marked(self.descriptor):
-            self.facts = webm.facts_of(self.descriptor) or webm.PLAIN
+        descriptor = self.opened()
+        self.signature = self.sign(os.fstat(descriptor))
+        if webm.is_marked(descriptor):
+            self.facts = webm.facts_of(descriptor) or webm.PLAIN
             self.head = self.facts.head
 
     @functools.cached_property
-    def media(self):
+    def media(self) -> Optional[AnyMedia]:
         """What the container has, or had, besides the packets of the video; None if there is none."""
         return containers.media_of(self.path) if self.facts is None else webm.Around(self.path, self.facts, self)
 
     def folder(self) -> str:
         """A folder for files that are made of this one, which goes when it is closed."""
         with self.lock:
-            self.room = self.room or rooms.Room()
-        return self.room.name
+            self.room = room = self.room or rooms.Room()
+        return room.name
 
-    def readable(self):
+    def readable(self) -> tuple[str, tuple[int, ...]]:
         """The path by which a program that is started reads the file that is open here, and the descriptors that it has
         to get for that.
         """
@@ -81,7 +92,7 @@ class Input:
         self.check_opened()
         return checks.path(self.word), ()
 
-    def hold(self, descriptor):
+    def hold(self, descriptor: int) -> None:
         """Keeps a file open, and no other."""
         if self.closing is not None:
             self.closing()
@@ -101,17 +112,17 @@ class Input:
             with tempfile.TemporaryFile() as file:
                 # Not dup: the program opens it again, and reads from the start.
                 self.spool(file, system.descriptor_path(file.fileno()))
-        self.word, self.is_shared = system.descriptor_path(self.descriptor), True
+        self.word, self.is_shared = system.descriptor_path(self.opened()), True
 
-    def spool(self, file, path):
+    def spool(self, file: IO[bytes], path: str) -> None:
         """Copies a pipe to a file, and opens that by its path."""
-        with open(self.descriptor, "rb", closefd=False) as pipe:
+        with open(self.opened(), "rb", closefd=False) as pipe:
             Copied(containers.name_of(self.path)).copy(pipe, file)
         file.flush()
         self.hold(os.open(path, os.O_RDONLY | system.BINARY))
 
     @staticmethod
-    def sign(found):
+    def sign(found: os.stat_result) -> webm.Signature:
         return found.st_dev, found.st_ino, found.st_size, found.st_mtime_ns
 
     def is_changed(self) -> bool:
@@ -129,51 +140,52 @@ class Input:
         if self.descriptor is not None and not self.is_shared and self.sign(os.stat(self.word)) != self.signature:
             raise OSError(f"{self.path} was changed while the session was opened")
 
-    def records(self):
+    def records(self) -> ivf.Index:
         """The index of the packets, made when it is needed first. Other threads that need it wait."""
-        if self.index is None:
+        index = self.index
+        if index is None:
             with self.lock:
-                if self.index is None:
-                    self.index = self.read_index()
-        return self.index
+                index = self.index = self.read_index() if self.index is None else self.index
+        return index
 
-    def read_index(self):
+    def read_index(self) -> ivf.Index:
         if self.descriptor is None:
             return ivf.Index()
         try:
             if self.facts is not None:
+                assert self.signature is not None
                 return webm.index_of(self.tools[1], *self.readable(), self.signature, containers.name_of(self.path))
             self.head, index = ivf.read_index(self.descriptor)
             return index
         finally:
             self.check()
 
-    def step(self):
+    def step(self) -> int:
         """The median of the steps between the time stamps of shown packets: the time of a frame. 1 if there is none."""
-        if self.found_step is None:
+        if self.known_step is None:
             index = self.records()
-            self.found_step = times.median_step(index.stamps, index.tags)
-        return self.found_step
+            self.known_step = times.median_step(index.stamps, index.tags)
+        return self.known_step
 
-    def rate(self):
+    def rate(self) -> Rate:
         """The frames a second, as a pair."""
-        if self.found_rate is None:
+        if self.known_rate is None:
             index = self.records()
-            self.found_rate = times.rate_of(index.stamps, index.tags, times.base_of(self.head))
-        return self.found_rate
+            self.known_rate = times.rate_of(index.stamps, index.tags, times.base_of(self.head))
+        return self.known_rate
 
-    def frame_rate(self):
+    def frame_rate(self) -> Rate:
         """The frames a second in the first line of the frames, as a pair: those of the header of an IVF file."""
         if self.facts is None:
             return self.head.rate, self.head.scale
         return self.facts.served(self.step())
 
-    def durations(self):
+    def durations(self) -> array[int]:
         """The duration of each packet, in the time base of the file."""
-        if self.found_durations is None:
+        if self.known_durations is None:
             index = self.records()
-            self.found_durations = times.durations(index.stamps, index.tags, self.step())
-        return self.found_durations
+            self.known_durations = times.durations(index.stamps, index.tags, self.step())
+        return self.known_durations
 
     def extent(self) -> tuple[int, int]:
         """The number of packets, and of their bytes."""
@@ -191,35 +203,35 @@ class Input:
         if self.facts is None or self.descriptor is None:
             return containers.damage_of(self.path)
         with self.damaging:
-            if self.found_damage is None:
-                self.found_damage = webm.damage_of(self.tools[0], *self.readable(), containers.name_of(self.path))
-            return self.found_damage
+            if self.known_damage is None:
+                self.known_damage = webm.damage_of(self.tools[0], *self.readable(), containers.name_of(self.path))
+            return self.known_damage
 
-    def left(self):
+    def left(self) -> int:
         """The number of bytes after the last whole record of an IVF file."""
         if self.facts is not None:
             return 0
-        if self.found_left is None:
-            self.found_left = ivf.left_after(self.opened(), self.records())
-        return self.found_left
+        if self.known_left is None:
+            self.known_left = ivf.left_after(self.opened(), self.records())
+        return self.known_left
 
     def digest(self) -> str:
         """The SHA-256 of the packets, each after its size: what they are called and what their time stamps are does not
         matter. Read once.
         """
         with self.digesting:
-            if self.found_digest is None:
-                self.found_digest = self.read_digest()
-            return self.found_digest
+            if self.known_digest is None:
+                self.known_digest = self.read_digest()
+            return self.known_digest
 
-    def read_digest(self):
+    def read_digest(self) -> str:
         found = hashlib.sha256()
         for data in self.contents_of(range(len(self.records()))):
             found.update(len(data).to_bytes(4, "little"))
             found.update(data)
         return found.hexdigest()
 
-    def opened(self):
+    def opened(self) -> int:
         """The descriptor. `OSError` if the session is over."""
         if self.descriptor is None:
             raise OSError(f"{self.path} is not open any more")
@@ -238,7 +250,7 @@ class Input:
         count = index.sizes[number]
         return self.bytes_at(count if size is None else min(size, count), index.starts[number])
 
-    def read_records(self, first, end):
+    def read_records(self, first: int, end: int) -> Iterator[bytes]:
         """The bytes of packets as the records of an IVF file, piece by piece."""
         index = self.records()
         if self.facts is not None:
@@ -251,9 +263,10 @@ class Input:
             place += len(data)
             yield data
 
-    def made_records(self, numbers):
+    def made_records(self, numbers: Sequence[int]) -> Iterator[bytes]:
         """The same of packets that are no records in their file."""
-        index, records, size = self.records(), [], 0
+        index, size = self.records(), 0
+        records: list[bytes] = []
         for number, data in zip(numbers, self.contents_of(numbers)):
             records += [ivf.RECORD.pack(len(data), index.stamps[number]), data]
             size += len(data)
@@ -262,21 +275,23 @@ class Input:
                 records, size = [], 0
         yield b"".join(records)
 
-    def contents_of(self, numbers):
+    def contents_of(self, numbers: Sequence[int]) -> Iterator[bytes]:
         """The bytes of packets that follow each other. What is between them is read too."""
         index = self.records()
-        window, base, end = b"", 0, index.starts[numbers[-1]] + index.sizes[numbers[-1]] if numbers else 0
+        window, base = memoryview(b""), 0
+        end = index.starts[numbers[-1]] + index.sizes[numbers[-1]] if numbers else 0
         for number in numbers:
             start, size = index.starts[number], index.sizes[number]
             if start < base or start + size > base + len(window):
                 window, base = memoryview(self.bytes_at(min(max(size, WINDOW), end - start), start)), start
             yield window[start - base : start - base + size]
 
-    def whole(self, most):
+    def whole(self, most: int) -> bytes:
         """The bytes of the whole file, at most so many; those of an empty stream if there is none."""
         if self.path == "-":
             return ivf.EMPTY.text(0)
-        size, pieces, done = min(most, os.fstat(self.opened()).st_size), [], 0
+        size, done = min(most, os.fstat(self.opened()).st_size), 0
+        pieces: list[bytes] = []
         with Reading(lambda: (containers.name_of(self.path), done, size)):
             while done < size:
                 pieces.append(self.bytes_at(min(PART, size - done), done))
@@ -284,9 +299,9 @@ class Input:
         return b"".join(pieces)
 
     def close(self) -> None:
-        if self.descriptor is not None:
+        if self.closing is not None:
             self.closing()
-            self.descriptor = None
+            self.descriptor = self.closing = None
         if self.room is not None:
             self.room.cleanup()
 
@@ -296,8 +311,12 @@ class Inputs:
     engine reads WebM files.
     """
 
-    def __init__(self, paths, tools, reads_webm):
-        self.all, self.room, self.paths = [], None, []
+    def __init__(
+        self, paths: Iterable[Union[str, AnyBytes, BinaryIO]], tools: Tools, reads_webm: Callable[[], bool]
+    ) -> None:
+        self.all: list[Input] = []
+        self.paths: list[str] = []
+        self.room: Optional[rooms.Room] = None
         try:
             for path in paths:
                 self.paths.append(path if isinstance(path, str) else self.written(path))
@@ -307,7 +326,7 @@ class Inputs:
             self.close()
             raise
 
-    def written(self, content):
+    def written(self, content: Union[AnyBytes, BinaryIO]) -> str:
         """The path of a file with what was given in place of a path: the bytes of a file, or one that is open for
         reading, from where it is.
         """
@@ -315,10 +334,10 @@ class Inputs:
             self.room = rooms.Room()
         path = os.path.join(self.room.name, f"given-{len(self.paths)}")
         with open(path, "xb") as file:
-            if hasattr(content, "read"):
-                shutil.copyfileobj(content, file, 1 << 20)
-            else:
+            if isinstance(content, (bytes, bytearray, memoryview)):
                 file.write(content)
+            else:
+                shutil.copyfileobj(content, file, 1 << 20)
         with open(path, "rb") as file:
             head = file.read(ivf.HEAD.size)
         try:
@@ -330,7 +349,7 @@ class Inputs:
             raise NotVideo(1, looks.sentence(path, name, error)) from None
         return path
 
-    def taken_out(self, path):
+    def taken_out(self, path: str) -> str:
         """The path, or of a file in another container that of its packets."""
         if path == "-" or not os.path.isfile(path):
             return path
@@ -349,7 +368,7 @@ class Inputs:
     @property
     def shared(self) -> tuple[int, ...]:
         """The descriptors that the program opens by number."""
-        return tuple(item.descriptor for item in self.all if item.is_shared)
+        return tuple(item.opened() for item in self.all if item.is_shared)
 
     def check(self) -> None:
         for item in self.all:
@@ -362,6 +381,6 @@ class Inputs:
             self.room.cleanup()
 
 
-def is_input(path, paths):
+def is_input(path: AnyPath, paths: Iterable[AnyPath]) -> bool:
     """Whether a file that is to be written is one of these."""
     return any(other != "-" and checks.is_same_file(path, other) for other in paths)

@@ -5,21 +5,24 @@ for which `wokureti compare` has no session.
 from __future__ import annotations
 
 import json
-from typing import Any, Optional
+from typing import Any, Optional, Sequence, TypeVar
 
 from ..errors import NoBytes, PacketRefused
 from ..base import checks
 from ..base.checks import AnyPath
 from ..media import facts
 
+# A line of JSON, as a reply or a program has it.
+Line = TypeVar("Line", str, bytes)
 
-def of_file(lister: str, path: AnyPath, option: str, packet: int, tables: Optional[AnyPath] = None) -> list[str]:
+
+def of_file(lister: str, path: AnyPath, option: str, packet: int, tables: Optional[AnyPath] = None) -> list[bytes]:
     """The JSON lines of one packet of a file, for `--macroblocks` or `--header`."""
     words = [] if tables is None else ["--tables", checks.path(tables)]
     return checked(list(facts.run(lister, path, option, str(packet), "--json", *words)))
 
 
-def checked(lines: list[str]) -> list[str]:
+def checked(lines: list[Line]) -> list[Line]:
     """The lines, if they are those of a packet that is decoded."""
     members = json.loads(lines[0]) if len(lines) == 1 else {}
     if "refused" in members:
@@ -29,7 +32,7 @@ def checked(lines: list[str]) -> list[str]:
     return lines
 
 
-def header(lines: list[str]) -> dict[str, Any]:
+def header(lines: Sequence[Line]) -> dict[str, Any]:
     """The fields of a header, and the probabilities that it changes."""
     fields, *changes = map(json.loads, lines)
     fields.pop("packet")

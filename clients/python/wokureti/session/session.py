@@ -3,6 +3,8 @@
 from __future__ import annotations
 
 import contextlib
+import dataclasses
+import functools
 import operator
 import os
 import pathlib
@@ -23,7 +25,7 @@ from . import exports, named, outcomes
 from .edits import EditList
 from .frames import Frame, Times, frame_of
 from .inputs import Inputs
-from .library import MOST_FILE, Library, engine_of, reads_webm
+from .library import MOST_FILE, Answer, Library, engine_of, reads_webm
 from .pipes import Pipes
 from .scripts import Script
 
@@ -44,6 +46,31 @@ class Count(NamedTuple):
 
     packets: int
     frames: int
+
+
+@dataclasses.dataclass(frozen=True)
+class Settings:
+    """How the engine of a session is started: the paths of vp8serve and vp8list, the tables, the file that gets the
+    packets and whether they are padded in it, the cache, and whether a refusal is explained."""
+
+    program: str
+    lister: str
+    tables: Optional[AnyPath]
+    save: Optional[AnyPath]
+    pad: bool
+    cache: Optional[int]
+    cache_bytes: Optional[int]
+    explain: bool
+
+    @property
+    def files(self) -> list[AnyPath]:
+        """The files that are named besides the streams."""
+        return [path for path in (self.save, self.tables) if path is not None]
+
+    @property
+    def most_bytes(self) -> int:
+        """The bytes that pictures may take in the cache."""
+        return checks.number(MOST_CACHED if self.cache_bytes is None else self.cache_bytes)
 
 
 class Session:
@@ -84,54 +111,51 @@ class Session:
         self,
         stream: AnyStream = "-",
         sources: Iterable[AnyStream] = (),
+        *,
         cache: Optional[int] = None,
+        cache_bytes: Optional[int] = None,
         tables: Optional[AnyPath] = None,
         save: Optional[AnyPath] = None,
-        program: Optional[str] = None,
         pad: bool = False,
-        timeout: Optional[float] = None,
-        explain: bool = False,
         edits: Optional[AnyPath] = None,
-        lister: Optional[str] = None,
-        cache_bytes: Optional[int] = None,
         anyway: bool = False,
         resume: Optional[EditList] = None,
+        timeout: Optional[float] = None,
+        explain: bool = False,
         engine: Optional[str] = None,
+        program: Optional[str] = None,
+        lister: Optional[str] = None,
     ) -> None:
         # Called with the line of each edit that was accepted, also with those of `undo` and `redo`.
         self.on_edit: Optional[Callable[[str], None]] = None
         self._lock = threading.RLock()
-        self._ended = None
-        self._pending = None
+        self._ended: Optional[tuple[Optional[int], str]] = None
+        self._pending: Optional[str] = None
         self._timeout = timeout
-        self._explain = explain
         self._lines = 0
         # The number of edits that were asked for.
         self._changes = 0
-        self._edits = None
         # The new file of a save, while the program runs.
-        self._unfinished = None
+        self._unfinished: Optional[rooms.Unfinished] = None
         # "library" or "program".
         self.engine: str = engine_of(engine, program)
         if edits is not None and resume is None:
             sources = named.with_named(sources, edits)
-        self._settings = (program or programs.find("vp8serve"), lister or programs.find("vp8list"), tables)
+        serve, lists = program or programs.find("vp8serve"), lister or programs.find("vp8list")
+        self._settings = Settings(serve, lists, tables, save, pad, cache, cache_bytes, explain)
         self._inputs = Inputs(
             [checks.stream(stream), *checks.sources(sources)],
-            self._settings[:2],
+            (serve, lists),
             lambda: self.engine == "program" or reads_webm(),
         )
+        self._edits = EditList(self)
         try:
-            words = self._words(cache, cache_bytes, tables, save, pad)
+            words = self._words()
             if edits is not None:
-                checks.outputs(
-                    edits, [*self._inputs.paths, *(path for path in (save, tables) if path is not None)], "edits"
-                )
+                checks.outputs(edits, [*self._inputs.paths, *self._settings.files], "edits")
             self._edits = EditList(self, edits, anyway)
-            self._pipes = (
-                Pipes(words, self._inputs.shared)
-                if self.engine == "program"
-                else self._library(cache, cache_bytes, tables, save, pad)
+            self._pipes: Union[Pipes, Library] = (
+                Pipes(words, self._inputs.shared) if self.engine == "program" else self._library()
             )
         except Ended as ended:
             error = self._opening_error(ended)
@@ -144,7 +168,7 @@ class Session:
             # The reply comes once the files were read, so a file that is not IVF is reported here.
             with self._reading():
                 self._first_request()
-            if save is not None and self.engine == "program":
+            if save is not None and isinstance(self._pipes, Pipes):
                 rooms.sweep()
                 self._unfinished = rooms.Unfinished(self._pipes.process.pid, save)
             self._inputs.check()
@@ -153,9 +177,9 @@ class Session:
             self.kill()
             raise
 
-    def _reading(self) -> ContextManager[Any]:
+    def _reading(self) -> ContextManager[object]:
         """Shows how much of the files the program has read; the library was given their bytes."""
-        if self.engine != "program":
+        if not isinstance(self._pipes, Pipes):
             return contextlib.nullcontext()
         paths = [(containers.name_of(path), word) for path, word in zip(self._inputs.paths, self._inputs.words)]
         return Reading(of_program(self._pipes.process.pid, paths, self._inputs.shared))
@@ -181,17 +205,11 @@ class Session:
         except OSError:
             return ended
 
-    def _words(
-        self,
-        cache: Optional[int],
-        cache_bytes: Optional[int],
-        tables: Optional[AnyPath],
-        save: Optional[AnyPath],
-        pad: bool,
-    ) -> list[str]:
+    def _words(self) -> list[str]:
         """The command line of the program."""
-        streams = self._inputs.words
-        words = [self._settings[0], streams[0], "-", "{frames}", "--live"]
+        streams, settings = self._inputs.words, self._settings
+        save, tables = settings.save, settings.tables
+        words = [settings.program, streams[0], "-", "{frames}", "--live"]
         if len(streams) > 1:
             words += ["--sources", system.SEPARATOR.join(streams[1:])]
         if save is not None:
@@ -204,25 +222,20 @@ class Session:
             words += ["--save", checks.path(save)]
         if tables is not None:
             words += ["--tables", checks.path(tables)]
-        if cache is not None:
-            words += ["--cache", str(checks.states(cache))]
-        if cache_bytes is not None or cache is None:
-            words += ["--cache-bytes", str(checks.number(MOST_CACHED if cache_bytes is None else cache_bytes))]
-        return words + ["--pad"] * bool(pad) + ["--explain"] * bool(self._explain)
+        if settings.cache is not None:
+            words += ["--cache", str(checks.states(settings.cache))]
+        if settings.cache_bytes is not None or settings.cache is None:
+            words += ["--cache-bytes", str(settings.most_bytes)]
+        return words + ["--pad"] * bool(settings.pad) + ["--explain"] * bool(settings.explain)
 
-    def _library(
-        self,
-        cache: Optional[int],
-        cache_bytes: Optional[int],
-        tables: Optional[AnyPath],
-        save: Optional[AnyPath],
-        pad: bool,
-    ) -> Library:
+    def _library(self) -> Library:
         """The session in this process, over the bytes of the files as they were opened."""
-        if cache is not None and cache_bytes is not None:
+        settings, inputs = self._settings, self._inputs.all
+        cache, save, tables = settings.cache, settings.save, settings.tables
+        if cache is not None and settings.cache_bytes is not None:
             raise ValueError("either cache or cache_bytes is given, not both")
         try:
-            files = [self._whole(item.path, lambda item=item: item.whole(MOST_FILE + 1)) for item in self._inputs.all]
+            streams = [self._whole(item.path, functools.partial(item.whole, MOST_FILE + 1)) for item in inputs]
             long_tables = b"" if tables is None else self._whole(tables, pathlib.Path(os.fsdecode(tables)).read_bytes)
             if (
                 save is not None
@@ -230,18 +243,15 @@ class Session:
                 and not os.access(os.path.dirname(os.path.realpath(save)), os.W_OK | os.X_OK)
             ):
                 raise Gone(f"cannot write {os.fsdecode(save)}")
-            states = None if cache is None else checks.states(cache)
-            most_bytes = checks.number(MOST_CACHED if cache_bytes is None else cache_bytes) if cache is None else None
-            rate = None if self._inputs.all[0].facts is None else self._inputs.all[0].frame_rate
             return Library(
-                files,
-                states,
-                most_bytes,
+                streams,
+                None if cache is None else checks.states(cache),
+                settings.most_bytes if cache is None else None,
                 long_tables,
                 None if save is None else checks.path(save),
-                pad,
-                self._explain,
-                rate,
+                settings.pad,
+                settings.explain,
+                None if inputs[0].facts is None else inputs[0].frame_rate,
             )
         except Gone as error:
             raise Ended(1, f"libwokureti: {error}") from None
@@ -260,8 +270,7 @@ class Session:
         return found
 
     def _close_files(self) -> None:
-        if self._edits is not None:
-            self._edits.close()
+        self._edits.close()
         self._inputs.close()
 
     def __enter__(self) -> Session:
@@ -317,6 +326,7 @@ class Session:
         self._close_files()
 
     def _error(self) -> Ended:
+        assert self._ended is not None
         return Ended(*self._ended)
 
     def _locked(self, timeout: Optional[float]) -> _Turn:
@@ -341,7 +351,7 @@ class Session:
         """The replies to edits, which are not listed, and to questions between them. Many are sent together, so a reply
         may be a refusal, as an exception in the list: after one of an edit those that were sent with it are made, and
         those after them are not. `progress` is called with how many lines were answered."""
-        replies = []
+        replies: list[Union[str, Refused]] = []
         for batch in batches(lines):
             with self._locked(timeout) as deadline:
                 found = self._exchange(*map(checks.line, batch), deadline=deadline)
@@ -363,7 +373,7 @@ class Session:
                 break
         return replies
 
-    def _ask(self, line, timeout=None, listed=True):
+    def _ask(self, line: str, timeout: Optional[float] = None, listed: bool = True) -> Answer:
         """The reply to a request line, and the width, height and samples of its picture, if it serves one."""
         text = checks.line(line)
         is_known = is_edit(line) and first_word(line) in EDITS
@@ -382,7 +392,7 @@ class Session:
                     self._edits.accept([(plain(line), rest_of(answers[0][0]) if answers else "")])
             return reply, picture
 
-    def _exchange(self, *lines, deadline):
+    def _exchange(self, *lines: bytes, deadline: Optional[float]) -> list[Answer]:
         """Writes lines and reads their replies. Whatever leaves this in the middle ends the session, which then names
         the last line.
         """
@@ -414,11 +424,11 @@ class Session:
         self._pending = None
         return found
 
-    def _refused(self, reply, number, deadline):
+    def _refused(self, reply: str, number: int, deadline: Optional[float]) -> Refused:
         """The exception of the refusal of line `number`. The reply to another request says that its explanation was
         written.
         """
-        if not self._explain:
+        if not self._settings.explain:
             return Refused(reply)
         self._exchange(b"stats", deadline=deadline)
         return Refused(reply, self._pipes.explanation(number))
@@ -438,11 +448,10 @@ class Session:
         replies = []
         with self._locked(timeout) as deadline:
             current = self._edits.current
-            there, back = (
-                ([], [])
-                if source in (None, current)
-                else ([f"use {checks.number(source)}".encode()], [f"use {current}".encode()])
-            )
+            there: list[bytes] = []
+            back: list[bytes] = []
+            if source is not None and source != current:
+                there, back = [f"use {checks.number(source)}".encode()], [f"use {current}".encode()]
             for batch in batches(questions):
                 found = self._exchange(*there, *map(checks.question, batch), *back, deadline=deadline)
                 if there and is_refusal(found[0][0]):
@@ -458,7 +467,7 @@ class Session:
         """A block in which no other thread has the session."""
         return self._locked(timeout)
 
-    def _number(self, line, timeout=None):
+    def _number(self, line: str, timeout: Optional[float] = None) -> int:
         return int(words_of(self.request(line, timeout))[1])
 
     def frame(self, number: int, timeout: Optional[float] = None) -> Frame:
@@ -466,20 +475,20 @@ class Session:
         with self._locked(timeout):
             return frame_of(checks.number(number), *self.picture(number, timeout), self._times_of(number))
 
-    def _times_of(self, number):
+    def _times_of(self, number: int) -> Callable[[], Optional[Times]]:
         """What finds the times of a frame, as long as the session is as it is now."""
         this, changes = weakref.ref(self), self._changes
 
-        def found():
+        def times_now() -> Optional[Times]:
             session = this()
             if session is None:
                 return None
             with session._locked(None):
                 return None if session._ended or session._changes != changes else session._times(number)
 
-        return found
+        return times_now
 
-    def _times(self, number):
+    def _times(self, number: int) -> Times:
         """The times of a frame of the current script: those of its packet, in the time base of its source."""
         [origin] = objects_of(self.ask(f"origins {number} 1"))
         contents, source = self._edits.contents(), origin["source"]
@@ -489,7 +498,9 @@ class Session:
 
     def picture(self, number: int, timeout: Optional[float] = None) -> tuple[int, int, memoryview]:
         """The width, height and samples of a frame, the samples of the three planes one after the other."""
-        return self._ask(f"frame {checks.number(number)}", timeout)[1]
+        _, picture = self._ask(f"frame {checks.number(number)}", timeout)
+        assert picture is not None
+        return picture
 
     def pictures(self, numbers: Iterable[int], timeout: Optional[float] = None) -> list[tuple[int, int, memoryview]]:
         """The pictures of several frames, as `picture` has them. All are asked for before the first is read, so the
@@ -503,7 +514,7 @@ class Session:
             for number, (reply, picture) in enumerate(found, self._lines - len(found) + 1):
                 if picture is None:
                     raise self._refused(reply, number, deadline)
-        return [picture for _, picture in found]
+        return [picture for _, picture in found if picture is not None]
 
     @property
     def is_over(self) -> bool:
@@ -557,7 +568,7 @@ class Session:
         return self._size[1]
 
     @property
-    def _size(self):
+    def _size(self) -> tuple[int, int]:
         with self._locked(None):
             runs = outcomes.of_script(self)
             return next((outcome for _, outcome in runs if isinstance(outcome, tuple)), (0, 0))
@@ -739,15 +750,16 @@ class Session:
         with self._locked(None) as deadline:
             contents = self._edits.contents()
             number = contents.source(source)
-            knows_times = not restamp or self._knows_durations()
+            knows_times, library = not restamp or self._knows_durations(), self._maker()
             if (
-                self._makes_files()
+                library is not None
                 and knows_times
                 and muxing.ending_of(path) is None
                 and self._inputs.all[number].media is None
             ):
                 contents.check_output(path)
-                files.write_whole(path, [self._file(lambda: self._pipes.saved(pad, number, restamp, deadline))])
+                made = self._file(functools.partial(library.saved, pad, number, restamp, deadline))
+                files.write_whole(path, [made])
             else:
                 contents.save(path, pad, number, restamp, sound, say)
 
@@ -759,20 +771,21 @@ class Session:
         with self._locked(timeout) as deadline:
             contents = self._edits.contents()
             contents.check_output(path)
-            if self._makes_files() and self._knows_durations():
-                files.write_whole(path, [self._exported(pad, deadline)])
+            library = self._maker()
+            if library is not None and self._knows_durations():
+                files.write_whole(path, [self._exported(library, pad, deadline)])
             else:
                 exports.export_plain(contents, list(self._edits), path, pad)
 
-    def _makes_files(self):
-        """Whether the engine makes the files of packets and of frames."""
-        return not self._ended and isinstance(self._pipes, Library)
+    def _maker(self) -> Optional[Library]:
+        """The library, which makes the files of packets and of frames itself; None if the program answers."""
+        return self._pipes if not self._ended and isinstance(self._pipes, Library) else None
 
-    def _knows_durations(self):
+    def _knows_durations(self) -> bool:
         """Whether the engine has the durations of all packets: one that `undo` inserted again is a new packet there."""
         return not self._edits.contents().has_inserted_again
 
-    def _file(self, call):
+    def _file(self, call: Callable[[], bytes]) -> bytes:
         """The file that a call of the library makes."""
         try:
             return call()
@@ -780,10 +793,10 @@ class Session:
             self._end("a file was not made in time, so the session was ended")
             raise self._error() from None
 
-    def _exported(self, pad, deadline):
+    def _exported(self, library: Library, pad: bool, deadline: Optional[float]) -> bytes:
         """The file of the frames, by the library."""
         try:
-            return self._file(lambda: self._pipes.exported(pad, deadline))
+            return self._file(functools.partial(library.exported, pad, deadline))
         except NotExported as error:
             text = error.text
             if error.is_refused:
@@ -796,7 +809,7 @@ class Session:
 class _Turn:
     """The lock of a session, and the deadline of the call that has it, which counts from when the call was made."""
 
-    def __init__(self, lock, timeout):
+    def __init__(self, lock: threading.RLock, timeout: Optional[float]) -> None:
         self.lock = lock
         self.timeout = timeout
 

@@ -4,6 +4,8 @@ several processes.
 The parts are joined in order as they come, so the output may be a pipe.
 """
 
+from __future__ import annotations
+
 import collections
 import contextlib
 import os
@@ -11,27 +13,32 @@ import re
 import subprocess
 import tempfile
 import threading
+from typing import IO, Callable, ContextManager, Iterable, Iterator, NamedTuple, Optional, Sequence
 
 from .. import system
 from ..errors import Ended, Failed, Refused, sentence
 from ..base import checks, files, programs, rooms, waits
+from ..base.checks import AnyPath, AnyStream
 from ..base.progress import Progress, say
 from ..media.y4m import MARK, header_of, parse_header
+from ..session.library import Picture
 from ..session.outcomes import Outcomes
+from ..session.session import Session
 from . import paces, parts
 
-
+# Starts a program with files for its replies and its errors.
+Started = Callable[[Sequence[str], IO[bytes], IO[bytes]], ContextManager["subprocess.Popen[bytes]"]]
 # Bytes of frames that are in the folder for temporary files, at most: those of one part may be more.
 MOST_HELD = 1 << 30
 # Bytes that must be free there, else it is called full.
 LEAST_FREE = 1 << 20
 
 
-def run_part(room, number, program, tables, started):
+def run_part(room: parts.Room, number: int, program: str, tables: Optional[str], started: Started) -> None:
     """Decodes a part by a program that is started here."""
     words = room.words(number, program, tables)
     with open(room.path(number, "replies"), "wb") as replies, tempfile.TemporaryFile() as errors:
-        with started(words, stdin=subprocess.DEVNULL, stdout=replies, stderr=errors) as process:
+        with started(words, replies, errors) as process:
             status = process.wait()
         if status != 0:
             errors.seek(0)
@@ -39,7 +46,7 @@ def run_part(room, number, program, tables, started):
             raise Failed(f"part {number}: {said or f'vp8serve ended with status {status}'}{if_full(room.folder)}")
 
 
-def if_full(folder):
+def if_full(folder: str) -> str:
     """What a message says more if the folder for temporary files is full."""
     if not system.is_full(folder, LEAST_FREE):
         return ""
@@ -51,18 +58,21 @@ def if_full(folder):
 class Here:
     """Decodes parts on this machine, at most `processes` at a time, and never far ahead of what was joined."""
 
-    def __init__(self, room, plan, processes, program, tables=None):
+    def __init__(
+        self, room: parts.Room, plan: Sequence[parts.Part], processes: int, program: str, tables: Optional[str] = None
+    ) -> None:
         self.room, self.plan, self.processes = room, plan, processes
         self.program, self.tables = program, tables
-        self.running, self.left = set(), iter(range(len(plan)))
-        self.done = {}
+        self.running: set[subprocess.Popen[bytes]] = set()
+        self.left = iter(range(len(plan)))
+        self.done: set[int] = set()
         self.ready = threading.Condition()
         # How many parts were joined, and the bytes of the frames of those that were begun and not joined.
         self.joined = self.held = 0
         self.stopped = False
-        self.error = None
+        self.error: Optional[BaseException] = None
 
-    def work(self):
+    def work(self) -> None:
         """Takes one part after the other."""
         try:
             while True:
@@ -80,7 +90,7 @@ class Here:
                     self.room.write(number, self.plan[number])
                 run_part(self.room, number, self.program, self.tables, self.started)
                 with self.ready:
-                    self.done[number] = True
+                    self.done.add(number)
                     self.ready.notify_all()
         except BaseException as error:
             with self.ready:
@@ -88,30 +98,30 @@ class Here:
                 self.ready.notify_all()
 
     @contextlib.contextmanager
-    def started(self, words, **channels):
+    def started(self, words: Sequence[str], replies: IO[bytes], errors: IO[bytes]) -> Iterator[subprocess.Popen[bytes]]:
         """A program, which is ended when no more parts are wanted; then none is started."""
         with self.ready:
             if self.stopped:
                 raise Failed("no more parts are wanted")
-            process = subprocess.Popen(words, **channels)
+            process = subprocess.Popen(words, stdin=subprocess.DEVNULL, stdout=replies, stderr=errors)
             self.running.add(process)
         try:
             yield process
         finally:
             self.running.discard(process)
 
-    def size(self, number):
+    def size(self, number: int) -> int:
         """The bytes of the frames of a part."""
         part = self.plan[number]
         return (part.end - part.first) * self.room.first.size
 
-    def is_far(self, number):
+    def is_far(self, number: int) -> bool:
         """Whether a part is too far ahead of what was joined. The next one that is joined never is."""
         if number == self.joined:
             return False
         return number >= self.joined + 3 * self.processes or self.held + self.size(number) > MOST_HELD
 
-    def __iter__(self):
+    def __iter__(self) -> Iterator[int]:
         """The numbers of the parts, each when it was decoded, in order."""
         threads = [threading.Thread(target=self.work, daemon=True) for _ in range(min(self.processes, len(self.plan)))]
         for thread in threads:
@@ -121,7 +131,7 @@ class Here:
                 with self.ready:
                     while number not in self.done and not self.error:
                         self.ready.wait(waits.LONGEST)
-                    if number not in self.done:
+                    if number not in self.done and self.error is not None:
                         raise self.error
                 yield number
                 with self.ready:
@@ -137,10 +147,16 @@ class Here:
                 thread.join()
 
 
-def open_session(stream, sources, edits, script, tables, program, anyway=False):
+def open_session(
+    stream: AnyStream,
+    sources: Iterable[AnyStream],
+    edits: Optional[AnyPath],
+    script: Optional[str],
+    tables: Optional[AnyPath],
+    program: Optional[str],
+    anyway: bool = False,
+) -> Session:
     """A session with the edits of a list and a script, for finding out what the parts are."""
-    from ..session.session import Session
-
     session = Session(
         stream, sources=sources, tables=tables, program=program, anyway=anyway, explain=script is not None
     )
@@ -155,7 +171,7 @@ def open_session(stream, sources, edits, script, tables, program, anyway=False):
         raise
 
 
-def check_output(out, inputs):
+def check_output(out: str, inputs: Iterable[Optional[str]]) -> None:
     """The output must be none of the inputs."""
     for path in inputs:
         if path is None or path == "-":
@@ -165,7 +181,7 @@ def check_output(out, inputs):
             raise Failed(f"the output is {path}, which is read: name another file")
 
 
-def is_stdout(path):
+def is_stdout(path: str) -> bool:
     try:
         found, other = os.fstat(1), os.stat(path)
     except OSError:
@@ -173,14 +189,16 @@ def is_stdout(path):
     return os.path.isfile(path) and (found.st_dev, found.st_ino) == (other.st_dev, other.st_ino)
 
 
-def output(path):
+def output(path: str) -> ContextManager[IO[bytes]]:
     """A file to write to. Standard output is opened again: with PYTHONUNBUFFERED sys.stdout may write a part of what it
     is given.
     """
-    return open(os.dup(1), "wb") if path == "-" else files.whole(path)
+    if path == "-":
+        return open(os.dup(1), "wb")
+    return files.whole(path)
 
 
-def write(session, out, workers, name="frames"):
+def write(session: Session, out: str, workers: parts.Workers, name: str = "frames") -> list[str]:
     """Writes all frames of a session; `workers` makes the parts. Returns the refusals, a line for each."""
     count = session.count().frames
     number, refused = parts.first_frame(session)
@@ -193,7 +211,8 @@ def write(session, out, workers, name="frames"):
     with rooms.Room(system.plain_folder()) as folder:
         room = parts.Room(folder, session, first)
         plan, made = workers(room, count)
-        refusals, progress = [], Progress(name, count)
+        progress = Progress(name, count)
+        refusals: list[str] = []
         try:
             with output(out) as file, progress:
                 file.write(header(session, first))
@@ -211,24 +230,29 @@ def write(session, out, workers, name="frames"):
     return refusals
 
 
-def size_runs(session):
+class SizeRun(NamedTuple):
+    """Frames of one size that follow each other: the size, the first of them, and the one after the last."""
+
+    size: tuple[int, int]
+    first: int
+    end: int
+
+
+def size_runs(session: Session) -> list[SizeRun]:
     """The frames of one size that follow each other: sizes, with the first frame and the one after the last. Those that
     are refused go with those before.
     """
-    found = []
-    for end, (count, outcome) in zip(*with_ends(Outcomes(session))):
-        if not isinstance(outcome, str) and (not found or found[-1][0] != outcome):
-            found.append([outcome, end - count if found else 0, end])
+    found: list[SizeRun] = []
+    outcomes = Outcomes(session)
+    for end, (count, outcome) in zip(outcomes.ends, outcomes.runs):
+        if isinstance(outcome, tuple) and (not found or found[-1].size != outcome):
+            found.append(SizeRun(outcome, end - count if found else 0, end))
         elif found:
-            found[-1][2] = end
+            found[-1] = found[-1]._replace(end=end)
     return found
 
 
-def with_ends(outcomes):
-    return outcomes.ends, outcomes.runs
-
-
-def sizes_text(runs):
+def sizes_text(runs: Sequence[SizeRun]) -> str:
     """What is said of a stream whose size changes."""
     left = sum(end - first for size, first, end in runs if size != runs[0][0])
     names = ", ".join(f"frames {first:,} to {end - 1:,} are {size[0]}x{size[1]}" for size, first, end in runs[:3])
@@ -239,10 +263,11 @@ def sizes_text(runs):
     )
 
 
-def names_of_sizes(out, runs):
+def names_of_sizes(out: str, runs: Iterable[SizeRun]) -> list[str]:
     """The files for these frames: OUT-320x180.y4m, and OUT-320x180-2.y4m if the size comes again."""
     stem, ending = os.path.splitext(out)
-    counts, found = collections.Counter(), []
+    counts: collections.Counter[tuple[int, int]] = collections.Counter()
+    found: list[str] = []
     for (width, height), _, _ in runs:
         counts[width, height] += 1
         turn = counts[width, height]
@@ -250,10 +275,15 @@ def names_of_sizes(out, runs):
     return found
 
 
-def write_sizes(open_session, runs, outs, workers_of):
+def write_sizes(
+    open_session: Callable[[], Session],
+    runs: Iterable[SizeRun],
+    outs: Iterable[str],
+    workers_of: Callable[[Session], parts.Workers],
+) -> list[str]:
     """Writes a file for the frames of each size, and says which. Returns the refusals, with the numbers that the frames
     have in the stream. A session serves frames of one size, so each file has its own."""
-    refusals = []
+    refusals: list[str] = []
     for out, (_, first, end) in zip(outs, runs):
         with open_session() as session:
             script = session.edits.contents().script
@@ -264,19 +294,21 @@ def write_sizes(open_session, runs, outs, workers_of):
     return refusals
 
 
-def shifted(line, first):
+def shifted(line: str, first: int) -> str:
     """A refusal of a part that begins with a frame, as one of the whole."""
     return re.sub(r"frame (\d+)", lambda found: f"frame {int(found.group(1)) + first}", line, count=1)
 
 
-def write_constant(session, out):
+def write_constant(session: Session, out: str) -> int:
     """Writes the frames of a session at its rate: one whose time is not nearest to any step is left out, others are
     repeated. The exit status.
     """
     contents = session.edits.contents()
     order = paces.constant(paces.begins(contents), contents.rate)
     number, refused = parts.first_frame(session)
-    refusals, made, picture = {} if refused is None else {0: refused.reply}, None, None
+    refusals = {} if refused is None else {0: refused.reply}
+    made: Optional[int] = None
+    picture: Optional[Picture] = None
     with output(out) as file, Progress("frames", len(order)) as progress:
         for turn, frame in enumerate(order if number is not None else ()):
             if frame != made:
@@ -295,17 +327,17 @@ def write_constant(session, out):
     return 1 if refusals else 0
 
 
-def header(session, first):
+def header(session: Session, first: parts.First) -> bytes:
     """The first line of the text: that of the program, whose rate is the time base of the file, with the rate of the
     frames, as `wokureti serve` has it.
     """
     return header_of(parse_header(first.header), session.rate)
 
 
-def here(session, processes, program, tables):
+def here(session: Session, processes: int, program: str, tables: Optional[str]) -> parts.Workers:
     """Workers on this machine."""
 
-    def workers(room, count):
+    def workers(room: parts.Room, count: int) -> tuple[list[parts.Part], Iterable[int]]:
         contents = session.edits.contents()
         size = room.first.size
         plan = (

@@ -5,6 +5,8 @@ The coded frames are a source more, each run of them with a key packet first, an
 parts of all sources one after the other. How good they are is measured: they are decoded and compared with what the
 script serves, and coded again with more bits until each is good enough."""
 
+from __future__ import annotations
+
 import math
 import operator
 import os
@@ -12,20 +14,26 @@ import shutil
 import subprocess
 import tempfile
 from array import array
-from typing import NamedTuple
+from typing import Callable, Iterable, Iterator, NamedTuple, Optional, Sequence
 
 from .. import system
 from ..errors import Failed
+from ..base.progress import Watch
 from ..media import fades, ivf, times
 from ..media.y4m import size_of
 from ..session import exports
-from ..session.origins import runs_of
+from ..session.contents import Contents
+from ..session.library import Picture
+from ..session.origins import Run, runs_of
+from ..session.session import Session
 
 try:
     import numpy
 except ImportError:
-    numpy = None
+    numpy = None  # type: ignore[assignment]  # Samples are compared one after the other then.
 
+# Opens a session over an IVF file.
+Opens = Callable[[str], Session]
 # Decibels that each coded frame has at least if nothing is said, and the least and the most that can be asked for.
 USUAL, LEAST, MOST = 45.0, 20, 60
 ENCODERS = ("ffmpeg", "vpxenc")
@@ -51,7 +59,7 @@ class Piece(NamedTuple):
     """
 
     first: int
-    count: int
+    count: int  # type: ignore[assignment]  # It is not the method of a tuple.
     is_coded: bool
     source: int = 0
     start: int = 0
@@ -63,9 +71,9 @@ class Coded(NamedTuple):
     path: str
     frames: int
     bytes: int
-    psnr: list
+    psnr: list[float]
 
-    def text(self, count):
+    def text(self, count: int) -> str:
         mean = sum(self.psnr) / len(self.psnr)
         return (
             f"{self.frames:,} of {count:,} frames are coded again, in {self.bytes:,} bytes, PSNR"
@@ -76,11 +84,12 @@ class Coded(NamedTuple):
 # Which frames
 
 
-def pieces_of(found, leads=()):
+def pieces_of(found: Iterable[Run], leads: Sequence[tuple[int, int]] = ()) -> list[Piece]:
     """The pieces of the frames of a script, which are runs as `origins.runs_of` has them. Frames that the script
     changes are coded, and those in `leads`, ranges.
     """
-    pieces, first = [], 0
+    first = 0
+    pieces: list[Piece] = []
     for run in found:
         for start, end, is_coded in marked(first, first + run.count, leads, bool(run.changed)):
             add(pieces, Piece(start, end - start, is_coded, run.source, run.first + start - first))
@@ -88,7 +97,7 @@ def pieces_of(found, leads=()):
     return pieces
 
 
-def marked(first, end, leads, is_changed):
+def marked(first: int, end: int, leads: Iterable[tuple[int, int]], is_changed: bool) -> Iterator[tuple[int, int, bool]]:
     """Parts of a range of frames, each with whether it is coded."""
     if is_changed:
         yield first, end, True
@@ -104,11 +113,14 @@ def marked(first, end, leads, is_changed):
         yield first, end, False
 
 
-def add(pieces, piece):
+def add(pieces: list[Piece], piece: Piece) -> None:
     """Adds a piece, to the last one if it goes on from there."""
     last = pieces[-1] if pieces else None
-    goes_on = last is not None and last.is_coded == piece.is_coded
-    if goes_on and (piece.is_coded or (last.source == piece.source and last.start + last.count == piece.start)):
+    if (
+        last is not None
+        and last.is_coded == piece.is_coded
+        and (piece.is_coded or (last.source == piece.source and last.start + last.count == piece.start))
+    ):
         pieces[-1] = last._replace(count=last.count + piece.count)
     else:
         pieces.append(piece)
@@ -127,10 +139,12 @@ class Lead(NamedTuple):
     coded_bytes: int
 
 
-def leads_of(contents, found):
+def leads_of(contents: Contents, found: Iterable[Run]) -> list[Lead]:
     """The leads of runs of frames."""
     contents.listing.learn()
-    leads, first, before = [], 0, None
+    first = 0
+    leads: list[Lead] = []
+    before: Optional[Run] = None
     for run in found:
         goes_on = (
             before is not None
@@ -160,7 +174,7 @@ def leads_of(contents, found):
     return leads
 
 
-def lead_of(contents, source, frames, places):
+def lead_of(contents: Contents, source: int, frames: tuple[int, int], places: tuple[int, int, int]) -> Lead:
     """A lead, of its frames and of the places of its key packet, of its first shown packet, and after its last one."""
     stream, (begin, place, after) = contents.streams[source], places
     hidden, coded = (
@@ -171,10 +185,11 @@ def lead_of(contents, source, frames, places):
     return Lead(*frames, place - begin, hidden, length, coded)
 
 
-def script_of(pieces, coded, program):
+def script_of(pieces: Sequence[Piece], coded: int, program: str) -> str:
     """The script of pieces, of which source `coded` has those that are coded."""
     sources = sorted({piece.source for piece in pieces if not piece.is_coded} | {coded})
-    nodes, number, place = [], {0: 0}, 0
+    number, place = {0: 0}, 0
+    nodes: list[str] = []
     for source in sources:
         if source:
             nodes.append(f"source {source}")
@@ -192,7 +207,7 @@ def script_of(pieces, coded, program):
 # Coding
 
 
-def encoder():
+def encoder() -> str:
     """The name of the program that codes."""
     found = next((name for name in ENCODERS if shutil.which(name)), None)
     if found is None:
@@ -200,7 +215,7 @@ def encoder():
     return found
 
 
-def encode(name, frames, out, quantizer, threads, watch):
+def encode(name: str, frames: str, out: str, quantizer: int, threads: int, watch: Watch) -> None:
     """Codes a YUV4MPEG2 file as an IVF file, whose packets all have this quantizer of the encoder, 0 to 63. Who watches
     may end it.
     """
@@ -275,15 +290,15 @@ def encode(name, frames, out, quantizer, threads, watch):
             )
 
 
-def pictures(session, first, count):
+def pictures(session: Session, first: int, count: int) -> Iterator[Picture]:
     """The width, height and samples of frames, some asked for at a time."""
     for start in range(first, first + count, TOGETHER):
         yield from session.pictures(range(start, min(start + TOGETHER, first + count)))
 
 
-def write_frames(session, piece, path, watch):
+def write_frames(session: Session, piece: Piece, path: str, watch: Watch) -> tuple[int, int]:
     """Writes the frames of a piece as YUV4MPEG2. `Failed` if their size changes."""
-    size = None
+    size: Optional[tuple[int, int]] = None
     with open(path, "wb") as file:
         for number, (width, height, samples) in enumerate(pictures(session, piece.first, piece.count), piece.first):
             if size is None:
@@ -297,19 +312,20 @@ def write_frames(session, piece, path, watch):
             file.write(b"FRAME\n")
             file.write(samples)
             watch.part(number + 1 - piece.first, piece.count)
+    assert size is not None
     return size
 
 
-def difference(one, other):
+def difference(one: bytes, other: bytes) -> int:
     """The sum of the squares of the differences of samples."""
     if numpy is not None:
         far = numpy.frombuffer(one, numpy.uint8).astype(numpy.int32) - numpy.frombuffer(other, numpy.uint8)
         return int((far * far).sum(dtype=numpy.int64))
-    far = list(map(operator.sub, one, other))
-    return sum(map(operator.mul, far, far))
+    steps = list(map(operator.sub, one, other))
+    return sum(map(operator.mul, steps, steps))
 
 
-def measure(frames, size, session):
+def measure(frames: str, size: tuple[int, int], session: Session) -> Iterator[float]:
     """The PSNR of each frame that a session serves, over all samples, against the frames of a YUV4MPEG2 file, one after
     the other.
     """
@@ -325,18 +341,21 @@ def measure(frames, size, session):
 class Coder:
     """Codes runs of frames, and keeps the packets in an IVF file for all of them."""
 
-    def __init__(self, room, open_session, least, say, watch):
+    def __init__(self, room: str, open_session: Opens, least: float, say: Callable[[str], None], watch: Watch) -> None:
         self.room, self.open_session, self.least, self.say, self.watch = room, open_session, least, say, watch
-        self.name, self.packets, self.psnr = encoder(), [], []
+        self.name = encoder()
+        self.packets: list[bytes] = []
+        self.psnr: list[float] = []
 
-    def code(self, session, piece):
+    def code(self, session: Session, piece: Piece) -> None:
         """Codes a piece: with the coarsest quantizer by which each frame is good enough. `Failed` if even the finest
         one is not.
         """
         frames, out = (os.path.join(self.room, name) for name in ("frames.y4m", "coded.ivf"))
         self.watch.stage(f"making {piece.count:,} frames from frame {piece.first:,} on")
         size = write_frames(session, piece, frames, self.watch)
-        best, low, high, turn = None, FINEST, COARSEST, 0
+        low, high, turn, least = FINEST, COARSEST, 0, 0.0
+        best: Optional[tuple[list[bytes], list[float]]] = None
         while low <= high:
             quantizer, turn = (low + high) // 2, turn + 1
             self.watch.stage(
@@ -358,13 +377,15 @@ class Coder:
         self.packets += best[0]
         self.psnr += best[1]
 
-    def attempt(self, frames, size, out, quantizer, piece):
+    def attempt(
+        self, frames: str, size: tuple[int, int], out: str, quantizer: int, piece: Piece
+    ) -> tuple[list[bytes], list[float]]:
         """The packets of a run coded with a quantizer, and the PSNR of each frame."""
         encode(self.name, frames, out, quantizer, 1 if piece.count <= FEW else system.processors(), self.watch)
         packets = [data for _, data in ivf.read_packets(out)[1]]
         if len(packets) != piece.count or not all(map(ivf.is_shown, packets)) or not ivf.is_key(packets[0]):
             raise Failed(f"{self.name} made {len(packets)} packets of {piece.count} frames")
-        found = []
+        found: list[float] = []
         with self.open_session(out) as session:
             for decibels in measure(frames, size, session):
                 found.append(decibels)
@@ -374,7 +395,7 @@ class Coder:
                     break
         return packets, found
 
-    def write(self, head, durations):
+    def write(self, head: ivf.Head, durations: Iterable[int]) -> Coded:
         """Writes the packets, with these durations in the time base of a head."""
         path, clock, stamps = os.path.join(self.room, "coded-frames.ivf"), 0, array("Q")
         for duration in durations:
@@ -387,10 +408,11 @@ class Coder:
         return Coded(path, len(self.packets), sum(map(len, self.packets)), self.psnr)
 
 
-def durations_of(served, contents, pieces):
+def durations_of(served: Sequence[exports.Shown], contents: Contents, pieces: Iterable[Piece]) -> list[int]:
     """The durations of the frames that are coded, in the time base of source 0: sums are rounded, and not each."""
     heads = [item.head for item in contents.inputs.all]
-    base, clock, found, due = times.base_of(heads[0]), 0, [], 0
+    base, clock, due = times.base_of(heads[0]), 0, 0.0
+    found: list[int] = []
     for piece in pieces:
         for _, duration, source in served[piece.first : piece.first + piece.count] if piece.is_coded else ():
             rate, scale = times.base_of(heads[source])
@@ -402,7 +424,7 @@ def durations_of(served, contents, pieces):
     return found
 
 
-def costs_of(session):
+def costs_of(session: Session) -> dict[str, object]:
     """What an export of a session costs: the number of its frames, how many are coded again, what of the script changes
     them, and the leads.
     """
@@ -416,7 +438,9 @@ def costs_of(session):
     }
 
 
-def export(session, open_session, out, how, room):
+def export(
+    session: Session, open_session: Opens, out: exports.Output, how: How, room: str
+) -> tuple[exports.Told, Optional[Coded]]:
     """Writes the frames that a session serves: those that its script changes are coded again, and those of leads, if
     that is asked for. Returns what was written, and what was coded, None if nothing had to be."""
     contents = session.edits.contents()
@@ -456,10 +480,10 @@ class How(NamedTuple):
 
     least: float
     codes_leads: bool
-    say: object
+    say: Callable[[str], None]
     fades_sound: bool = False
 
-    def say_leads(self, leads):
+    def say_leads(self, leads: Iterable[Lead]) -> None:
         """Says what a part that begins between key packets costs, if it costs much."""
         for lead in leads:
             count = lead.end - lead.first

@@ -1,5 +1,7 @@
 """wokureti compare: where two streams of frames part."""
 
+from __future__ import annotations
+
 import contextlib
 import itertools
 import json
@@ -8,9 +10,11 @@ import os
 import shutil
 import sys
 import urllib.request
+from typing import IO, TYPE_CHECKING, Any, Generator, Iterator, Optional, Tuple, Union
 
 from ..errors import Ended, NoBytes, NotIvf, Refused
 from ..base import checks, files, programs, rooms
+from ..base.checks import AnyBytes, AnyPath
 from ..media import facts, ivf, looks, png, webm, y4m
 from ..media.y4m import sides
 from ..session import convert, records
@@ -21,7 +25,11 @@ from ..session.session import Session
 try:
     import numpy
 except ImportError:
-    numpy = None
+    numpy = None  # type: ignore[assignment]  # Samples are compared one after the other then.
+
+if TYPE_CHECKING:
+    # Arrays of any shape.
+    Samples = numpy.ndarray[Any, numpy.dtype[numpy.uint8]]
 
 PLANES = ("Y", "Cb", "Cr")
 # Samples of a macroblock each way, in each plane.
@@ -33,11 +41,16 @@ GAIN = 8
 class Missing:
     """A frame that is refused."""
 
-    def __init__(self, reply):
+    def __init__(self, reply: str) -> None:
         self.reply = reply
 
 
-def of_stream(path, tables=None):
+# The width, height and samples of a frame; and what a stream has in the place of one.
+Picture = Tuple[int, int, AnyBytes]
+Shown = Union[Picture, Missing]
+
+
+def of_stream(path: str, tables: Optional[AnyPath] = None) -> Generator[Shown, None, None]:
     """The frames of an IVF file: (width, height, samples), or a `Missing`."""
     session = Session(path, tables=tables, cache=1)
     try:
@@ -66,11 +79,12 @@ def of_stream(path, tables=None):
 
 
 @contextlib.contextmanager
-def opened(name, folder, tables=None):
+def opened(name: str, folder: str, tables: Optional[AnyPath] = None) -> Iterator[tuple[Iterator[Shown], Optional[str]]]:
     """The frames of an IVF file, a Y4M file, a container, a URL, or of standard input, and the path of the IVF file, if
     it is one.
     """
-    path = None
+    path: Optional[str] = None
+    source: IO[bytes]
     if name.startswith(("http://", "https://")):
         source = urllib.request.urlopen(name, timeout=60)
     elif name == "-":
@@ -80,11 +94,13 @@ def opened(name, folder, tables=None):
         path = convert.readable(name, folder, is_checked=False) if os.path.isfile(name) else name
         source = open(path, "rb")
     with contextlib.closing(source) as file:
-        head, ivf_path = peek(file), None
+        head = peek(file)
+        ivf_path: Optional[str] = None
+        frames: Generator[Shown, None, None]
         if head.startswith(b"YUV4MPEG2"):
             frames = y4m.read_frames(Joined(head, file))
         elif head.startswith(b"DKIF") or (path is not None and os.path.isfile(path) and webm.is_read(path)):
-            if file is sys.stdin.buffer or not os.path.isfile(name):
+            if path is None or file is sys.stdin.buffer or not os.path.isfile(name):
                 # A pipe or a URL is read once, and vp8serve reads files.
                 path = os.path.join(folder, f"{len(os.listdir(folder))}.ivf")
                 with open(path, "wb") as copy:
@@ -106,7 +122,7 @@ def opened(name, folder, tables=None):
             yield frames, ivf_path
 
 
-def check_head(path, name):
+def check_head(path: str, name: str) -> None:
     """`ValueError` if a copy of what is called `name` does not begin as a stream."""
     try:
         with open(path, "rb") as file:
@@ -115,7 +131,7 @@ def check_head(path, name):
         raise ValueError(looks.sentence(path, name, error)) from None
 
 
-def peek(file):
+def peek(file: IO[bytes]) -> bytes:
     """The first bytes of a file."""
     return y4m.read_exactly(file, 12)
 
@@ -123,14 +139,14 @@ def peek(file):
 class Joined:
     """A file whose first bytes were read."""
 
-    def __init__(self, head, file):
+    def __init__(self, head: bytes, file: IO[bytes]) -> None:
         self.head, self.file = head, file
 
-    def readline(self, most):
+    def readline(self, most: int) -> bytes:
         head, self.head = self.head, b""
         return head + self.file.readline(most - len(head))
 
-    def read(self, size):
+    def read(self, size: int) -> bytes:
         return self.file.read(size)
 
 
@@ -139,10 +155,10 @@ class Plane:
     of squares.
     """
 
-    def __init__(self):
+    def __init__(self) -> None:
         self.count = self.most = self.squares = self.samples = 0
 
-    def add(self, one, other, width):
+    def add(self, one: bytes, other: bytes, width: int) -> Optional[int]:
         """Adds two planes, and returns the first place where they differ, or None."""
         self.samples += len(one)
         if one == other:
@@ -162,7 +178,7 @@ class Plane:
                     self.squares += (left - right) ** 2
         return first
 
-    def add_arrays(self, one, other):
+    def add_arrays(self, one: Samples, other: Samples) -> int:
         far = one.astype(numpy.int32) - other
         places = numpy.flatnonzero(far)
         self.count += len(places)
@@ -171,22 +187,23 @@ class Plane:
         return int(places[0])
 
 
-def psnr(squares, samples):
+def psnr(squares: int, samples: int) -> float:
     """Decibels; infinite if nothing differs."""
     return math.inf if not squares else 10 * math.log10(255 * 255 * samples / squares)
 
 
-def first_column(one, other, width, side):
+def first_column(one: bytes, other: bytes, width: int, side: int) -> int:
     """The column of the first block that differs in rows of samples that differ."""
     columns = (place % width for place in range(len(one)) if one[place] != other[place])
     return min(columns) // side
 
 
-def first_macroblock(one, other):
+def first_macroblock(one: Picture, other: Picture) -> Optional[tuple[int, int]]:
     """The column and the row of the first macroblock, in raster order, that differs in two pictures of one size; None
     if none does.
     """
-    found, start = [], 0
+    found: list[tuple[int, int]] = []
+    start = 0
     for side, (width, height) in zip(BLOCKS, sides(*one[:2])):
         for row in range(0, height, side):
             begin, end = start + row * width, start + min(row + side, height) * width
@@ -195,10 +212,13 @@ def first_macroblock(one, other):
                 found.append((row // side, first_column(*rows, width, side)))
                 break
         start += width * height
-    return min(found)[::-1] if found else None
+    if not found:
+        return None
+    row, column = min(found)
+    return column, row
 
 
-def record_at(path, frame, macroblock, tables):
+def record_at(path: str, frame: int, macroblock: tuple[int, int], tables: Optional[AnyPath]) -> str:
     """What vp8list says of a macroblock of the packet that a frame of an IVF file shows, as a line."""
     lister, path = programs.find("vp8list"), checks.path(path)
     for number, line in enumerate(facts.run(lister, path, "--json")):
@@ -218,24 +238,25 @@ def record_at(path, frame, macroblock, tables):
 class Comparison:
     """Two streams, frame by frame."""
 
-    def __init__(self):
+    def __init__(self) -> None:
         self.frames = self.same = 0
         self.counts = [0, 0]
         self.planes = [Plane() for _ in PLANES]
-        self.first = None
-        self.pair = None
+        self.first: Optional[str] = None
+        self.pair: Optional[tuple[int, Optional[tuple[Picture, Picture]]]] = None
         # The first macroblock that differs in the first frame that does, and what it is in the streams that are IVF
         # files.
-        self.macroblock, self.records = None, []
+        self.macroblock: Optional[tuple[int, int]] = None
+        self.records: list[str] = []
         # Sentences about the files that end in the middle or are damaged.
-        self.damage = []
+        self.damage: list[str] = []
 
-    def part(self, number, text, pair=None):
+    def part(self, number: int, text: str, pair: Optional[tuple[Picture, Picture]] = None) -> None:
         """Two frames differ."""
         if self.first is None:
             self.first, self.pair = f"frame {number}: {text}", (number, pair)
 
-    def add(self, number, one, other):
+    def add(self, number: int, one: Optional[Shown], other: Optional[Shown]) -> None:
         """Compares a frame of each; None is one that is not there."""
         self.counts[0] += one is not None
         self.counts[1] += other is not None
@@ -243,35 +264,32 @@ class Comparison:
             self.part(number, f"only {'B' if one is None else 'A'} has it")
             return
         self.frames += 1
-        missing = [isinstance(frame, Missing) for frame in (one, other)]
-        if any(missing):
-            if all(missing):
-                self.same += one.reply == other.reply
-            if not all(missing) or one.reply != other.reply:
-                self.part(
-                    number,
-                    " and ".join(
-                        f"{name} has {frame.reply}" for name, frame, lost in zip("AB", (one, other), missing) if lost
-                    ),
-                )
+        if isinstance(one, Missing) or isinstance(other, Missing):
+            replies = [frame.reply if isinstance(frame, Missing) else None for frame in (one, other)]
+            if replies[0] == replies[1]:
+                self.same += 1
+            else:
+                have = [f"{name} has {reply}" for name, reply in zip("AB", replies) if reply is not None]
+                self.part(number, " and ".join(have))
             return
         if one[:2] != other[:2]:
             self.part(number, f"A has {one[0]}x{one[1]} samples, B {other[0]}x{other[1]}")
             return
         self.compare(number, one, other)
 
-    def compare(self, number, one, other):
-        start, found = 0, None
+    def compare(self, number: int, one: Picture, other: Picture) -> None:
+        start = 0
+        found: Optional[str] = None
         for name, plane, (width, height) in zip(PLANES, self.planes, sides(*one[:2])):
             end = start + width * height
-            pieces = [bytes(frame[2][start:end]) for frame in (one, other)]
-            place = plane.add(*pieces, width)
+            ours, theirs = (bytes(frame[2][start:end]) for frame in (one, other))
+            place = plane.add(ours, theirs, width)
             if place is not None and found is None:
                 column, row = place % width, place // width
                 side = 16 if name == "Y" else 8
                 found = (
                     f"plane {name}, column {column}, row {row} (macroblock {column // side}, {row // side}): "
-                    f"{pieces[0][place]} in A, {pieces[1][place]} in B"
+                    f"{ours[place]} in A, {theirs[place]} in B"
                 )
             start = end
         if found is None:
@@ -282,16 +300,16 @@ class Comparison:
             self.part(number, found, (one, other))
 
     @property
-    def is_same(self):
+    def is_same(self) -> bool:
         return self.first is None
 
-    def lines(self):
+    def lines(self) -> Iterator[str]:
         """What is printed."""
         if self.is_same:
             yield f"{self.frames} frames, all the same"
             return
         yield f"first difference: {self.first}"
-        if self.records:
+        if self.records and self.macroblock is not None:
             column, row = self.macroblock
             yield f"first macroblock that differs: {column}, {row}"
             yield from self.records
@@ -307,7 +325,7 @@ class Comparison:
         yield f"PSNR {', '.join(words)}, all {psnr(sum(plane.squares for plane in self.planes), samples):.2f} dB"
 
 
-def difference(one, other):
+def difference(one: Picture, other: Picture) -> bytes:
     """A grey picture: the greatest difference of each pixel's samples, made stronger."""
     width, height, _ = one
     frames = [frame_of(0, *picture) for picture in (one, other)]
@@ -322,7 +340,7 @@ def difference(one, other):
     return png.text_of(width, height, grey, 1)
 
 
-def write_pair(folder, number, one, other):
+def write_pair(folder: str, number: int, one: Picture, other: Picture) -> None:
     """Writes the pictures of two frames, and of their difference."""
     os.makedirs(folder, exist_ok=True)
     texts = {
@@ -334,7 +352,7 @@ def write_pair(folder, number, one, other):
         files.write_whole(os.path.join(folder, f"frame-{number}-{name}.png"), [text])
 
 
-def damage_in(path):
+def damage_in(path: str) -> list[str]:
     """Sentences about the damage of a stream, or of the container that its packets are from."""
     item = Input(path)
     try:
@@ -343,7 +361,7 @@ def damage_in(path):
         item.close()
 
 
-def compare(one, other, pictures=None, tables=None):
+def compare(one: str, other: str, pictures: Optional[str] = None, tables: Optional[AnyPath] = None) -> Comparison:
     """Compares two streams, which are named, and returns the comparison."""
     if one == other == "-":
         raise ValueError("only one of the two can be standard input")
@@ -353,7 +371,7 @@ def compare(one, other, pictures=None, tables=None):
             for number, pair in enumerate(itertools.zip_longest(left, right)):
                 found.add(number, *pair)
             found.damage = [text for path in (left_path, right_path) if path is not None for text in damage_in(path)]
-        if found.macroblock is not None:
+        if found.macroblock is not None and found.pair is not None:
             for name, path in zip("AB", (left_path, right_path)):
                 if path is None:
                     continue

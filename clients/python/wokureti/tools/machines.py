@@ -2,6 +2,8 @@
 rsync.
 """
 
+from __future__ import annotations
+
 import concurrent.futures
 import contextlib
 import os
@@ -11,10 +13,12 @@ import shutil
 import subprocess
 import tempfile
 import time
+from typing import IO, Iterable, Iterator, Optional, Sequence
 
 from .. import system
 from ..errors import Failed
 from ..base.progress import say
+from ..session.session import Session
 from . import parts
 
 # A machine that does not answer for so many seconds is given up.
@@ -24,7 +28,7 @@ MOST_ASK = 15
 INSTALL = "apt-get install parallel rsync openssh-client here, and rsync openssh-server on each machine"
 
 
-def check_here():
+def check_here() -> None:
     """What is needed on this machine."""
     if system.IS_WINDOWS:
         raise Failed(
@@ -35,12 +39,12 @@ def check_here():
         raise Failed(f"{' and '.join(missing)} must be installed for --sshlogin: {INSTALL}")
 
 
-def ssh_words():
+def ssh_words() -> list[str]:
     """How ssh is called."""
     return shlex.split(os.environ.get("PARALLEL_SSH") or " ".join(("ssh", *ALIVE)))
 
 
-def why_not(login, program):
+def why_not(login: str, program: str) -> Optional[str]:
     """Why a machine cannot decode, as a sentence, or None. It is asked by one ssh."""
     host = host_of(login)
     if host == ":" or " " in host or host.startswith("@"):
@@ -67,7 +71,7 @@ def why_not(login, program):
     )
 
 
-def able(logins, program):
+def able(logins: Sequence[str], program: str) -> list[str]:
     """The machines that can decode. The others are named; `Failed` if there is none."""
     with concurrent.futures.ThreadPoolExecutor(len(logins)) as pool:
         reasons = list(pool.map(lambda login: why_not(login, program), logins))
@@ -86,18 +90,25 @@ class Machines:
     that they have in the folder of the parts, and lie in a folder of their own on each machine.
     """
 
-    def __init__(self, room, plan, logins, program, tables=None):
+    def __init__(
+        self,
+        room: parts.Room,
+        plan: Sequence[parts.Part],
+        logins: Sequence[str],
+        program: str,
+        tables: Optional[str] = None,
+    ) -> None:
         self.room, self.plan, self.logins = room, plan, logins
         self.program = program
         self.log = os.path.join(room.folder, "log")
         self.base = [os.path.basename(path) for path in room.sources]
-        self.tables = None
+        self.tables: Optional[str] = None
         if tables is not None:
             self.tables = "tables"
             shutil.copyfile(tables, os.path.join(room.folder, self.tables))
             self.base.append(self.tables)
 
-    def command(self):
+    def command(self) -> str:
         """The command of a part, whose number is {}. On this machine nothing was carried, so the files are in the
         folder of the parts.
         """
@@ -106,7 +117,7 @@ class Machines:
         text = " ".join(word if "{}" in word else shlex.quote(word) for word in words)
         return f"[ -e {{}}.list ] || cd {shlex.quote(self.room.folder)} && {text} > {{}}.replies"
 
-    def words(self, log, logins):
+    def words(self, log: str, logins: Sequence[str]) -> list[str]:
         """The command line of parallel, for a log and machines."""
         there = f"/tmp/{os.path.basename(self.room.folder)}-there"
         words = ["parallel", "--will-cite", "--retries", str(len(logins) + 2), "--joblog", log, "--workdir", there]
@@ -118,7 +129,7 @@ class Machines:
             words += ["--basefile", name]
         return [*words, "--return", "{}.y4m", "--return", "{}.replies", "--cleanup", self.command()]
 
-    def __iter__(self):
+    def __iter__(self) -> Iterator[int]:
         """The numbers of the parts, each when its frames are here, in order."""
         for number, part in enumerate(self.plan):
             self.room.write(number, part)
@@ -130,7 +141,9 @@ class Machines:
                 yield number
 
     @contextlib.contextmanager
-    def running(self, numbers, log, logins):
+    def running(
+        self, numbers: Iterable[int], log: str, logins: Sequence[str]
+    ) -> Iterator[tuple[subprocess.Popen[bytes], IO[bytes]]]:
         """parallel with these parts on these machines, and what it complains of."""
         env = dict(
             os.environ,
@@ -144,6 +157,7 @@ class Machines:
                 words, cwd=self.room.folder, stdin=subprocess.PIPE, stdout=subprocess.DEVNULL, stderr=errors, env=env
             )
             try:
+                assert process.stdin is not None
                 with contextlib.suppress(BrokenPipeError):
                     process.stdin.write("".join(f"{number}\n" for number in numbers).encode())
                     process.stdin.close()
@@ -151,7 +165,14 @@ class Machines:
             finally:
                 end(process)
 
-    def wait(self, number, process, errors, log=None, place=None):
+    def wait(
+        self,
+        number: int,
+        process: subprocess.Popen[bytes],
+        errors: IO[bytes],
+        log: Optional[str] = None,
+        place: Optional[int] = None,
+    ) -> Optional[str]:
         """Waits until a part is here, and returns None; or the machine whose part did not come back, although
         parallel's log says that all went well.
         """
@@ -166,11 +187,11 @@ class Machines:
                 raise Failed(f"part {number} was not decoded on any machine: {said or f'status {status}'}")
             time.sleep(0.02)
 
-    def is_here(self, number):
+    def is_here(self, number: int) -> bool:
         """Whether the files of a part came back: what parallel says of it is the status of the program there."""
         return all(os.path.exists(self.room.path(number, kind)) for kind in ("y4m", "replies"))
 
-    def decode_again(self, number, host):
+    def decode_again(self, number: int, host: str) -> None:
         """Decodes a part on a machine other than those that lost it, as long as there is one."""
         lost = {host}
         for turn in range(len(self.logins)):
@@ -180,18 +201,19 @@ class Machines:
             say(f"part {number} did not come back from {host}: it is decoded again")
             log = f"{self.log}.{number}.{turn}"
             with self.running([number], log, logins) as (process, errors):
-                host = self.wait(number, process, errors, log, 0)
-            if host is None:
+                again = self.wait(number, process, errors, log, 0)
+            if again is None:
                 return
+            host = again
             lost.add(host)
         raise Failed(f"part {number} did not come back from {', '.join(sorted(lost))}")
 
     @staticmethod
-    def statuses(log):
+    def statuses(log: str) -> dict[int, tuple[int, str]]:
         """For each line of parallel's input the last exit status that its log has, that of the program or of ssh, and
         the machine.
         """
-        found = {}
+        found: dict[int, tuple[int, str]] = {}
         try:
             with open(log, encoding="utf-8", errors="replace") as file:
                 lines = file.read().split("\n")[1:-1]
@@ -203,12 +225,12 @@ class Machines:
         return found
 
 
-def host_of(login):
+def host_of(login: str) -> str:
     """What parallel's log calls a machine: without the number of processes."""
     return login.rsplit("/", 1)[-1] if re.fullmatch(r"[0-9]+%?/.*", login) else login
 
 
-def end(process):
+def end(process: subprocess.Popen[bytes]) -> None:
     """Ends parallel, if it runs, and its jobs: it ends them at the second signal."""
     for _ in range(2):
         if process.poll() is None:
@@ -219,20 +241,20 @@ def end(process):
     process.wait()
 
 
-def workers_of(session, logins, program, tables):
+def workers_of(session: Session, logins: Sequence[str], program: str, tables: Optional[str]) -> parts.Workers:
     """Workers on these machines."""
     check_here()
-    logins = able(logins, program)
+    able_ones = able(logins, program)
 
-    def workers(room, count):
+    def workers(room: parts.Room, count: int) -> tuple[list[parts.Part], Iterable[int]]:
         contents = session.edits.contents()
-        processes = 4 * len(logins)
+        processes = 4 * len(able_ones)
         size = room.first.size
         plan = (
             parts.by_packets(contents, processes, size)
             if contents.script == "-"
             else parts.by_frames(count, processes, size)
         )
-        return plan, Machines(room, plan, logins, program, tables)
+        return plan, Machines(room, plan, able_ones, program, tables)
 
     return workers

@@ -1,14 +1,23 @@
 """Streams whose rate varies, as YUV4MPEG2, whose frames all last as long."""
 
+from __future__ import annotations
+
 import bisect
 from array import array
 from itertools import accumulate
+from typing import Callable, Iterable, Optional, Sequence
 
 from ..media import excerpts, times
+from ..media.ivf import Rate
+from ..session.contents import Contents
 from ..session.exports import Frames
 
 
-def begins(contents, streams=None, runs=None):
+def begins(
+    contents: Contents,
+    streams: Optional[Iterable[Sequence[int]]] = None,
+    runs: Optional[Sequence[tuple[int, int, int]]] = None,
+) -> list[int]:
     """The time of each frame that is served, in nanoseconds, and the end of the last one."""
     return list(
         accumulate(
@@ -17,17 +26,17 @@ def begins(contents, streams=None, runs=None):
     )
 
 
-def step_of(rate):
+def step_of(rate: Rate) -> float:
     return times.NANO * rate[1] / rate[0]
 
 
-def drift(starts, rate):
+def drift(starts: Sequence[int], rate: Rate) -> int:
     """By how many nanoseconds a frame is at most away from its time, if frames follow each other at a rate."""
     step = step_of(rate)
     return max(abs(round(place * step) - start) for place, start in enumerate(starts))
 
 
-def constant(starts, rate):
+def constant(starts: Sequence[int], rate: Rate) -> array[int]:
     """The frames to show at a rate: at each step the one whose time is nearest."""
     step, found = step_of(rate), array("I")
     last = len(starts) - 2
@@ -40,7 +49,7 @@ def constant(starts, rate):
     return found
 
 
-def warn(contents, is_constant, say):
+def warn(contents: Contents, is_constant: bool, say: Callable[[str], None]) -> None:
     """Says by how much the frames of a YUV4MPEG2 file are away from their times, if that is a frame or more; or that
     they are repeated.
     """

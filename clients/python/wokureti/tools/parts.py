@@ -7,17 +7,23 @@ One run of vp8serve writes frames of one size, that of the first frame that it s
 frame has its packets in front, and serves it first; it is left out when the parts are joined.
 """
 
+from __future__ import annotations
+
 import os
-from typing import NamedTuple
+from typing import IO, Callable, Iterable, List, NamedTuple, Optional, Tuple, Union
 
 from .. import system
 from ..errors import Refused
 from ..base.lines import lines_in, words_of
 from ..media import ivf
 from ..media.y4m import parse_header
+from ..session.contents import Contents
+from ..session.session import Session
 
 # Parts a process: so that one long part holds up no process.
 PARTS_A_PROCESS = 4
+# Makes the parts of the frames, so many, and decodes them: their numbers, each when it was decoded.
+Workers = Callable[["Room", int], Tuple[List["Part"], Iterable[int]]]
 # Bytes of the frames of a part, at most, if key packets and the number of frames allow it.
 MOST_PART = 64 << 20
 
@@ -29,7 +35,7 @@ class Part(NamedTuple):
 
     first: int
     end: int
-    packets: object
+    packets: Optional[tuple[int, int]]
 
 
 class First(NamedTuple):
@@ -40,12 +46,12 @@ class First(NamedTuple):
     number: int
     header: bytes
     size: int
-    packets: object
+    packets: Optional[tuple[int, int]]
 
 
-def first_frame(session):
+def first_frame(session: Session) -> tuple[Optional[int], Optional[Refused]]:
     """The first frame of a session that is served, and the first refusal. The frame is None if all are refused."""
-    refused = None
+    refused: Optional[Refused] = None
     for number in range(session.count().frames):
         try:
             session.frame(number)
@@ -55,10 +61,10 @@ def first_frame(session):
     return None, refused
 
 
-def find_first(session, number):
+def find_first(session: Session, number: int) -> First:
     """What the parts need of the first frame."""
     contents = session.edits.contents()
-    place = None
+    place: Optional[tuple[int, int]] = None
     if contents.script == "-":
         contents.listing.learn()
         stream = contents.streams[0]
@@ -70,13 +76,14 @@ def find_first(session, number):
     return First(number, session.header, session.frame_size, place)
 
 
-def by_packets(contents, processes, frame_size):
+def by_packets(contents: Contents, processes: int, frame_size: int) -> list[Part]:
     """The parts of source 0, cut at packets with a key tag. `frame_size` is the number of bytes of a frame."""
     contents.listing.learn()
     stream = contents.streams[0]
     sizes = [contents.size(number) for number in stream]
     share = max(1, sum(sizes) // (PARTS_A_PROCESS * processes))
-    parts, begin, frame, bytes_so_far, frames = [], 0, 0, 0, 0
+    begin, frame, bytes_so_far, frames = 0, 0, 0, 0
+    parts: list[Part] = []
     for place, number in enumerate(stream):
         if frames and (bytes_so_far >= share or frames * frame_size >= MOST_PART) and contents.has_key_tag(number):
             parts.append(Part(frame, frame + frames, (begin, place)))
@@ -88,7 +95,7 @@ def by_packets(contents, processes, frame_size):
     return parts
 
 
-def by_frames(count, processes, frame_size):
+def by_frames(count: int, processes: int, frame_size: int) -> list[Part]:
     """Ranges of frames."""
     length = max(1, min(-(-count // (PARTS_A_PROCESS * processes)), MOST_PART // frame_size))
     return [Part(first, min(first + length, count), None) for first in range(0, count, length)]
@@ -99,11 +106,11 @@ class Room:
     added.
     """
 
-    def __init__(self, folder, session, first):
+    def __init__(self, folder: str, session: Session, first: First) -> None:
         self.folder = folder
         self.contents = session.edits.contents()
         self.first, self.script = first, self.contents.script
-        self.sources = []
+        self.sources: list[str] = []
         if self.script != "-":
             for source in range(len(self.contents.streams)):
                 path = os.path.join(folder, f"source-{source}.ivf")
@@ -111,10 +118,10 @@ class Room:
                     file.writelines(self.contents.pieces(source))
                 self.sources.append(path)
 
-    def path(self, number, kind):
+    def path(self, number: Union[int, str], kind: str) -> str:
         return os.path.join(self.folder, f"{number}.{kind}")
 
-    def write(self, number, part):
+    def write(self, number: int, part: Part) -> None:
         """Writes the stream and the requests of a part."""
         leads = part.first > self.first.number
         with open(self.path(number, "list"), "w", encoding="ascii", newline="\n") as file:
@@ -126,10 +133,11 @@ class Room:
                 frames = ([before - 1] if leads else []) + list(range(before, before + part.end - part.first))
             file.writelines(f"frame {frame}\n" for frame in frames)
 
-    def write_packets(self, number, part, leads):
+    def write_packets(self, number: int, part: Part, leads: bool) -> int:
         """Writes the stream of a part, and returns how many frames come before those of the part."""
+        assert part.packets is not None
         contents, stream = self.contents, self.contents.streams[0]
-        begin, end = self.first.packets if leads else (0, 0)
+        begin, end = (self.first.packets if leads else None) or (0, 0)
         before = list(stream[begin:end])
         numbers = before + list(stream[part.packets[0] : part.packets[1]])
         packets = zip(map(contents.stamp, numbers), contents.data(numbers))
@@ -137,7 +145,7 @@ class Room:
             file.writelines(ivf.pieces(contents.inputs.all[0].head, len(numbers), packets))
         return sum(map(contents.is_shown, before))
 
-    def words(self, number, program, tables=None):
+    def words(self, number: Union[int, str], program: str, tables: Optional[str] = None) -> list[str]:
         """The command line of a part."""
         streams = self.sources or [self.path(number, "ivf")]
         words = [program, streams[0], self.path(number, "list"), self.path(number, "y4m")]
@@ -148,7 +156,7 @@ class Room:
             words += ["--cache", "1"]
         return words + (["--tables", tables] if tables else [])
 
-    def refusals(self, number, part):
+    def refusals(self, number: int, part: Part) -> list[str]:
         """The replies that refuse a frame of a part, as one run over the whole stream gives them."""
         with open(self.path(number, "replies"), encoding="utf-8", errors="replace") as file:
             replies = lines_in(file.read())
@@ -156,7 +164,7 @@ class Room:
         if len(replies) != part.end - part.first + leads + (part.packets is None):
             raise ValueError(f"part {number} has {len(replies)} replies")
         replies = replies[leads + (part.packets is None) :]
-        begin, end = self.first.packets if leads and part.packets else (0, 0)
+        begin, end = (self.first.packets if leads and part.packets else None) or (0, 0)
         shift = part.packets[0] - (end - begin) if part.packets else 0
         found = []
         for frame, reply in enumerate(replies, part.first):
@@ -167,7 +175,7 @@ class Room:
                 found.append(f"frame {frame}: {reply}")
         return found
 
-    def join(self, number, part, refused, out):
+    def join(self, number: int, part: Part, refused: int, out: IO[bytes]) -> int:
         """Appends the frames of a part to the output, without the first line and the frame that only fixed the size."""
         leads = part.first > self.first.number
         frames = part.end - part.first - refused
@@ -186,7 +194,7 @@ class Room:
                 out.write(piece)
         return frames
 
-    def clear(self, number):
+    def clear(self, number: int) -> None:
         """Removes the files of a part."""
         for kind in ("ivf", "list", "y4m", "replies"):
             try:

@@ -1,5 +1,7 @@
 """wokureti repair: finds the damage of a stream, and repairs what can be repaired without asking."""
 
+from __future__ import annotations
+
 import bisect
 import collections
 import concurrent.futures
@@ -7,14 +9,37 @@ import fractions
 import json
 import os
 import statistics
-from typing import NamedTuple
+from array import array
+from typing import (
+    Any,
+    Callable,
+    Container,
+    Dict,
+    Iterable,
+    Iterator,
+    Mapping,
+    NamedTuple,
+    Optional,
+    Sequence,
+    Tuple,
+    TypeVar,
+    Union,
+)
 
 from .. import system
 from ..errors import NoKeyFrame, NoSecond, NotIvf
+from ..base.checks import AnyBytes, AnyPath
+from ..calls import recordings
 from ..media import facts, ivf, salvage, times
-from ..session import runs
+from ..session import convert, runs
 from .differences import Lasting, edits_between
 
+# What is read of a list: an outline, or a finding, which is an object of JSON.
+Listed = TypeVar("Listed")
+Finding = Dict[str, Any]
+Size = Tuple[int, int]
+# The step between two time stamps; of rounded ones the mean.
+Step = Union[int, fractions.Fraction]
 # A packet is sorted back over at most so many others: if it is further away, the time stamps begin again, as in clips
 # that were joined.
 MOST_MOVE = 64
@@ -45,7 +70,7 @@ class Packet(NamedTuple):
     lost before it, and whether its end is missing."""
 
     stamp: int
-    data: bytes
+    data: AnyBytes
     before_gap: bool = False
     after_gap: bool = False
     is_cut: bool = False
@@ -56,36 +81,45 @@ class Outline(NamedTuple):
 
     is_key: bool
     is_shown: bool
-    cause: object
+    cause: Optional[str]
 
 
 class Repair:
     """The packets of a stream while they are mended, and a line for each step."""
 
-    def __init__(self, program, lister, tables=None):
+    def __init__(self, program: Optional[str], lister: Optional[str], tables: Optional[str] = None) -> None:
         self.program, self.lister, self.tables = program, lister, tables
-        self.head, self.packets, self.lines = ivf.EMPTY, [], []
+        self.head = ivf.EMPTY
+        self.packets: list[Packet] = []
+        self.lines: list[str] = []
         # How many packets the header counts, how many changes were made, and how much is left that was not mended.
         self.counted = self.changes = self.left = 0
-        self.forged = {}
+        self.forged: dict[tuple[str, int, int], bytes] = {}
         # The packets as they are in a file, and its path.
-        self.in_file = (None, None)
+        self.in_file: tuple[Optional[list[Packet]], Optional[AnyPath]] = (None, None)
         # Packets, and what vp8list says of them; and of parts of a long stream, by the first packet and what was asked.
-        self.outlined, self.checked, self.of_parts = (None, []), (None, []), {}
+        self.outlined: tuple[Optional[list[Packet]], list[Outline]] = (None, [])
+        self.checked: tuple[Optional[list[Packet]], list[Finding]] = (None, [])
+        self.of_parts: dict[tuple[int, tuple[str, ...]], tuple[list[Packet], list[Any]]] = {}
         # Called with what is done next.
-        self.stage = lambda text: None
+        self.stage: Callable[[str], None] = lambda text: None
 
-    def say(self, text, changed=True):
+    def asked_lister(self) -> str:
+        """The path of vp8list. Where there is none, packets are only read."""
+        assert self.lister is not None
+        return self.lister
+
+    def say(self, text: str, changed: bool = True) -> None:
         self.lines.append(text)
         self.changes += changed
 
-    def outlines(self):
+    def outlines(self) -> list[Outline]:
         """The outlines of the packets, each by itself. They are listed once, as long as the packets stay."""
         if self.outlined[0] is not self.packets:
             self.outlined = (self.packets, self.list_outlines())
         return self.outlined[1]
 
-    def list_outlines(self):
+    def list_outlines(self) -> list[Outline]:
         if not self.packets:
             return []
         found = self.listed()
@@ -94,12 +128,12 @@ class Repair:
         if again:
             key = self.forge("blank", 1, 1)
             packets = ((0, data) for place in again for data in (key, self.packets[place].data))
-            listed = self.list_of(facts.run_on(self.lister, packets))[1::2]
+            listed = self.list_of(facts.run_on(self.asked_lister(), packets))[1::2]
             for place, outline in zip(again, listed):
                 found[place] = outline
         return found
 
-    def listed(self):
+    def listed(self) -> list[Outline]:
         what = f"listing {len(self.packets):,} packets"
         self.stage(what)
         parts = self.parts()
@@ -107,12 +141,13 @@ class Repair:
             return self.list_of(self.lister_run())
         return [outline for found in self.by_parts(parts, 0, what, self.list_of) for outline in found]
 
-    def parts(self):
+    def parts(self) -> list[tuple[int, int]]:
         """Ranges of packets that begin at key packets, each to be listed or checked by itself. Those that were there
         before begin where they did.
         """
         begins = {id(packets[0].data) for packets, _ in self.of_parts.values()}
-        found, start, size = [], 0, 0
+        start, size = 0, 0
+        found: list[tuple[int, int]] = []
         for place, packet in enumerate(self.packets[: -LEAST_PART or None]):
             if (
                 place - start >= LEAST_PART
@@ -124,11 +159,19 @@ class Repair:
             size += len(packet.data)
         return [*found, (start, len(self.packets))]
 
-    def by_parts(self, parts, overlap, what, read, *options, statuses=(0,)):
+    def by_parts(
+        self,
+        parts: Sequence[tuple[int, int]],
+        overlap: int,
+        what: str,
+        read: Callable[[Iterator[bytes]], list[Listed]],
+        *options: str,
+        statuses: Sequence[int] = (0,),
+    ) -> Iterator[list[Listed]]:
         """What `read` makes of what vp8list prints of each part, with so many packets of the next one, in order. A part
         whose packets are those that they were is not read again."""
 
-        def run(part):
+        def run(part: tuple[int, int]) -> list[Listed]:
             packets = self.packets[part[0] : part[1] + overlap]
             key = (id(packets[0].data), options)
             known = self.of_parts.get(key)
@@ -136,7 +179,10 @@ class Repair:
                 return known[1]
             found = read(
                 facts.run_on(
-                    self.lister, ((packet.stamp, packet.data) for packet in packets), *options, statuses=statuses
+                    self.asked_lister(),
+                    ((packet.stamp, packet.data) for packet in packets),
+                    *options,
+                    statuses=statuses,
                 )
             )
             self.of_parts[key] = (packets, found)
@@ -150,32 +196,32 @@ class Repair:
         finally:
             pool.shutdown(cancel_futures=True)
 
-    def list_of(self, lines):
+    def list_of(self, lines: Iterator[bytes]) -> list[Outline]:
         return [
             Outline(bool(flags & facts.KEY), bool(flags & facts.SHOWN), cause)
             for flags, _, cause in facts.outlines(lines)
         ]
 
-    def lister_run(self, *options, statuses=(0,)):
+    def lister_run(self, *options: str, statuses: Sequence[int] = (0,)) -> Iterator[bytes]:
         """What vp8list prints of the packets: of the file, as long as they are those that are in it."""
         packets, path = self.in_file
         if path is not None and packets is self.packets:
-            return facts.run(self.lister, path, *options, statuses=statuses)
+            return facts.run(self.asked_lister(), path, *options, statuses=statuses)
         return facts.run_on(
-            self.lister, ((packet.stamp, packet.data) for packet in self.packets), *options, statuses=statuses
+            self.asked_lister(), ((packet.stamp, packet.data) for packet in self.packets), *options, statuses=statuses
         )
 
-    def damaged(self):
+    def damaged(self) -> dict[int, str]:
         """The packets whose decoding ends too early or reads past an end, and for each of them what vp8list says."""
         if not self.packets:
             return {}
-        found = {}
+        found: dict[int, str] = {}
         for finding in self.findings():
             if finding["packet"] is not None and finding["kind"] in DAMAGE:
                 found.setdefault(finding["packet"], DAMAGE[finding["kind"]])
         return found
 
-    def findings(self):
+    def findings(self) -> list[Finding]:
         """The damage of packets, as vp8list --check has it. They are checked once, as long as they stay."""
         if self.checked[0] is not self.packets:
             what = f"checking {len(self.packets):,} packets"
@@ -187,12 +233,13 @@ class Repair:
                 self.checked = (self.packets, damage_in(self.lister_run(*self.check_words(), statuses=(0, 1))))
         return self.checked[1]
 
-    def findings_of_parts(self, parts, what):
+    def findings_of_parts(self, parts: Sequence[tuple[int, int]], what: str) -> list[Finding]:
         """The same of a long stream. A key packet begins anew, so a part has the damage that the whole has there; but
         what vp8list says of the packets around one is damage only if the steps of the whole are constant, and may be
         said by the part before, which has some packets more.
         """
-        found, is_constant = {}, constant_step(self.packets) is not None
+        is_constant = constant_step(self.packets) is not None
+        found: dict[tuple[int, object], Finding] = {}
         for (start, end), damage in zip(
             parts, self.by_parts(parts, OVERLAP, what, damage_in, *self.check_words(), statuses=(0, 1))
         ):
@@ -202,26 +249,27 @@ class Repair:
                     found[place, finding["kind"] if is_around else number] = {**finding, "packet": place}
         return [finding for _, finding in sorted(found.items(), key=lambda item: item[0][0])]
 
-    def check_words(self):
+    def check_words(self) -> list[str]:
         return ["--check", "--json"] + (["--tables", self.tables] if self.tables else [])
 
-    def findings_of(self, packets):
-        return facts.run_on(self.lister, packets, *self.check_words(), statuses=(0, 1))
+    def findings_of(self, packets: Iterable[tuple[int, AnyBytes]]) -> Iterator[bytes]:
+        return facts.run_on(self.asked_lister(), packets, *self.check_words(), statuses=(0, 1))
 
-    def forge(self, word, width, height):
+    def forge(self, word: str, width: int, height: int) -> bytes:
         """The bytes of a grey key frame, or of a packet that shows the last picture again and is shown by libvpx
         too.
         """
         key = (word, width, height)
         if key not in self.forged:
             lines = [f"blank 0 {width} {height}"] + ["hold 1"] * (word == "hold")
+            assert self.program is not None
             data = runs.last_packet(self.program, lines, self.tables)
             self.forged[key] = data + b"\0" * (word == "hold")
         return self.forged[key]
 
     # Reading
 
-    def read(self, data, scan=True, path=None):
+    def read(self, data: bytes, scan: bool = True, path: Optional[AnyPath] = None) -> None:
         """Takes the packets of a file. Its path is only for vp8list, which then reads it itself."""
         found = salvage.plain(data)
         if found is not None:
@@ -237,13 +285,20 @@ class Repair:
                 return
         elif not scan:
             raise NotIvf("it is not an IVF file of VP8, and its packets are not searched with --no-scan")
-        head, packets, gaps, guesses = salvage.find_all(data)
+        top, packets, gaps, guesses = salvage.find_all(data)
         if not packets and not any(guesses):
             raise NotIvf("no packet of VP8 was found in it")
         packets, gaps = self.take_guesses(packets, gaps, guesses)
-        self.take(head, packets, gaps, len(data), "record")
+        self.take(top, packets, gaps, len(data), "record")
 
-    def take(self, head, packets, gaps, length, what):
+    def take(
+        self,
+        head: Optional[ivf.Head],
+        packets: Sequence[salvage.Found],
+        gaps: Sequence[salvage.Gap],
+        length: int,
+        what: str,
+    ) -> None:
         """Takes packets that were searched in a file of this length, in which `what` leads from one to the next."""
         if head is not None:
             self.head = head
@@ -266,19 +321,23 @@ class Repair:
                     f" {gap.end}"
                 )
 
-    def take_guesses(self, packets, gaps, guesses):
+    def take_guesses(
+        self, packets: list[salvage.Found], gaps: list[salvage.Gap], guesses: Iterable[list[salvage.Guess]]
+    ) -> tuple[list[salvage.Found], list[salvage.Gap]]:
         """Takes packets whose records have a wrong size: those that decode to their end with all the bytes up to the
         next record. `guesses` has those of each gap."""
-        guesses = [group for group in guesses if group]
-        if self.lister is None or not guesses:
+        some = [group for group in guesses if group]
+        if self.lister is None or not some:
             return packets, gaps
-        self.stage(f"trying {len(guesses):,} records with a wrong size")
-        taken = [group[0] for group in guesses]
+        self.stage(f"trying {len(some):,} records with a wrong size")
+        taken = [group[0] for group in some]
         if self.wrong_ones(packets, gaps, taken):
             # A wrong guess also makes those after it look wrong.
             taken = []
-            for group in guesses[:MOST_GUESSES]:
-                taken += next(([guess] for guess in group if not self.wrong_ones(packets, gaps, [*taken, guess])), [])
+            for group in some[:MOST_GUESSES]:
+                right = (guess for guess in group if not self.wrong_ones(packets, gaps, [*taken, guess]))
+                first = next(right, None)
+                taken += [] if first is None else [first]
         found, left, places = with_guesses(packets, gaps, taken)
         for guess, place in zip(taken, places):
             size = len(guess.packet.data)
@@ -288,7 +347,9 @@ class Repair:
             )
         return found, left
 
-    def wrong_ones(self, packets, gaps, guesses):
+    def wrong_ones(
+        self, packets: list[salvage.Found], gaps: list[salvage.Gap], guesses: list[salvage.Guess]
+    ) -> list[salvage.Guess]:
         """The guesses that do not decode to their end if these are taken, or whose time stamps break the steps. Only
         their groups of pictures are checked.
         """
@@ -302,14 +363,16 @@ class Repair:
         }
         return [guess for guess, place in zip(guesses, places) if place in damaged or breaks_step(found, place)]
 
-    def first_size(self):
+    def first_size(self) -> Optional[Size]:
         return next(filter(None, (ivf.key_size(packet.data) for packet in self.packets)), None)
 
     # Order
 
-    def drop_doubles(self):
+    def drop_doubles(self) -> None:
         """Packets that are there twice, with their time stamp, go."""
-        seen, kept, size = {}, [], None
+        seen: dict[tuple[int, AnyBytes], int] = {}
+        kept: list[Packet] = []
+        size: Optional[Size] = None
         for place, packet in enumerate(self.packets):
             size = ivf.key_size(packet.data) or size
             first = seen.setdefault((packet.stamp, packet.data), place)
@@ -320,13 +383,13 @@ class Repair:
         if len(kept) < len(self.packets):
             self.packets = kept
 
-    def is_repeat(self, data, size):
+    def is_repeat(self, data: AnyBytes, size: Optional[Size]) -> bool:
         """Whether a packet only shows the last picture again: several of these may have the same time stamp and
         bytes.
         """
         return not data or (size is not None and data in (self.forge("hold", *size), self.forge("hold", *size)[:-1]))
 
-    def sort(self):
+    def sort(self) -> None:
         """Packets that come too late or too early are sorted by their time stamps, if these are theirs alone and not
         far from their place.
         """
@@ -355,7 +418,7 @@ class Repair:
 
     # A second recording
 
-    def merge(self, other):
+    def merge(self, other: Sequence[Packet]) -> None:
         """Takes packets of a second recording with the same time stamps: for those that are missing, refused, or
         damaged.
         """
@@ -374,7 +437,7 @@ class Repair:
         while self.replace_some(theirs):
             pass
 
-    def insert_missing(self, theirs):
+    def insert_missing(self, theirs: Mapping[int, Sequence[AnyBytes]]) -> None:
         """Inserts the packets of each time stamp that has more packets there."""
         stamps = [packet.stamp for packet in self.packets]
         if any(after < before for before, after in zip(stamps, stamps[1:])):
@@ -393,7 +456,8 @@ class Repair:
             count = sum(missing[stamp] for stamp in run)
             names = f"time stamp {run[0]}" if len(run) == 1 else f"time stamps {run[0]} to {run[-1]}"
             self.say(f"{names}: {count} {'packet' if count == 1 else 'packets'} of the second recording inserted")
-        self.packets, before = [], None
+        self.packets = []
+        before: Optional[int] = None
         for stamp in order:
             if stamp in missing:
                 self.packets += [Packet(stamp, data) for data in theirs[stamp]]
@@ -404,10 +468,11 @@ class Repair:
                 ]
             before = stamp
 
-    def replace_some(self, theirs):
+    def replace_some(self, theirs: Mapping[int, Sequence[AnyBytes]]) -> bool:
         """Replaces packets that are refused or damaged. Whether there was one."""
         outlines, past, found = self.outlines(), self.damaged(), False
-        ranks, packets = collections.Counter(), list(self.packets)
+        packets = list(self.packets)
+        ranks: collections.Counter[int] = collections.Counter()
         for place, packet in enumerate(self.packets):
             group, rank = theirs.get(packet.stamp, ()), ranks[packet.stamp]
             ranks[packet.stamp] += 1
@@ -435,12 +500,12 @@ class Repair:
             self.packets = packets
         return found
 
-    def is_broken(self, data):
+    def is_broken(self, data: AnyBytes) -> bool:
         return bool(data) and not salvage.begins_packet(data, 0, len(data))
 
     # What is left
 
-    def drop_beginning(self):
+    def drop_beginning(self) -> None:
         """Packets before the first key frame cannot be decoded."""
         outlines = self.outlines()
         count = next((place for place, found in enumerate(outlines) if found.is_key and not found.cause), len(outlines))
@@ -451,7 +516,7 @@ class Repair:
             self.say(f"{names}: no key frame before: removed")
             self.packets = self.packets[count:]
 
-    def step(self, outlines):
+    def step(self, outlines: Iterable[Outline]) -> Optional[Step]:
         """The step between the time stamps of shown packets, if it is constant, else None. Time stamps of milliseconds
         are rounded: then it is the mean of those that are one apart, as 33 and 34."""
         stamps = [packet.stamp for packet, found in zip(self.packets, outlines) if found.is_shown]
@@ -469,13 +534,15 @@ class Repair:
             else None
         )
 
-    def hold(self):
+    def hold(self) -> None:
         """Holds the last picture for packets that are refused or lost, up to the next key frame."""
         outlines = self.outlines()
         # A packet without its end says nothing of those before it.
         past = {place: text for place, text in self.damaged().items() if not self.packets[place].is_cut}
         step = self.step(outlines)
-        kept, size, place, changes = [], None, 0, self.changes
+        place, changes = 0, self.changes
+        kept: list[Packet] = []
+        size: Optional[Size] = None
         while place < len(self.packets):
             end = place + 1
             while end < len(self.packets) and not outlines[end].is_key:
@@ -490,6 +557,7 @@ class Repair:
                 if number < begin:
                     kept.append(packet)
                 elif outlines[number].is_shown:
+                    assert size is not None
                     kept.append(Packet(packet.stamp, self.forge("hold", *size)))
                 else:
                     hidden += 1
@@ -501,7 +569,9 @@ class Repair:
         if self.changes > changes:
             self.packets = kept
 
-    def first_lost(self, place, end, outlines, past, step):
+    def first_lost(
+        self, place: int, end: int, outlines: Sequence[Outline], past: Container[int], step: Optional[Step]
+    ) -> tuple[int, Optional[str]]:
         """The first packet of a stretch, from a key packet to the next, that cannot be decoded as it was coded, and
         why.
         """
@@ -520,13 +590,24 @@ class Repair:
                 return number, "packets before it are lost, and it does not decode without them"
         return end, None
 
-    def is_after_loss(self, number, step):
+    def is_after_loss(self, number: int, step: Optional[Step]) -> bool:
         packet = self.packets[number]
         if packet.after_gap:
             return True
-        return bool(step) and number > 0 and steps_between(self.packets[number - 1].stamp, packet.stamp, step) >= 2
+        if not step or number == 0:
+            return False
+        return steps_between(self.packets[number - 1].stamp, packet.stamp, step) >= 2
 
-    def fill(self, kept, number, step, size, past, outlines, end):
+    def fill(
+        self,
+        kept: list[Packet],
+        number: int,
+        step: Optional[Step],
+        size: Optional[Size],
+        past: Container[int],
+        outlines: Sequence[Outline],
+        end: int,
+    ) -> None:
         """Puts packets that hold the picture where packets are missing by the time stamps, and there is a sign that
         they were lost.
         """
@@ -543,13 +624,15 @@ class Repair:
             names = f"time stamp {stamps[0]}" if count == 1 else f"time stamps {stamps[0]} to {stamps[-1]}"
             self.say(f"{names}: {count} {'packet' if count == 1 else 'packets'} lost: the picture before is held")
 
-    def last_size(self, packets):
+    def last_size(self, packets: Sequence[Packet]) -> Optional[Size]:
         """The size of the last key packet."""
         return next(filter(None, (ivf.key_size(packet.data) for packet in reversed(packets))), None)
 
-    def check(self):
+    def check(self) -> None:
         """What is still wrong, as vp8list --check says of the packets that are written. Notes do not count."""
-        refused, inside, around = {}, set(), {}
+        refused: dict[int, str] = {}
+        inside: set[int] = set()
+        around: dict[int, str] = {}
         for finding in self.findings():
             if finding["severity"] != "damage" or finding["packet"] is None:
                 continue
@@ -571,7 +654,7 @@ class Repair:
             self.say(f"packet {place}: {text}: not repaired", False)
         self.left = len(refused) + len(past) + len(around)
 
-    def need_key(self, second):
+    def need_key(self, second: Optional[bytes]) -> None:
         """`NoKeyFrame` if nothing can be decoded: there is nothing to repair from."""
         if any(found.is_key and not found.cause for found in self.outlines()):
             return
@@ -586,9 +669,9 @@ class Repair:
         )
 
 
-def groups_around(packets, places):
+def groups_around(packets: Sequence[salvage.Found], places: Iterable[int]) -> list[range]:
     """The groups of pictures of packets at these places, which ascend: ranges from a key packet to the next one."""
-    found = []
+    found: list[range] = []
     for place in places:
         if found and place < found[-1].stop:
             continue
@@ -601,7 +684,7 @@ def groups_around(packets, places):
     return found
 
 
-def breaks_step(packets, place):
+def breaks_step(packets: Sequence[salvage.Found], place: int) -> bool:
     """Whether vp8list calls the step to an inter packet damage: it is none of the steps of the stream, which are
     constant.
     """
@@ -621,7 +704,7 @@ def breaks_step(packets, place):
     return step is not None and packet.stamp - before[1] != step
 
 
-def damage_in(lines):
+def damage_in(lines: Iterable[bytes]) -> list[Finding]:
     """The damage of packets among the findings that vp8list prints."""
     return [
         finding
@@ -630,14 +713,14 @@ def damage_in(lines):
     ]
 
 
-def are_same(packets, others):
+def are_same(packets: Sequence[Packet], others: Sequence[Packet]) -> bool:
     """Whether two lists have the same packets of the file, with the same time stamps."""
     return len(packets) == len(others) and all(
         one.data is other.data and one.stamp == other.stamp for one, other in zip(packets, others)
     )
 
 
-def constant_step(packets):
+def constant_step(packets: Iterable[Union[Packet, salvage.Found]]) -> Optional[int]:
     """The step between the time stamps of shown packets if there are many, and all are the same but for a few in a row;
     else None.
     """
@@ -651,15 +734,19 @@ def constant_step(packets):
     return step if not odd or odd[-1] - odd[0] < ODD_STEPS else None
 
 
-def steps_between(before, after, step):
+def steps_between(before: int, after: int, step: Step) -> int:
     """How many steps are between two time stamps, which are rounded if the step is no whole number."""
     return (after - before) // step if isinstance(step, int) else round((after - before) / step)
 
 
-def with_guesses(packets, gaps, guesses):
+def with_guesses(
+    packets: Sequence[salvage.Found], gaps: Sequence[salvage.Gap], guesses: Iterable[salvage.Guess]
+) -> tuple[list[salvage.Found], list[salvage.Gap], list[int]]:
     """The packets and gaps with these guesses among them, and the index of each guess."""
     # The packets before each gap, with the guess in the place of the last one, or after it.
-    found, places, start = [], [], 0
+    start = 0
+    found: list[salvage.Found] = []
+    places: list[int] = []
     for guess in guesses:
         gap = gaps[guess.gap]
         found += packets[start : gap.after - guess.is_cut]
@@ -668,7 +755,8 @@ def with_guesses(packets, gaps, guesses):
         start = gap.after
     found += packets[start:]
     taken = {guess.gap: guess for guess in guesses}
-    left, more = [], 0
+    more = 0
+    left: list[salvage.Gap] = []
     for number, gap in enumerate(gaps):
         if number in taken:
             more += not taken[number].is_cut
@@ -677,21 +765,23 @@ def with_guesses(packets, gaps, guesses):
     return found, left, places
 
 
-def has_zero_tail(packets):
+def has_zero_tail(packets: Sequence[salvage.Found]) -> bool:
     """Whether the last records are zeros, after others that are not."""
     last = [packet for packet in packets[-2:] if not packet.data and packet.stamp == 0]
     return len(last) == 2 and any(packet.stamp for packet in packets)
 
 
-def hidden_first(keys):
+def hidden_first(keys: Sequence[tuple[int, bool]]) -> bool:
     """Whether of two packets with one time stamp, a hidden one mostly comes before a shown one."""
     pairs = collections.Counter((before[1], after[1]) for before, after in zip(keys, keys[1:]) if before[0] == after[0])
     return pairs[False, True] >= pairs[True, False]
 
 
-def out_of_order(order):
+def out_of_order(order: Sequence[int]) -> set[int]:
     """The items of an order that do not ascend with the others: all but a longest ascending list of them."""
-    tails, places, before = [], [], [None] * len(order)
+    tails: list[int] = []
+    places: list[int] = []
+    before: list[Optional[int]] = [None] * len(order)
     for index, item in enumerate(order):
         at = bisect.bisect_left(tails, item)
         before[index] = places[at - 1] if at else None
@@ -700,18 +790,21 @@ def out_of_order(order):
             places.append(index)
         else:
             tails[at], places[at] = item, index
-    kept, index = set(), places[-1] if places else None
-    while index is not None:
-        kept.add(order[index])
-        index = before[index]
+    kept: set[int] = set()
+    last = places[-1] if places else None
+    while last is not None:
+        kept.add(order[last])
+        last = before[last]
     return set(order) - kept
 
 
-def groups_of(packets):
+def groups_of(packets: Iterable[Packet]) -> dict[int, list[Packet]]:
     """The packets of each time stamp: a hidden packet mostly has that of the next one. Stamps that come back later are
     left out.
     """
-    found, last, again = {}, None, set()
+    found: dict[int, list[Packet]] = {}
+    again: set[int] = set()
+    last: Optional[int] = None
     for packet in packets:
         if packet.stamp != last and packet.stamp in found:
             again.add(packet.stamp)
@@ -720,10 +813,10 @@ def groups_of(packets):
     return {stamp: group for stamp, group in found.items() if stamp not in again}
 
 
-def stretches(missing, known):
+def stretches(missing: Iterable[int], known: Iterable[int]) -> Iterator[list[int]]:
     """Runs of missing time stamps with no other stamp between them."""
     place = {stamp: index for index, stamp in enumerate(known)}
-    run = []
+    run: list[int] = []
     for stamp in missing:
         if run and place[stamp] != place[run[-1]] + 1:
             yield run
@@ -733,7 +826,7 @@ def stretches(missing, known):
         yield run
 
 
-def shift_between(packets, other):
+def shift_between(packets: Iterable[Packet], other: Iterable[Packet]) -> Optional[int]:
     """What to add to the time stamps of another recording of the same packets; None if they have no packet in
     common.
     """
@@ -742,7 +835,7 @@ def shift_between(packets, other):
     return shifts.most_common(1)[0][0] if shifts else None
 
 
-def packets_of(data, scan=True):
+def packets_of(data: bytes, scan: bool = True) -> list[Packet]:
     """The packets of a second recording."""
     reader = Repair(None, None)
     try:
@@ -753,16 +846,16 @@ def packets_of(data, scan=True):
 
 
 def repair(
-    data,
-    program,
-    lister,
-    second=None,
-    tables=None,
-    steps=frozenset(("scan", "double", "sort", "hold")),
-    stage=None,
-    path=None,
-    searched=None,
-):
+    data: bytes,
+    program: str,
+    lister: str,
+    second: Optional[bytes] = None,
+    tables: Optional[str] = None,
+    steps: Container[str] = frozenset(("scan", "double", "sort", "hold")),
+    stage: Optional[Callable[[str], None]] = None,
+    path: Optional[AnyPath] = None,
+    searched: Union[convert.Searched, recordings.Searched, None] = None,
+) -> Repair:
     """Mends a stream, and returns a `Repair`. `stage` is called with what is done next, and `path` is a file with the
     data, if there is one. `searched` is what was found of a damaged container: the head, the packets, the gaps, and the
     length of the file; or the frames of a capture.
@@ -794,7 +887,9 @@ def repair(
     return found
 
 
-def edits_of(data, found, second=None, lasting=None):
+def edits_of(
+    data: bytes, found: Repair, second: Optional[bytes] = None, lasting: Optional[Lasting] = None
+) -> Optional[list[str]]:
     """The edits that make the mended stream of the file, or None if vp8serve does not read the file. Packets of a
     second recording that is source 1 are copied from it. `lasting` says how long packets are shown, if edits of the
     file were made before."""
@@ -808,12 +903,12 @@ def edits_of(data, found, second=None, lasting=None):
     return edits_between(one, [(packet.stamp, packet.data) for packet in found.packets], theirs, lasting)
 
 
-def columns(packets):
+def columns(packets: Sequence[tuple[int, AnyBytes]]) -> tuple[list[int], list[int]]:
     """The time stamps and the tags of packets."""
     return [stamp for stamp, _ in packets], [ivf.tag_of(len(data), data[0] if data else 0) for _, data in packets]
 
 
-def durations_of(packets):
+def durations_of(packets: Sequence[tuple[int, AnyBytes]]) -> array[int]:
     """The durations of the packets of a file."""
     stamps, tags = columns(packets)
     return times.durations(stamps, tags, times.median_step(stamps, tags))
