@@ -1,7 +1,7 @@
 #!/usr/bin/env python3
 """Checks how the Python of this tree is written: Debian's black leaves each file as it is, no line has more than 120
-characters, mypy finds nothing in the modules whose types are whole, and a module of the package imports none of a
-higher layer. Then each check gets a file with a mistake, which it must find.
+characters, mypy finds nothing in the package, and a module of it imports none of a higher layer. Then each check gets
+a file with a mistake, which it must find.
 
 It prints what is wrong and ends with 1, or ends with 0. A line `skipped: ..` names a program that is not there.
 """
@@ -19,8 +19,6 @@ TOP = pathlib.Path(__file__).resolve().parent.parent
 CLIENT = TOP / "clients/python"
 WIDTH, LIMIT = 120, 900
 BLACK = ("black", "--check", "-q", "-l", str(WIDTH), "-t", "py39")
-# The modules of the package whose types are whole, which mypy reads strictly.
-TYPED = ("system.py", "errors.py", "base", "media", "session", "tools")
 # The folders and modules of the package, the lowest layer first.
 LAYERS = (
     ("system", "errors", "base"),
@@ -82,7 +80,7 @@ def long_lines(paths):
 
 
 def untyped(paths):
-    """What mypy finds in these modules."""
+    """What mypy finds in these modules, or in a package."""
     if not paths:
         return []
     with tempfile.TemporaryDirectory() as cache:
@@ -128,7 +126,7 @@ def main():
     ]
     for name, check, read, mistake in (
         ("black", unformatted, paths, UNFORMATTED),
-        ("mypy", untyped, [CLIENT / "wokureti" / module for module in TYPED], UNTYPED),
+        ("mypy", untyped, [CLIENT / "wokureti"], UNTYPED),
     ):
         if shutil.which(name):
             checks.append((check, read, mistake))

@@ -1,5 +1,7 @@
 """The command line of wokureti."""
 
+from __future__ import annotations
+
 import argparse
 import itertools
 import mmap
@@ -10,6 +12,7 @@ import sys
 import tempfile
 import threading
 import traceback
+from typing import TYPE_CHECKING, Callable, NoReturn, Optional, Sequence, Union
 
 from . import __version__, system
 from .errors import Ended, Failed, Lost, NoKeyFrame, NoSecond, NotIvf, Refused, sentence
@@ -19,6 +22,18 @@ from .media import containers, excerpts, ivf, muxing, sounds, webm
 from .calls import recordings
 from .session import convert, named
 from .tools import cat
+
+if TYPE_CHECKING:
+    # They are imported by the commands that need them.
+    from .base.progress import Stages
+    from .server.live import Options
+    from .session import exports
+    from .session.frames import Frame
+    from .session.session import Session
+    from .tools import coding, parts
+
+    Commands = argparse._SubParsersAction[argparse.ArgumentParser]
+    ScriptOf = Callable[[exports.Frames], str]
 
 ABOUT = """\
 Shows, edits, repairs and compares VP8 streams with the programs vp8serve and vp8list. The variables VP8SERVE and
@@ -42,20 +57,26 @@ STREAM = (
 )
 
 
-def stop(text):
+def stop(text: str) -> int:
     """Ends with a message and status 2."""
-    say(str(text))
+    say(text)
     return 2
 
 
 class Sources(argparse.Action):
     """Adds the streams of a list to those that were named."""
 
-    def __call__(self, parser, given, text, option=None):
-        given.source = [*given.source, *system.sources_of(text)]
+    def __call__(
+        self,
+        parser: argparse.ArgumentParser,
+        given: argparse.Namespace,
+        text: Union[str, Sequence[object], None],
+        option: Optional[str] = None,
+    ) -> None:
+        given.source = [*given.source, *system.sources_of(str(text))]
 
 
-def add_sources(parser):
+def add_sources(parser: argparse.ArgumentParser) -> None:
     """The arguments that name other streams."""
     parser.add_argument(
         "--source", action="append", default=[], metavar="B", help="another stream: source 1, 2, and so on"
@@ -69,7 +90,7 @@ def add_sources(parser):
     )
 
 
-def add_number(parser):
+def add_number(parser: argparse.ArgumentParser) -> None:
     """The argument that names a stream of a capture."""
     parser.add_argument(
         "--stream",
@@ -80,7 +101,7 @@ def add_number(parser):
     )
 
 
-def add_edits(parser):
+def add_edits(parser: argparse.ArgumentParser) -> None:
     """The arguments that name other streams, and edits."""
     add_sources(parser)
     add_number(parser)
@@ -94,7 +115,7 @@ def add_edits(parser):
     parser.add_argument("--tables", metavar="FILE", help="3012 bytes that replace the long tables of RFC 6386")
 
 
-def add_cat(commands):
+def add_cat(commands: Commands) -> None:
     parser = commands.add_parser(
         "cat",
         help="all frames as one YUV4MPEG2 text",
@@ -138,18 +159,18 @@ def add_cat(commands):
     parser.set_defaults(run=run_cat)
 
 
-def add_named(given):
+def add_named(given: argparse.Namespace) -> None:
     """Adds the sources that the list of edits names."""
     if given.edits is not None:
         given.source = named.with_named(given.source, given.edits)
 
 
-def opened(given, folder):
+def opened(given: argparse.Namespace, folder: str) -> Session:
     """The session of the arguments, with their edits and script. The output may be none of the inputs."""
     return opener(given, folder)()
 
 
-def opener(given, folder):
+def opener(given: argparse.Namespace, folder: str) -> Callable[[], Session]:
     """A function that opens such a session."""
     add_named(given)
     cat.check_output(given.out, [given.stream, *given.source, given.edits, given.tables])
@@ -159,7 +180,7 @@ def opener(given, folder):
     )
 
 
-def status_of(session, is_anyway):
+def status_of(session: Session, is_anyway: bool) -> int:
     """The exit status of a command that read the streams of a session: 1 if the file of one of them ends in the middle
     or is damaged, which is said.
     """
@@ -174,7 +195,7 @@ def status_of(session, is_anyway):
     return 0 if is_anyway else found
 
 
-def run_cat(given):
+def run_cat(given: argparse.Namespace) -> int:
     from .tools import paces
 
     program = programs.find("vp8serve")
@@ -201,12 +222,12 @@ def run_cat(given):
 
             logins = [login for words in given.sshlogin for login in words.split(",") if login]
 
-            def workers_of(session):
+            def workers_of(session: Session) -> parts.Workers:
                 return machines.workers_of(session, logins, given.remote, given.tables)
 
         else:
 
-            def workers_of(session):
+            def workers_of(session: Session) -> parts.Workers:
                 return cat.here(session, jobs, program, given.tables)
 
         runs = cat.size_runs(session)
@@ -225,7 +246,7 @@ def run_cat(given):
     return 1 if refusals else status
 
 
-def port(text):
+def port(text: str) -> int:
     """The number of a port, or 0 for a free one."""
     number = int(text)
     if not 0 <= number < 1 << 16:
@@ -233,9 +254,13 @@ def port(text):
     return number
 
 
-def add_served(parser, more="", **options):
-    """The arguments of a server."""
-    parser.add_argument("stream", metavar="IN", help=f"{STREAM}; /dev/null is an empty stream{more}", **options)
+def add_served(parser: argparse.ArgumentParser, more: str = "") -> None:
+    """The arguments of a server. With `more` about it IN may be missing."""
+    text = f"{STREAM}; /dev/null is an empty stream{more}"
+    if more:
+        parser.add_argument("stream", metavar="IN", help=text, nargs="?")
+    else:
+        parser.add_argument("stream", metavar="IN", help=text)
     add_sources(parser)
     add_number(parser)
     parser.add_argument("--cache", type=int, metavar="N", help="number of decoded states that are cached")
@@ -250,7 +275,7 @@ def add_served(parser, more="", **options):
     add_sound(parser)
 
 
-def add_constant(parser):
+def add_constant(parser: argparse.ArgumentParser) -> None:
     parser.add_argument(
         "--constant",
         action="store_true",
@@ -258,11 +283,11 @@ def add_constant(parser):
     )
 
 
-def add_replace(parser):
+def add_replace(parser: argparse.ArgumentParser) -> None:
     parser.add_argument("-y", dest="replace", action="store_true", help="replaces a file that is there")
 
 
-def add_sound(parser):
+def add_sound(parser: argparse.ArgumentParser) -> None:
     parser.add_argument(
         "--sound",
         choices=sounds.MODES,
@@ -273,13 +298,19 @@ def add_sound(parser):
     )
 
 
-def served(given, folder):
+def served(given: argparse.Namespace, folder: str) -> Options:
     """The options of a session."""
     stream, *sources = (convert.readable(path, folder) for path in [given.stream, *given.source])
-    return {"stream": stream, "sources": sources, "cache": given.cache, "tables": given.tables}
+    return {
+        "stream": stream,
+        "sources": sources,
+        "cache": given.cache,
+        "tables": given.tables,
+        "anyway": given.anyway,
+    }
 
 
-def add_open(commands):
+def add_open(commands: Commands) -> None:
     parser = commands.add_parser(
         "open",
         help="a page in the browser to look at a stream, edit it, compare and repair it",
@@ -290,9 +321,7 @@ def add_open(commands):
             " continues from there. Ctrl-C ends it."
         ),
     )
-    add_served(
-        parser, "; without it a page opens a file of the browser's dialog, or one that was open before", nargs="?"
-    )
+    add_served(parser, "; without it a page opens a file of the browser's dialog, or one that was open before")
     parser.add_argument(
         "--edits", metavar="FILE", help="the list of edits; next to IN, with the ending .edits, if missing"
     )
@@ -310,7 +339,7 @@ def add_open(commands):
     parser.set_defaults(run=run_open)
 
 
-def check_save(given):
+def check_save(given: argparse.Namespace) -> None:
     """The file that is saved to can be written, and is none of those that are only read."""
     if given.save is None:
         return
@@ -328,7 +357,7 @@ def check_save(given):
         )
 
 
-def run_open(given):
+def run_open(given: argparse.Namespace) -> int:
     from .page import opening
 
     if given.stream is None:
@@ -336,17 +365,16 @@ def run_open(given):
 
         if given.source or given.edits or given.save:
             raise Failed("--source, --edits and --save are of a stream: name it, as `wokureti open IN`")
-        return starting.run(given.port, lambda *door: not given.no_browser and opening.show(*door))
+        return starting.run(given.port, lambda url, folder: not given.no_browser and opening.show(url, folder))
     given.source = named.with_named(given.source, given.edits or f"{opening.stem_of(given.stream)}.edits")
     check_save(given)
     with rooms.Room() as folder:
-        options = served(given, folder)
         titles = [given.stream, *given.source]
         how = opening.How(given.edits, given.save, not given.no_pad, given.keep_stamps, given.sound)
-        return opening.run({**options, "anyway": given.anyway}, titles, how, given.port, not given.no_browser)
+        return opening.run(served(given, folder), titles, how, given.port, not given.no_browser)
 
 
-def add_serve(commands):
+def add_serve(commands: Commands) -> None:
     parser = commands.add_parser(
         "serve",
         help="the edited stream on a port, for players and editors",
@@ -367,17 +395,16 @@ def add_serve(commands):
     parser.set_defaults(run=run_serve)
 
 
-def run_serve(given):
+def run_serve(given: argparse.Namespace) -> int:
     from .server import serve
 
     add_named(given)
     check_save(given)
     with rooms.Room() as folder:
-        options = {**served(given, folder), "anyway": given.anyway}
-        return serve.run(options, given.edits, given.save, given.port, given)
+        return serve.run(served(given, folder), given.edits, given.save, given.port, given)
 
 
-def add_mount(commands):
+def add_mount(commands: Commands) -> None:
     parser = commands.add_parser(
         "mount",
         help="a folder in which the edited stream is a file of each kind, for editors that open a path",
@@ -406,7 +433,7 @@ def add_mount(commands):
     parser.set_defaults(run=run_mount)
 
 
-def run_mount(given):
+def run_mount(given: argparse.Namespace) -> int:
     from .tools import paces
     from .server import mount
     from .page import opened, opening
@@ -414,14 +441,14 @@ def run_mount(given):
     mount.fuse_module()
     add_named(given)
     with rooms.Room() as folder:
-        live = opened.Opened({**served(given, folder), "anyway": given.anyway}, given.edits)
+        live = opened.Opened(served(given, folder), given.edits)
         live.keeps_stamps, live.sound, live.is_constant = given.keep_stamps, given.sound, given.constant
         paces.warn(live.contents(), given.constant, live.notice)
         server = opening.server_of(live, given.port, [given.stream, *given.source]) if given.serve else None
         return mount.run(live, given.folder, given.others, server)
 
 
-def add_export_options(parser, script=False):
+def add_export_options(parser: argparse.ArgumentParser, script: bool = False) -> None:
     """The arguments of the commands that write the frames of a script as packets."""
     if script:
         add_edits(parser)
@@ -446,7 +473,7 @@ EXPORTED = (
 )
 
 
-def add_coding(parser):
+def add_coding(parser: argparse.ArgumentParser) -> None:
     """The arguments of frames that are coded again."""
     parser.add_argument(
         "--code-changed",
@@ -482,14 +509,14 @@ def add_coding(parser):
     )
 
 
-def decibels(text):
+def decibels(text: str) -> float:
     value = float(text)
     if not 20 <= value <= 60:
         raise argparse.ArgumentTypeError(f"{text} is not 20 to 60")
     return value
 
 
-def add_cut(commands):
+def add_cut(commands: Commands) -> None:
     parser = commands.add_parser(
         "cut",
         help="parts of a stream, at any frame, without coding again",
@@ -535,7 +562,7 @@ def add_cut(commands):
     parser.set_defaults(run=run_cut)
 
 
-def run_cut(given):
+def run_cut(given: argparse.Namespace) -> int:
     from .session import exports
 
     if given.cuts is not None:
@@ -555,7 +582,7 @@ def run_cut(given):
     return run_script(given, [given.stream], lambda frames: exports.cut_script(frames, parts))
 
 
-def run_cut_list(given):
+def run_cut_list(given: argparse.Namespace) -> int:
     """Cuts the parts of a list."""
     from .session import exports
     from .tools import cut_lists
@@ -569,7 +596,7 @@ def run_cut_list(given):
     return run_script(given, [given.stream], lambda frames: exports.cut_script(frames, parts))
 
 
-def add_join(commands):
+def add_join(commands: Commands) -> None:
     parser = commands.add_parser(
         "join",
         help="streams one after the other, without coding again",
@@ -581,7 +608,7 @@ def add_join(commands):
     parser.set_defaults(run=run_join)
 
 
-def run_join(given):
+def run_join(given: argparse.Namespace) -> int:
     from .session import exports
 
     with rooms.Room() as room:
@@ -600,7 +627,7 @@ def run_join(given):
         return run_script(given, streams, lambda frames: script, given.streams)
 
 
-def join_step(given, streams, path):
+def join_step(given: argparse.Namespace, streams: Sequence[str], path: str) -> str:
     """Joins some streams into a file that is joined with others: with their sound, if they have some and OUT has it."""
     from .session import exports
 
@@ -611,7 +638,7 @@ def join_step(given, streams, path):
     )
 
 
-def script_step(given, streams, script_of, path):
+def script_step(given: argparse.Namespace, streams: Sequence[str], script_of: ScriptOf, path: str) -> str:
     """Writes the frames of a script of some streams into a file that is joined with others, and returns its path."""
     has_sound = (
         muxing.ending_of(given.out) is not None
@@ -624,7 +651,7 @@ def script_step(given, streams, script_of, path):
     return out
 
 
-def add_export(commands):
+def add_export(commands: Commands) -> None:
     parser = commands.add_parser(
         "export",
         help="the frames of a script as packets, without coding again",
@@ -640,19 +667,21 @@ def add_export(commands):
     parser.set_defaults(run=run_export)
 
 
-def run_export(given):
+def run_export(given: argparse.Namespace) -> int:
     add_named(given)
     return run_script(given, [given.stream, *given.source], None)
 
 
-def check_replaced(given, *outs):
+def check_replaced(given: argparse.Namespace, *outs: Optional[str]) -> None:
     """A file that is there is replaced only if that was asked for."""
     for out in outs:
         if out is not None and out != "-" and not given.replace and os.path.isfile(out):
             raise Failed(f"{out} is there already: -y replaces it")
 
 
-def run_script(given, streams, script_of, inputs=()):
+def run_script(
+    given: argparse.Namespace, streams: Sequence[str], script_of: Optional[ScriptOf], inputs: Sequence[str] = ()
+) -> int:
     """Writes OUT of the frames of a script, which is made of the frames of the streams, or that of the arguments."""
     from .base import progress
     from .session import exports
@@ -682,7 +711,7 @@ def run_script(given, streams, script_of, inputs=()):
     return max(status, getattr(given, "status", 0))
 
 
-def add_fades(given, session):
+def add_fades(given: argparse.Namespace, session: Session) -> None:
     """Fades the beginning and the end of what the session serves, if that was asked for."""
     from .session import exports
 
@@ -700,7 +729,9 @@ def add_fades(given, session):
     session.request(f"script {exports.fade_script(contents.script, count, lengths)}")
 
 
-def export_session(given, session, out, room):
+def export_session(
+    given: argparse.Namespace, session: Session, out: exports.Output, room: str
+) -> tuple[exports.Told, Optional[coding.Coded]]:
     """Exports what a session serves: what was written, and what was coded again, None if nothing was."""
     from .session import exports
     from .tools import coding
@@ -720,7 +751,7 @@ def export_session(given, session, out, room):
             raise Failed(f"{name} is together with --code-changed, --fade-in, --fade-out or --lead coded")
         return exports.export(session.edits.contents(), list(session.edits), out, room), None
 
-    def open_session(path):
+    def open_session(path: str) -> Session:
         return cat.open_session(path, [], None, None, None, programs.find("vp8serve"))
 
     least = coding.USUAL if given.psnr is None else given.psnr
@@ -731,7 +762,7 @@ def export_session(given, session, out, room):
     )
 
 
-def add_listed(parser):
+def add_listed(parser: argparse.ArgumentParser) -> None:
     add_number(parser)
     parser.add_argument("stream", metavar="IN", help=STREAM)
     parser.add_argument(
@@ -739,7 +770,7 @@ def add_listed(parser):
     )
 
 
-def add_list(commands):
+def add_list(commands: Commands) -> None:
     parser = commands.add_parser(
         "list",
         help="what each packet is",
@@ -752,7 +783,7 @@ def add_list(commands):
     parser.set_defaults(run=lambda given: run_lister(given, []))
 
 
-def add_check(commands):
+def add_check(commands: Commands) -> None:
     parser = commands.add_parser(
         "check",
         help="the damage of a stream",
@@ -765,7 +796,7 @@ def add_check(commands):
     parser.set_defaults(run=lambda given: run_lister(given, ["--check"]))
 
 
-def run_lister(given, words):
+def run_lister(given: argparse.Namespace, words: Sequence[str]) -> int:
     """Runs vp8list on the packets of IN. What is said of the file is on standard error, and what is missing of a
     capture is among the findings.
     """
@@ -785,7 +816,7 @@ def run_lister(given, words):
         return max(done.returncode, int(bool(damage)))
 
 
-def add_repair(commands):
+def add_repair(commands: Commands) -> None:
     parser = commands.add_parser(
         "repair",
         help="finds the damage of a stream and repairs it",
@@ -827,7 +858,7 @@ def add_repair(commands):
     parser.set_defaults(run=run_repair)
 
 
-def run_repair(given):
+def run_repair(given: argparse.Namespace) -> int:
     from .base import progress
     from .media import ivf, looks
     from .tools import repair
@@ -851,7 +882,7 @@ def run_repair(given):
             else:
                 path, searched = convert.as_ivf(given.stream, folder, watch=stages), None
             other = second_of(given.second, folder, stages) if given.second and not joins else None
-            data, second = (path and read_all(path) for path in (path, other))
+            data, second = read_all(path), None if other is None else read_all(other)
             tools = (programs.find("vp8serve"), programs.find("vp8list"))
             found = repair.repair(data, *tools, second, given.tables, steps, stages.stage, as_file(path), searched)
             packets = [(packet.stamp, packet.data) for packet in found.packets]
@@ -872,7 +903,7 @@ def run_repair(given):
     return 2 if found.left else 1 if found.changes or containers.damage_of(path) else 0
 
 
-def second_of(path, folder, stages):
+def second_of(path: str, folder: str, stages: Stages) -> str:
     """The second recording as IVF. Of a capture these are the frames that are whole."""
     return (
         recordings.whole_frames(path, os.path.join(folder, "second.ivf"))
@@ -881,7 +912,9 @@ def second_of(path, folder, stages):
     )
 
 
-def write_repaired(given, path, head, packets):
+def write_repaired(
+    given: argparse.Namespace, path: str, head: ivf.Head, packets: Sequence[tuple[int, checks.AnyBytes]]
+) -> None:
     """Writes OUT: an IVF file, or with the sound of IN a WebM or Matroska file."""
     if muxing.ending_of(given.out) is None:
         files.write_whole(given.out, ivf.pieces(head, len(packets), packets))
@@ -894,13 +927,13 @@ def write_repaired(given, path, head, packets):
         excerpts.save_file(given.out, between, containers.media_of(path), spans, given.sound, say)
 
 
-def as_file(path):
+def as_file(path: str) -> Optional[str]:
     """The path for another program, or None if that would find another file there."""
     is_here = system.is_device(path) or not os.path.isfile(path)
     return None if is_here else checks.path(path)
 
 
-def read_all(path):
+def read_all(path: str) -> files.Mapped:
     """The bytes of a file. A large one is mapped: its pages are read when they are needed, and need not stay in
     memory.
     """
@@ -912,7 +945,7 @@ def read_all(path):
         return mmap.mmap(file.fileno(), 0, access=mmap.ACCESS_READ)
 
 
-def salvage_count(data):
+def salvage_count(data: files.Mapped) -> Sequence[object]:
     """The packets that vp8serve reads of a file."""
     from .media import salvage
 
@@ -920,7 +953,7 @@ def salvage_count(data):
     return found[1] if found else []
 
 
-def add_compare(commands):
+def add_compare(commands: Commands) -> None:
     parser = commands.add_parser(
         "compare",
         help="where two streams of frames part",
@@ -960,7 +993,7 @@ def add_compare(commands):
     parser.set_defaults(run=run_compare)
 
 
-def run_decoder(given):
+def run_decoder(given: argparse.Namespace) -> int:
     from .tools import decoders
 
     found = []
@@ -983,7 +1016,7 @@ def run_decoder(given):
     return 0 if same == len(found) else 1
 
 
-def run_compare(given):
+def run_compare(given: argparse.Namespace) -> int:
     from .tools import compare
 
     if given.decoder is not None:
@@ -1003,7 +1036,7 @@ def run_compare(given):
     return 0 if found.is_same else 1
 
 
-def add_png(commands):
+def add_png(commands: Commands) -> None:
     parser = commands.add_parser(
         "png",
         help="a frame as PNG",
@@ -1020,7 +1053,7 @@ def add_png(commands):
     parser.set_defaults(run=run_png)
 
 
-def run_png(given):
+def run_png(given: argparse.Namespace) -> int:
     from .media import png
 
     with rooms.Room() as folder:
@@ -1032,7 +1065,7 @@ def run_png(given):
     return status
 
 
-def frame_of(session, given):
+def frame_of(session: Session, given: argparse.Namespace) -> Frame:
     """The frame that is asked for."""
     try:
         return session.frame(given.number)
@@ -1048,12 +1081,12 @@ def frame_of(session, given):
 class Version(argparse.Action):
     """`--version`: a line with the version, and one with what is proved."""
 
-    def __call__(self, parser, *_):
+    def __call__(self, parser: argparse.ArgumentParser, *_: object) -> NoReturn:
         print(f"wokureti {__version__}", versions.proof(), sep="\n", flush=True)
         parser.exit()
 
 
-def run_compiling(words):
+def run_compiling(words: Sequence[str]) -> int:
     """Prints the options of a compiler for the C library."""
     from .session import library
 
@@ -1062,7 +1095,7 @@ def run_compiling(words):
     return 0
 
 
-def parser_of():
+def parser_of() -> argparse.ArgumentParser:
     parser = argparse.ArgumentParser(prog="wokureti", description=ABOUT)
     for name, what in (("--cflags", "where its header is"), ("--libs", "to link with it")):
         parser.add_argument(
@@ -1085,7 +1118,7 @@ def parser_of():
     return parser
 
 
-def main(words=None):
+def main(words: Optional[Sequence[str]] = None) -> int:
     """Runs a command line, and returns the exit status."""
     system.prepare_output()
     words = sys.argv[1:] if words is None else words
@@ -1099,7 +1132,8 @@ def main(words=None):
     Reading.is_on = True
     rooms.sweep()
     try:
-        return given.run(given)
+        status: int = given.run(given)
+        return status
     except KeyboardInterrupt:
         return 130
     except (Ended, Lost, Refused, OSError, ValueError) as error:
@@ -1112,7 +1146,7 @@ def main(words=None):
         return mistake(error)
 
 
-def where_full(error):
+def where_full(error: BaseException) -> str:
     """What a message says more if there is no room, and no file is named: it is that of the folder for temporary
     files.
     """
@@ -1121,12 +1155,12 @@ def where_full(error):
     return f" in the folder for temporary files, {tempfile.gettempdir()}: name another one in the variable TMPDIR"
 
 
-def end_by_signals():
+def end_by_signals() -> None:
     """A terminal that closes, or a request to end, ends a command as Ctrl-C does: what is to be saved is saved, and no
     folder is left.
     """
 
-    def end(number, frame):
+    def end(number: int, frame: object) -> NoReturn:
         # What is done at the end is not ended by a second one.
         for one in system.ENDS:
             signal.signal(one, signal.SIG_IGN)
@@ -1139,7 +1173,7 @@ def end_by_signals():
                 signal.signal(number, end)
 
 
-def mistake(error):
+def mistake(error: BaseException) -> int:
     """Says in one line what went wrong, and where the rest of it is."""
     text = "".join(traceback.format_exception(type(error), error, error.__traceback__))
     try:

@@ -315,12 +315,13 @@ def at_fork(after_in_child: Callable[[], None]) -> None:
         os.register_at_fork(after_in_child=after_in_child)
 
 
-def started_apart() -> dict[str, int]:
-    """How a command is started that `interrupt` ends."""
-    return {"creationflags": getattr(subprocess, "CREATE_NEW_PROCESS_GROUP")} if IS_WINDOWS else {}
+def started_apart() -> int:
+    """The flags with which a command is started that `interrupt` ends."""
+    flags: int = getattr(subprocess, "CREATE_NEW_PROCESS_GROUP", 0)
+    return flags
 
 
-def interrupt(process: subprocess.Popen[bytes]) -> None:
+def interrupt(process: Union[subprocess.Popen[bytes], subprocess.Popen[str]]) -> None:
     """Ends a command as Ctrl-C does. Windows refuses that without a console."""
     with contextlib.suppress(OSError):
         process.send_signal(getattr(signal, "CTRL_BREAK_EVENT") if IS_WINDOWS else signal.SIGINT)

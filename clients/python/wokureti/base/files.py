@@ -13,8 +13,9 @@ from typing import IO, Iterable, Iterator, Optional, Union
 from .. import system
 from .checks import AnyBytes, AnyPath
 
-# The bytes of a file, read or mapped.
+# The bytes of a file, read or mapped; and of one that is read whole or mapped, in which bytes are searched.
 Data = Union[AnyBytes, mmap.mmap]
+Mapped = Union[bytes, mmap.mmap]
 
 # What a write that finds no room fails with.
 FULL = (errno.ENOSPC, errno.EDQUOT, errno.EFBIG)

@@ -7,9 +7,13 @@ from __future__ import annotations
 
 import json
 import struct
-from typing import NamedTuple, Optional
+from typing import Iterator, Literal, NamedTuple, Optional, Tuple, Union
 
 from ..errors import NotRead
+from ..base.checks import AnyBytes
+
+# The addresses and ports of a datagram: none where a capture does not have them.
+Flow = Union[Tuple[()], Tuple[bytes, int, int]]
 
 # The first bytes of a pcap file, and how it is read: the order of bytes, and that times are in nanoseconds does not
 # matter here.
@@ -21,7 +25,8 @@ MOST_RECORD, MOST_BLOCK = 1 << 18, 1 << 24
 CHAIN = 3
 # Seconds between two records, at most, where reading goes on.
 MOST_SECONDS = 1 << 17
-UDP, FRAGMENTS = 17, 44
+UDP = 17
+FRAGMENTS: Literal[44] = 44
 # Headers of IPv6 that come before that of UDP.
 OPTIONS = (0, 43, 60)
 IPV4, IPV6 = 0x0800, 0x86DD
@@ -33,23 +38,25 @@ class Datagram(NamedTuple):
     """The payload of a UDP packet, from where to where it was sent, and whether its checksum is right: None if it has
     none. A payload that was not captured to its end is None."""
 
-    flow: tuple
-    data: object
-    is_right: object = None
+    flow: Flow
+    data: Optional[AnyBytes]
+    is_right: Optional[bool] = None
 
 
 class Capture:
     """A capture: its kind, its datagrams in their order, and what was left out of it."""
 
-    def __init__(self, kind):
-        self.kind, self.datagrams = kind, []
+    def __init__(self, kind: str) -> None:
+        self.kind = kind
+        self.datagrams: list[Datagram] = []
         # Packets that were not captured to their end, parts of datagrams, and packets of links that are not read here.
         self.short = self.fragments = self.other_links = 0
-        self.link = None
+        self.link: Optional[int] = None
         # Where the capture is damaged, and the byte after which it ends in the middle of a record.
-        self.gaps, self.end = [], None
+        self.gaps: list[tuple[int, int]] = []
+        self.end: Optional[int] = None
 
-    def damage(self, name):
+    def damage(self, name: str) -> list[str]:
         """Sentences about the damage of the capture."""
         found = []
         if self.gaps:
@@ -84,7 +91,7 @@ def kind_of(head: bytes) -> Optional[str]:
     return "Janus recording" if head[:8] in JANUS else None
 
 
-def read(data):
+def read(data: AnyBytes) -> Capture:
     """The capture of these bytes. `NotRead` if it is of a link that is not read here, or of no video."""
     kind = kind_of(bytes(data[:16]))
     if kind is None:
@@ -101,7 +108,7 @@ def read(data):
 # The files
 
 
-def resume(capture, place, others):
+def resume(capture: Capture, place: int, others: Iterator[int]) -> Optional[int]:
     """The first of the other places, from which reading goes on after damage at a place; None if there is none, and
     then the capture ends there.
     """
@@ -113,9 +120,10 @@ def resume(capture, place, others):
     return found
 
 
-def read_pcap(data, capture):
+def read_pcap(data: AnyBytes, capture: Capture) -> None:
     """pcap: a header of 24 bytes, and for each packet a record of 16 and its bytes."""
-    order, size, place, last = PCAP[bytes(data[:4])], len(data), 24, None
+    order, size, place = PCAP[bytes(data[:4])], len(data), 24
+    last: Optional[int] = None
     if size < place:
         capture.end = size
         return
@@ -124,11 +132,11 @@ def read_pcap(data, capture):
     while place < size:
         found = pcap_record(data, record, place, last)
         if found is None:
-            place = resume(
-                capture, place, (at for at in range(place + 1, size - record.size) if follows(data, record, at, last))
-            )
-            if place is None:
+            others = (at for at in range(place + 1, size - record.size) if follows(data, record, at, last))
+            next_place = resume(capture, place, others)
+            if next_place is None:
                 return
+            place = next_place
             continue
         last, captured, length = found
         start = place + record.size
@@ -136,7 +144,9 @@ def read_pcap(data, capture):
         place = start + captured
 
 
-def pcap_record(data, record, place, last):
+def pcap_record(
+    data: AnyBytes, record: struct.Struct, place: int, last: Optional[int]
+) -> Optional[tuple[int, int, int]]:
     """The second, the captured bytes and the length of a packet whose record is at a place; None if it is none, or the
     file ends in it.
     """
@@ -150,7 +160,7 @@ def pcap_record(data, record, place, last):
     return second, captured, length
 
 
-def follows(data, record, place, last):
+def follows(data: AnyBytes, record: struct.Struct, place: int, last: Optional[int]) -> bool:
     """Whether records follow each other from a place on, or all up to the end."""
     for _ in range(CHAIN):
         if place == len(data):
@@ -162,38 +172,41 @@ def follows(data, record, place, last):
     return True
 
 
-def read_pcapng(data, capture):
+def read_pcapng(data: AnyBytes, capture: Capture) -> None:
     """pcapng: blocks of a type, a length, what they have, and the length again."""
-    order, links, size, place = "<", [], len(data), 0
+    order, size, place = "<", len(data), 0
+    links: list[tuple[int, int]] = []
     while place < size:
         found = block_at(data, order, place)
         if found is None:
-            place = resume(
-                capture, place, (at for at in range(place + 4 - place % 4, size - 12, 4) if is_chain(data, order, at))
-            )
-            if place is None:
+            others = (at for at in range(place + 4 - place % 4, size - 12, 4) if is_chain(data, order, at))
+            next_place = resume(capture, place, others)
+            if next_place is None:
                 return
+            place = next_place
             continue
         order, kind, start, end = found
         if kind == 0x0A0D0D0A:
             links = []
         elif kind == 1 and end - start >= 8:
-            links.append(struct.unpack_from(order + "HxxI", data, start))
+            link, snap = struct.unpack_from(order + "HxxI", data, start)
+            links.append((link, snap))
         else:
             take_block(capture, data[start:end], kind, order, links)
         place = end + 4
 
 
-def block_at(data, order, place):
+def block_at(data: AnyBytes, order: str, place: int) -> Optional[tuple[str, int, int, int]]:
     """The order of bytes, the type of the block at a place, and where its content begins and ends; None if there is
     none.
     """
     if place + 12 > len(data):
         return None
     if data[place : place + 4] == PCAPNG:
-        order = {b"\x4d\x3c\x2b\x1a": "<", b"\x1a\x2b\x3c\x4d": ">"}.get(bytes(data[place + 8 : place + 12]))
-        if order is None:
+        found = {b"\x4d\x3c\x2b\x1a": "<", b"\x1a\x2b\x3c\x4d": ">"}.get(bytes(data[place + 8 : place + 12]))
+        if found is None:
             return None
+        order = found
     kind, length = struct.unpack_from(order + "II", data, place)
     end = place + length
     if (
@@ -207,7 +220,7 @@ def block_at(data, order, place):
     return order, kind, place + 8, end - 4
 
 
-def is_chain(data, order, place):
+def is_chain(data: AnyBytes, order: str, place: int) -> bool:
     for _ in range(CHAIN):
         if place == len(data):
             return True
@@ -218,7 +231,7 @@ def is_chain(data, order, place):
     return True
 
 
-def take_block(capture, block, kind, order, links):
+def take_block(capture: Capture, block: AnyBytes, kind: int, order: str, links: list[tuple[int, int]]) -> None:
     """Takes the packet of a block, if it has one: an enhanced one (6), an old one (2) or a simple one (3)."""
     if kind in (2, 6) and len(block) >= 20:
         at = struct.unpack_from(order + ("I" if kind == 6 else "H"), block, 0)[0]
@@ -236,7 +249,7 @@ def take_block(capture, block, kind, order, links):
         capture.short += 1
 
 
-def read_rtpdump(data, capture):
+def read_rtpdump(data: AnyBytes, capture: Capture) -> None:
     """rtpdump: a line, a header of 16 bytes, and for each packet 8 bytes, with its length with these and that of the
     packet, which is 0 for RTCP.
     """
@@ -255,7 +268,7 @@ def read_rtpdump(data, capture):
         capture.end = min(place, size)
 
 
-def read_janus(data, capture):
+def read_janus(data: AnyBytes, capture: Capture) -> None:
     """Janus: 8 bytes, a length and a text about the recording; then for each packet 8 bytes, its length and the
     packet.
     """
@@ -274,7 +287,7 @@ def read_janus(data, capture):
         capture.end = place
 
 
-def check_janus(text):
+def check_janus(text: bytes) -> None:
     """`NotRead` if a recording is of another kind or codec."""
     if text in (b"audio", b"data"):
         raise NotRead(f"it is a recording of {text.decode()}, and has no video")
@@ -295,7 +308,7 @@ def check_janus(text):
 # The packets of a network
 
 
-def take(capture, link, packet, is_short):
+def take(capture: Capture, link: int, packet: AnyBytes, is_short: bool) -> None:
     """Takes the datagram of a packet of a link, if it is one of UDP."""
     found = internet(link, packet)
     if found is None:
@@ -304,14 +317,14 @@ def take(capture, link, packet, is_short):
         return
     version, packet = found
     parts = parts_of(version, packet)
-    if parts == FRAGMENTS:
+    if isinstance(parts, int):
         capture.fragments += 1
     elif parts is not None:
         addresses, segment, length = parts
         add(capture, addresses, segment, length, is_short)
 
 
-def add(capture, addresses, segment, length, is_short):
+def add(capture: Capture, addresses: bytes, segment: AnyBytes, length: int, is_short: bool) -> None:
     """Adds the datagram of a UDP segment, which has `length` bytes by the header of IP."""
     if len(segment) < 8:
         capture.short += 1
@@ -327,7 +340,7 @@ def add(capture, addresses, segment, length, is_short):
     capture.datagrams.append(Datagram(flow, segment[8:], is_right))
 
 
-def is_sum_right(addresses, segment):
+def is_sum_right(addresses: bytes, segment: AnyBytes) -> bool:
     """Whether the checksum of a segment is right (RFC 768): the sum of its words, and of those of the addresses, in
     ones' complement, is 0.
     """
@@ -337,7 +350,7 @@ def is_sum_right(addresses, segment):
     return total % 0xFFFF == 0
 
 
-def internet(link, packet):
+def internet(link: int, packet: AnyBytes) -> Optional[tuple[Optional[int], AnyBytes]]:
     """The version of IP and the packet of IP in a packet of a link; (None, packet) for another protocol. None if the
     link is not read here.
     """
@@ -354,11 +367,11 @@ def internet(link, packet):
     return None
 
 
-def word(packet, place):
+def word(packet: AnyBytes, place: int) -> int:
     return packet[place] << 8 | packet[place + 1] if place + 2 <= len(packet) else 0
 
 
-def ethernet(packet, place):
+def ethernet(packet: AnyBytes, place: int) -> tuple[Optional[int], AnyBytes]:
     """The same of a packet of Ethernet whose type is at a place: tags of virtual networks, and PPPoE, may come before
     IP.
     """
@@ -371,11 +384,11 @@ def ethernet(packet, place):
     return by_type(kind, packet[place + 2 :])
 
 
-def by_type(kind, packet):
-    return {IPV4: 4, IPV6: 6}.get(kind), packet
+def by_type(kind: Optional[int], packet: AnyBytes) -> tuple[Optional[int], AnyBytes]:
+    return None if kind is None else {IPV4: 4, IPV6: 6}.get(kind), packet
 
 
-def parts_of(version, packet):
+def parts_of(version: Optional[int], packet: AnyBytes) -> Union[Literal[44], tuple[bytes, AnyBytes, int], None]:
     """The addresses, the segment and its length by the header, of a packet of UDP; FRAGMENTS for a part of one; None
     for anything else.
     """

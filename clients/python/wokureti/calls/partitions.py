@@ -2,18 +2,20 @@
 6386, section 9.5).
 """
 
+from __future__ import annotations
+
 HEAD, KEY_HEAD = 3, 10
 
 
 class Bits:
     """The Boolean decoder of section 7, with zeros after the end, for flags and numbers of a header."""
 
-    def __init__(self, data):
+    def __init__(self, data: bytes) -> None:
         self.data, self.place = data, 2
         self.value = int.from_bytes((data[:2] + b"\0\0")[:2], "big")
         self.range, self.shifted = 255, 0
 
-    def flag(self):
+    def flag(self) -> bool:
         split = 1 + ((self.range - 1) * 128 >> 8)
         big = split << 8
         bit = self.value >= big
@@ -30,18 +32,18 @@ class Bits:
                 self.place += 1
         return bit
 
-    def number(self, count):
+    def number(self, count: int) -> int:
         value = 0
         for _ in range(count):
             value = 2 * value + self.flag()
         return value
 
-    def optional(self, count):
+    def optional(self, count: int) -> None:
         if self.flag():
             self.number(count)
 
 
-def count_of(data):
+def count_of(data: bytes) -> int:
     """The number of token partitions of a packet whose first partition is whole (sections 9.2 to 9.5)."""
     is_key = not data[0] & 1
     bits = Bits(data[KEY_HEAD if is_key else HEAD :])
@@ -64,7 +66,7 @@ def count_of(data):
     return 1 << bits.number(2)
 
 
-def completed(data):
+def completed(data: bytes) -> bytes:
     """The bytes of a frame that was cut after its first partition, with zeros up to where its last token partition
     begins: a decoder reads zeros after the end of each partition anyway."""
     first = (data[0] | data[1] << 8 | data[2] << 16) >> 5

@@ -5,7 +5,7 @@ from __future__ import annotations
 import json
 import mmap
 import os
-from typing import Any, Callable, NamedTuple, Optional
+from typing import Callable, Dict, List, NamedTuple, Optional, Protocol, Sequence, Tuple, TypeVar, Union
 
 from ..errors import NotRead
 from ..base.checks import AnyPath
@@ -14,7 +14,7 @@ from ..media import ivf
 from . import captures, partitions, rtp
 
 # The number of the stream of a capture that is read, from 1, or None: the one with the most bytes.
-chosen = None
+chosen: Optional[int] = None
 # Lines about single frames that are said, at most.
 MOST_LINES = 12
 # Pictures between two frames that the numbers of pictures are believed for.
@@ -25,10 +25,10 @@ class Choice(NamedTuple):
     """A stream of a capture: its number, from 1, its packets in order, its frames, and sentences about the capture."""
 
     number: int
-    stream: object
-    packets: list
-    frames: list
-    damage: list
+    stream: rtp.Stream
+    packets: List[rtp.Packet]
+    frames: List[rtp.Frame]
+    damage: List[str]
 
 
 class Missing(NamedTuple):
@@ -38,10 +38,10 @@ class Missing(NamedTuple):
 
     kind: str
     packet: int
-    ranges: tuple = ()
-    count: int = 0
+    ranges: Tuple[rtp.Range, ...] = ()
+    count: int = 0  # type: ignore[assignment]  # It is not the method of a tuple.
 
-    def text(self):
+    def text(self) -> str:
         ranges = ", ".join(map(range_text, self.ranges))
         if self.kind == "cut_off":
             return f"packet {self.packet} is cut off: RTP packets {ranges} are missing"
@@ -54,9 +54,9 @@ class Missing(NamedTuple):
             f" {self.packet} {'are' if self.count != 1 else 'is'} missing, by the numbers of the pictures"
         )
 
-    def json(self):
+    def json(self) -> str:
         """The finding as vp8list's are."""
-        facts = (
+        facts: dict[str, object] = (
             {"count": self.count}
             if self.kind == "lost_pictures"
             else {"missing": [[number % 65536 for number in pair] for pair in self.ranges]}
@@ -71,14 +71,14 @@ class Call(NamedTuple):
     it, and all that is missing.
     """
 
-    head: object
-    frames: list
-    after_gap: list
-    missing: list
+    head: ivf.Head
+    frames: List[rtp.Frame]
+    after_gap: List[bool]
+    missing: List[Missing]
 
 
 # What is missing of the captures that were read, by the path of the IVF file.
-missing = {}
+missing: Dict[Union[str, bytes], List[Missing]] = {}
 
 
 def is_capture(path: AnyPath) -> bool:
@@ -89,7 +89,7 @@ def is_capture(path: AnyPath) -> bool:
         return captures.kind_of(file.read(16)) is not None
 
 
-def load(path):
+def load(path: AnyPath) -> memoryview:
     """The bytes of a file, mapped if there are any."""
     with open(path, "rb") as file:
         if os.fstat(file.fileno()).st_size == 0:
@@ -97,7 +97,7 @@ def load(path):
         return memoryview(mmap.mmap(file.fileno(), 0, access=mmap.ACCESS_READ))
 
 
-def choose(path, name, number=None, is_quiet=True):
+def choose(path: AnyPath, name: str, number: Optional[int] = None, is_quiet: bool = True) -> Choice:
     """The stream of VP8 of a capture: the one of this number, or that with the most bytes. `NotRead` with a sentence if
     there is none.
     """
@@ -130,11 +130,11 @@ def choose(path, name, number=None, is_quiet=True):
     return Choice(taken, stream, packets, rtp.frames_of(packets), capture.damage(name))
 
 
-def streams_text(count):
+def streams_text(count: int) -> str:
     return f"{count} stream{'s' * (count != 1)}"
 
 
-def stream_text(stream, packets):
+def stream_text(stream: rtp.Stream, packets: Sequence[rtp.Packet]) -> str:
     """What is said of a stream: source, packets, how many are lost, size and seconds."""
     first, last = packets[0], packets[-1]
     lost = last.sequence - first.sequence + 1 - len(packets)
@@ -151,9 +151,13 @@ def stream_text(stream, packets):
     )
 
 
-def call_of(frames):
+def call_of(frames: Sequence[rtp.Frame]) -> Call:
     """The frames that can be decoded, and what is missing."""
-    kept, after_gap, found, is_after, before = [], [], [], False, None
+    kept: list[rtp.Frame] = []
+    after_gap: list[bool] = []
+    found: list[Missing] = []
+    before: Optional[rtp.Frame] = None
+    is_after = False
     for frame in frames:
         hole = hole_between(before, frame, len(kept)) if before is not None else None
         if hole is not None:
@@ -173,7 +177,7 @@ def call_of(frames):
     return Call(ivf.Head(*size, rtp.RATE, 1), kept, after_gap, found)
 
 
-def hole_between(before, after, packet):
+def hole_between(before: rtp.Frame, after: rtp.Frame, packet: int) -> Optional[Missing]:
     """What is missing between two frames, or None: pictures by their numbers, else packets that are of neither."""
     is_hole = after.has_beginning and after.first > before.last + 1 and before.is_whole
     count = rtp.lost_between(before, after) or 0
@@ -182,13 +186,13 @@ def hole_between(before, after, packet):
     return Missing("lost_packets", packet, ((before.last + 1, after.first - 1),)) if is_hole and not count else None
 
 
-def range_text(pair):
+def range_text(pair: rtp.Range) -> str:
     """A range of sequence numbers, as RTP has them, of 16 bits."""
     first, last = (number % 65536 for number in pair)
     return str(first) if first == last else f"{first} to {last}"
 
 
-def packets_of(call):
+def packets_of(call: Call) -> list[tuple[int, bytes]]:
     """The packets of a call as pairs of a time stamp, from that of the first frame on, and bytes."""
     start = min((frame.time for frame in call.frames), default=0)
     return [
@@ -210,7 +214,7 @@ def read(path: AnyPath, out: AnyPath, name: str, is_quiet: bool) -> list[str]:
     return damage_of(name, choice, call)
 
 
-def damage_of(name, choice, call):
+def damage_of(name: str, choice: Choice, call: Call) -> list[str]:
     """Sentences about what is missing of a stream."""
     found = list(choice.damage)
     if call.missing:
@@ -231,6 +235,19 @@ def damage_of(name, choice, call):
     return found
 
 
+Packet = TypeVar("Packet")
+
+
+class Taker(Protocol[Packet]):
+    """What gets the packets of a capture: a `Repair`."""
+
+    head: ivf.Head
+    packets: List[Packet]
+
+    def say(self, text: str, changed: bool = True) -> None:
+        ...
+
+
 class Searched:
     """The frames of a capture for `wokureti repair`, with those of a second capture of the same call if there is
     one.
@@ -242,13 +259,14 @@ class Searched:
         choice = choose(path, name, is_quiet=False)
         frames, self.said = choice.frames, []
         if second is not None:
-            other = choose(second, second_name, number=None if chosen is None else chosen, is_quiet=False)
+            other_name = os.fsdecode(second if second_name is None else second_name)
+            other = choose(second, other_name, number=None if chosen is None else chosen, is_quiet=False)
             before = sum(frame.is_whole for frame in frames)
             merged = rtp.merge(choice.packets, other.packets)
             frames = rtp.frames_of(merged.packets)
             after = sum(frame.is_whole for frame in frames)
             self.said.append(
-                f"{merged.taken} packets of RTP of {second_name} taken: {after} frames are whole, {before} were"
+                f"{merged.taken} packets of RTP of {other_name} taken: {after} frames are whole, {before} were"
             )
             if merged.others:
                 self.said.append(f"{merged.others} packets of RTP differ there and are left")
@@ -263,20 +281,23 @@ class Searched:
         with open(out, "wb") as file:
             file.writelines(ivf.pieces(self.call.head, len(packets), packets))
 
-    def give(self, found: Any, packet: Callable[..., Any]) -> None:
+    def give(self, found: Taker[Packet], packet: Callable[[int, bytes, bool, bool, bool], Packet]) -> None:
         """Gives a `Repair` its packets, each made by `packet`, and says what is missing."""
         found.head = self.call.head
         after = [*self.call.after_gap[1:], False]
         pairs = packets_of(self.call)
         cut = [not frame.is_whole for frame in self.call.frames]
-        found.packets = [packet(*pair, *facts) for pair, *facts in zip(pairs, after, self.call.after_gap, cut)]
+        found.packets = [
+            packet(stamp, data, before_gap, after_gap, is_cut)
+            for (stamp, data), before_gap, after_gap, is_cut in zip(pairs, after, self.call.after_gap, cut)
+        ]
         for text in self.said:
             found.say(text, self.changed)
         for text in [*self.damage, *(one.text() for one in self.call.missing)]:
             found.say(text)
 
 
-def whole_frames(path, out):
+def whole_frames(path: AnyPath, out: str) -> str:
     """Writes the frames of a capture that are whole as an IVF file, and returns its path."""
     choice = choose(path, os.fsdecode(path))
     call = call_of([frame for frame in choice.frames if frame.is_whole])

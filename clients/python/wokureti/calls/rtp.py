@@ -1,11 +1,24 @@
 """RTP packets (RFC 3550) that carry VP8 (RFC 7741): the streams of a capture, and their frames."""
 
+from __future__ import annotations
+
 import bisect
-from typing import NamedTuple
+from typing import Dict, Iterable, List, NamedTuple, Optional, Sequence, Tuple
 
 from ..errors import NotRead
+from ..base.checks import AnyBytes
+from .captures import Capture
 
-
+# Sequence numbers from one to another.
+Range = Tuple[int, int]
+# What a payload descriptor says, and a packet of a stream as RTP has it: number, time stamp, marker and payload.
+Parts = Tuple[bool, int, Optional[int], Optional[int], Optional[int], bool]
+Raw = Tuple[int, int, bool, AnyBytes]
+# The difference of the numbers of pictures and of base layers of two packets.
+Shift = Tuple[Optional[int], Optional[int]]
+# A packet that is in two captures: its sequence number in the second, and the differences of sequence numbers, time
+# stamps and pictures.
+Pair = Tuple[int, int, int, Shift]
 # Ticks a second of the time stamps.
 RATE = 90000
 # Payload types of RTP that are RTCP where both use one port (RFC 5761), with the bit of the marker.
@@ -45,27 +58,28 @@ class Packet(NamedTuple):
     time: int
     is_last: bool
     begins: bool
-    picture: object
-    base: object
-    layer: object
+    picture: Optional[int]
+    base: Optional[int]
+    layer: Optional[int]
     is_wide: bool
     data: bytes
 
 
 # What a packet of padding alone has in place of a descriptor.
-NO_PART = (False, 0, None, None, None, False)
+NO_PART: Parts = (False, 0, None, None, None, False)
 
 
 class Stream:
     """The packets of a source (SSRC) and a payload type."""
 
-    def __init__(self, ssrc, kind):
+    def __init__(self, ssrc: int, kind: int) -> None:
         self.ssrc, self.kind = ssrc, kind
-        self.raw, self.damaged, self.again = [], 0, 0
+        self.raw: list[Raw] = []
+        self.damaged = self.again = 0
 
     # What it is
 
-    def is_vp8(self):
+    def is_vp8(self) -> bool:
         """Whether its key packets begin as those of VP8 do."""
         keys = right = 0
         for _, _, _, payload in self.raw:
@@ -78,16 +92,17 @@ class Stream:
                 break
         return keys > 0 and 2 * right > keys
 
-    def looks_encrypted(self):
+    def looks_encrypted(self) -> bool:
         """Whether its payloads begin with any bytes."""
         first = [payload[0] for _, _, _, payload in self.raw[:FIRST_BYTES] if len(payload)]
         return len(first) >= 16 and self.kind not in STATIC and len(set(first)) >= RANDOM * len(first)
 
     # Its packets
 
-    def packets(self):
+    def packets(self) -> list[Packet]:
         """Its packets in the order of their sequence numbers, each once."""
-        found, numbers, times = {}, Unwrapped(16), Unwrapped(32)
+        found: dict[int, Packet] = {}
+        numbers, times = Unwrapped(16), Unwrapped(32)
         for sequence, time, is_last, payload in self.raw:
             number, stamp = numbers.next(sequence), times.next(time)
             if number in found:
@@ -106,10 +121,11 @@ class Stream:
 class Unwrapped:
     """Numbers of so many bits, whose end is followed by 0, without that end: each is the nearest to the one before."""
 
-    def __init__(self, bits):
-        self.range, self.last = 1 << bits, None
+    def __init__(self, bits: int) -> None:
+        self.range = 1 << bits
+        self.last: Optional[int] = None
 
-    def next(self, value):
+    def next(self, value: int) -> int:
         if self.last is None:
             self.last = value
         else:
@@ -118,13 +134,16 @@ class Unwrapped:
         return self.last
 
 
-def descriptor_of(payload):
+def descriptor_of(payload: AnyBytes) -> Optional[Parts]:
     """What the payload descriptor says (RFC 7741, section 4.2): whether a frame begins, where its bytes begin, the
     numbers of the picture and of the base layer, the temporal layer, and whether the number of the picture has 15 bits.
     None if it is cut off."""
     if not len(payload):
         return None
-    first, place, picture, base, layer, is_wide = payload[0], 1, None, None, None, False
+    first, place, is_wide = payload[0], 1, False
+    picture: Optional[int] = None
+    base: Optional[int] = None
+    layer: Optional[int] = None
     if first & 0x80:
         if len(payload) < 2:
             return None
@@ -133,11 +152,12 @@ def descriptor_of(payload):
             if len(payload) <= place:
                 return None
             is_wide = bool(payload[place] & 0x80)
-            picture, place = payload[place] & 0x7F, place + 1
+            number, place = payload[place] & 0x7F, place + 1
             if is_wide:
                 if len(payload) <= place:
                     return None
-                picture, place = picture << 8 | payload[place], place + 1
+                number, place = number << 8 | payload[place], place + 1
+            picture = number
         if more & 0x40:
             if len(payload) <= place:
                 return None
@@ -149,7 +169,7 @@ def descriptor_of(payload):
     return bool(first & 0x10) and not first & 7, place, picture, base, layer, is_wide
 
 
-def rtp_of(data):
+def rtp_of(data: AnyBytes) -> Optional[tuple[int, int, int, int, bool, AnyBytes]]:
     """The source, payload type, sequence number, time stamp, marker and payload of a packet; None if it is none of
     RTP.
     """
@@ -179,8 +199,9 @@ class Streams:
     exchanged.
     """
 
-    def __init__(self, capture):
-        self.all, self.has_keys = {}, False
+    def __init__(self, capture: Capture) -> None:
+        self.all: dict[tuple[int, int], Stream] = {}
+        self.has_keys = False
         trusts = trusts_sums(capture)
         for _, data, is_right in capture.datagrams:
             if data is None:
@@ -189,7 +210,7 @@ class Streams:
             if found is None:
                 self.has_keys |= bytes(data[:2]) in DTLS
                 continue
-            source, kind, *rest = found
+            source, kind, sequence, time, is_last, payload = found
             if is_right is False and trusts:
                 # Which of its bytes is wrong is not known: it is none of a new stream.
                 if (source, kind) in self.all:
@@ -198,12 +219,12 @@ class Streams:
             stream = self.all.get((source, kind))
             if stream is None:
                 stream = self.all[source, kind] = Stream(source, kind)
-            stream.raw.append(rest)
+            stream.raw.append((sequence, time, is_last, payload))
 
-    def of_vp8(self):
+    def of_vp8(self) -> list[Stream]:
         return [stream for stream in self.all.values() if len(stream.raw) >= LEAST and stream.is_vp8()]
 
-    def why_none(self):
+    def why_none(self) -> str:
         """Why there is no stream of VP8."""
         others = [stream for stream in self.all.values() if len(stream.raw) >= LEAST]
         if not others:
@@ -217,7 +238,7 @@ class Streams:
         return f"none of its streams of RTP is VP8 with a key packet: they are {', '.join(kinds)}"
 
 
-def trusts_sums(capture):
+def trusts_sums(capture: Capture) -> bool:
     """Whether wrong checksums say that a datagram is damaged: most are right."""
     sums = [one.is_right for one in capture.datagrams if one.is_right is not None]
     return sum(sums) > RIGHT_SUMS * len(sums)
@@ -235,23 +256,23 @@ class Frame(NamedTuple):
     data: bytes
     first: int
     last: int
-    missing: tuple
+    missing: Tuple[Range, ...]
     has_beginning: bool
-    picture: object
-    layer: object
+    picture: Optional[int]
+    layer: Optional[int]
     is_wide: bool
 
     @property
-    def is_whole(self):
+    def is_whole(self) -> bool:
         return not self.missing
 
     @property
-    def is_usable(self):
+    def is_usable(self) -> bool:
         """Whether its first partition is whole, so that it can be decoded with what came."""
         return self.has_beginning and (self.is_whole or has_first_partition(self.data))
 
 
-def has_first_partition(data):
+def has_first_partition(data: bytes) -> bool:
     """Whether the bytes of a frame have its whole header and first partition (RFC 6386, section 9.1)."""
     if len(data) < 3:
         return False
@@ -259,11 +280,11 @@ def has_first_partition(data):
     return len(data) >= (3 if tag & 1 else 10) + (tag >> 5)
 
 
-def frames_of(packets):
+def frames_of(packets: Sequence[Packet]) -> list[Frame]:
     """The frames of packets that are in order. What is missing between two frames is missing of the one before if its
     last packet did not come, or of the one after, if its first did not."""
     # A frame begins with the start of its partition 0, also where another one has its time stamp.
-    groups = []
+    groups: list[list[Packet]] = []
     for packet in packets:
         # Packets without a part of a frame fill the line.
         if not packet.data:
@@ -280,7 +301,7 @@ def frames_of(packets):
     return found
 
 
-def frame_of(group, filled, after):
+def frame_of(group: Sequence[Packet], filled: Sequence[int], after: Optional[Packet]) -> Frame:
     """The frame of packets with one time stamp, before the packet `after`; `filled` are the sequence numbers of all
     packets.
     """
@@ -318,7 +339,7 @@ def frame_of(group, filled, after):
     )
 
 
-def lost_between(before, after):
+def lost_between(before: Frame, after: Frame) -> Optional[int]:
     """How many pictures are missing between two frames by their numbers; None if they have none."""
     if before.picture is None or after.picture is None:
         return None
@@ -333,21 +354,22 @@ class Merged(NamedTuple):
     were left.
     """
 
-    packets: list
+    packets: List[Packet]
     taken: int
     others: int
 
 
-def merge(one, other):
+def merge(one: Iterable[Packet], other: Iterable[Packet]) -> Merged:
     """The packets of a stream, and those of a second recording of it that are missing here. A server that sends a
     stream on gives it other numbers, so packets are found by their bytes first; between these, the numbers go on in
     both. `NotRead` if no packet is in both."""
-    places = {}
+    places: dict[tuple[bytes, bool, bool], list[Packet]] = {}
     for packet in one:
         if len(packet.data) >= 8:
             places.setdefault((packet.data, packet.begins, packet.is_last), []).append(packet)
     # The difference of the time stamps is the same everywhere.
-    spans, pairs = {}, []
+    spans: dict[int, int] = {}
+    pairs: list[Pair] = []
     for packet in other:
         for twin in places.get((packet.data, packet.begins, packet.is_last), ()):
             spans[twin.time - packet.time] = spans.get(twin.time - packet.time, 0) + 1
@@ -356,15 +378,16 @@ def merge(one, other):
             )
     if not spans:
         raise NotRead("no packet of the second capture is one of the first")
-    span = max(spans, key=spans.get)
+    span = max(spans, key=spans.__getitem__)
     pairs = sorted(pair for pair in pairs if pair[2] == span)
-    pictures = {}
+    pictures: dict[Shift, int] = {}
     for pair in pairs:
         pictures[pair[3]] = pictures.get(pair[3], 0) + 1
-    picture = max(pictures, key=pictures.get)
+    picture = max(pictures, key=pictures.__getitem__)
     have = {packet.sequence: packet for packet in one}
     numbers, keys = sorted(have), [pair[0] for pair in pairs]
-    taken, others = {}, 0
+    taken: dict[int, Packet] = {}
+    others = 0
     for packet in other:
         for shift in shifts_at(pairs, keys, packet.sequence):
             sequence = packet.sequence + shift
@@ -380,7 +403,7 @@ def merge(one, other):
     return Merged([have[number] for number in sorted(have)], len(taken), others)
 
 
-def shift_of(one, other):
+def shift_of(one: Packet, other: Packet) -> Shift:
     """The difference of the numbers of pictures and of base layers of two packets."""
     picture = (
         None
@@ -390,7 +413,7 @@ def shift_of(one, other):
     return picture, None if one.base is None or other.base is None else (one.base - other.base) % 256
 
 
-def shifts_at(pairs, keys, sequence):
+def shifts_at(pairs: Sequence[Pair], keys: Sequence[int], sequence: int) -> Iterable[int]:
     """The differences of the sequence numbers at the packets around one that are in both captures, the nearest
     first.
     """
@@ -401,7 +424,7 @@ def shifts_at(pairs, keys, sequence):
     return dict.fromkeys(pair[1] for pair in near)
 
 
-def fits(have, numbers, packet):
+def fits(have: Dict[int, Packet], numbers: Sequence[int], packet: Packet) -> bool:
     """Whether a packet can be where its number says: its time stamp is between those around it, and the numbers of a
     picture are those of its other packets.
     """
@@ -414,7 +437,7 @@ def fits(have, numbers, packet):
     return all((one.picture, one.base) == (packet.picture, packet.base) for one in near)
 
 
-def moved(packet, sequence, span, shift):
+def moved(packet: Packet, sequence: int, span: int, shift: Shift) -> Packet:
     """A packet of the second capture with the numbers of the first."""
     picture, base = packet.picture, packet.base
     if picture is not None and shift[0] is not None:

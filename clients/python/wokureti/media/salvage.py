@@ -13,6 +13,7 @@ from typing import NamedTuple, Optional
 
 from ..errors import NotIvf
 from ..base.checks import AnyBytes
+from ..base.files import Data, Mapped
 from . import ivf
 
 SOME = re.compile(rb"[^\0]")
@@ -54,7 +55,7 @@ class Guess(NamedTuple):
     is_cut: bool
 
 
-def begins_packet(data: AnyBytes, place: int, size: int) -> bool:
+def begins_packet(data: Data, place: int, size: int) -> bool:
     """Whether a packet of this size may begin at a place: its tag, its start code, and the size of its first
     partition.
     """
@@ -70,7 +71,7 @@ def begins_packet(data: AnyBytes, place: int, size: int) -> bool:
     return bool(tag & 1) or ivf.key_size(data[place : place + 10]) is not None
 
 
-def sized_at(data: AnyBytes, place: int, last: Optional[int]) -> Optional[tuple[int, int]]:
+def sized_at(data: Data, place: int, last: Optional[int]) -> Optional[tuple[int, int]]:
     """The size and time stamp of a record at a place, whatever its packet is, or None. `last` is the time stamp before
     it, if there is one.
     """
@@ -87,13 +88,13 @@ def sized_at(data: AnyBytes, place: int, last: Optional[int]) -> Optional[tuple[
     return size, stamp
 
 
-def record_at(data: AnyBytes, place: int, last: Optional[int]) -> Optional[tuple[int, int]]:
+def record_at(data: Data, place: int, last: Optional[int]) -> Optional[tuple[int, int]]:
     """The same if the packet begins as one of VP8."""
     found = sized_at(data, place, last)
     return found if found is not None and begins_packet(data, place + RECORD.size, found[0]) else None
 
 
-def follow(data: AnyBytes, place: int, last: Optional[int], count: int) -> bool:
+def follow(data: Data, place: int, last: Optional[int], count: int) -> bool:
     """Whether so many records follow each other from a place on, or all up to the end of the file, or up to a last one
     that is cut off.
     """
@@ -108,7 +109,7 @@ def follow(data: AnyBytes, place: int, last: Optional[int], count: int) -> bool:
     return True
 
 
-def is_cut(data: AnyBytes, place: int, last: Optional[int]) -> bool:
+def is_cut(data: Data, place: int, last: Optional[int]) -> bool:
     """Whether a record begins at a place that the end of the file cuts off."""
     left = len(data) - place
     if left < RECORD.size:
@@ -117,7 +118,7 @@ def is_cut(data: AnyBytes, place: int, last: Optional[int]) -> bool:
     return left < RECORD.size + size <= MOST_SIZE and (last is None or 0 <= stamp - last <= MOST_STEP)
 
 
-def next_place(data: bytes, place: int, last: Optional[int]) -> Optional[int]:
+def next_place(data: Mapped, place: int, last: Optional[int]) -> Optional[int]:
     """The next place from which records follow each other, or None."""
     # Most places are none: the high bytes of a time stamp that goes on are those of the last one.
     high = struct.pack("<I", (last or 0) >> 32)
@@ -136,7 +137,7 @@ def next_place(data: bytes, place: int, last: Optional[int]) -> Optional[int]:
             at = len(data) if more is None else more.start() - RECORD.size
 
 
-def head_of(data: bytes) -> tuple[Optional[ivf.Head], int]:
+def head_of(data: Mapped) -> tuple[Optional[ivf.Head], int]:
     """The head of a file and where its records begin; the head of an empty stream, and 0, if the header is lost."""
     try:
         head, length = ivf.parse_head(data[: ivf.HEAD.size])
@@ -145,12 +146,12 @@ def head_of(data: bytes) -> tuple[Optional[ivf.Head], int]:
         return None, 0
 
 
-def find(data: bytes) -> tuple[Optional[ivf.Head], list[Found], list[Gap]]:
+def find(data: Mapped) -> tuple[Optional[ivf.Head], list[Found], list[Gap]]:
     """The head or None, the packets, and the gaps between them."""
     return find_all(data)[:3]
 
 
-def guess_at(data: bytes, place: int, end: int, last: Optional[int]) -> Optional[Found]:
+def guess_at(data: Mapped, place: int, end: int, last: Optional[int]) -> Optional[Found]:
     """A packet between a record whose size is wrong and the next record, or None."""
     if place + RECORD.size > end:
         return None
@@ -163,7 +164,7 @@ def guess_at(data: bytes, place: int, end: int, last: Optional[int]) -> Optional
 
 
 def guesses_at(
-    data: bytes, number: int, gap: Gap, last: Optional[int], cut: Optional[tuple[int, Optional[int]]]
+    data: Mapped, number: int, gap: Gap, last: Optional[int], cut: Optional[tuple[int, Optional[int]]]
 ) -> list[Guess]:
     """The guesses at a gap, the likelier one first. `cut` is where the packet before it begins that was cut at its
     size, and the time stamp before that, or None."""
@@ -173,7 +174,7 @@ def guesses_at(
     return [Guess(number, packet, is_cut) for packet, is_cut in found if packet is not None]
 
 
-def find_all(data: bytes) -> tuple[Optional[ivf.Head], list[Found], list[Gap], list[list[Guess]]]:
+def find_all(data: Mapped) -> tuple[Optional[ivf.Head], list[Found], list[Gap], list[list[Guess]]]:
     """The same, and for each gap the guesses at a packet whose size is wrong."""
     head, place = head_of(data)
     # Packets are parts of the file, and no copies of it.
@@ -212,7 +213,7 @@ def find_all(data: bytes) -> tuple[Optional[ivf.Head], list[Found], list[Gap], l
     return head, packets, gaps, guesses
 
 
-def plain(data: bytes) -> Optional[tuple[ivf.Head, list[Found], int]]:
+def plain(data: Mapped) -> Optional[tuple[ivf.Head, list[Found], int]]:
     """The head and the packets as vp8serve reads them; None if it does not."""
     try:
         head, place = ivf.parse_head(data[: ivf.HEAD.size])

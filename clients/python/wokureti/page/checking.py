@@ -2,13 +2,40 @@
 frames and edits do not wait long.
 """
 
+from __future__ import annotations
+
 import json
 import threading
 import time
+from typing import TYPE_CHECKING, Callable, List, Mapping, Optional, TypedDict, TypeVar
 
 from ..errors import Ended, Lost, Refused, Stale
 from ..base.lines import objects_of
+from ..session.session import Session
 from . import file_findings
+from .file_findings import Finding
+from .views import View
+
+if TYPE_CHECKING:
+    from .opened import Opened, Preview
+
+Found = TypeVar("Found")
+# What is known of a check.
+Known = TypedDict(
+    "Known",
+    {
+        "check": int,
+        "from": int,
+        "findings": List[Finding],
+        "groups": List[Optional[int]],
+        "damage": int,
+        "notes": int,
+        "done": int,
+        "packets": int,
+        "over": bool,
+        "failed": Optional[str],
+    },
+)
 
 # The packets of the first question. Seconds that a question should take in the session of the stream, and in one of its
 # own.
@@ -30,7 +57,7 @@ MOST_TRIES = 2
 INSIDE = ("past_end", "unread")
 
 
-def answer(session, first, count):
+def answer(session: Session, first: int, count: int) -> tuple[list[Finding], dict[str, int]]:
     """What `check` reports of packets of source 0: the findings, and their numbers."""
     *findings, numbers = objects_of(session.ask(f"check {first} {count}", 0))
     return findings, numbers
@@ -41,24 +68,24 @@ class Pace:
     read what is before its packets: a question takes twice as long as that at least, or the whole check would take much
     longer than its packets."""
 
-    def __init__(self):
+    def __init__(self) -> None:
         self.count, self.short, self.before = FIRST, SHORT, 0.0
 
     @property
-    def wanted(self):
+    def wanted(self) -> float:
         return max(self.short, 2 * self.before)
 
-    def is_late(self, took):
+    def is_late(self, took: float) -> bool:
         return took > 1.5 * (self.before + self.wanted)
 
-    def go_on(self, took):
+    def go_on(self, took: float) -> None:
         """After a question that took so long, and was not late."""
         if took < (self.before + self.wanted) / 2:
             self.count *= 2
         # It is less after the next key packet.
         self.before /= 2
 
-    def slow_down(self, took, before):
+    def slow_down(self, took: float, before: float) -> None:
         """After a question that was late, when the time that was taken before its packets was found."""
         self.before = before
         each = max(took - before, LEAST) / self.count
@@ -70,18 +97,21 @@ class Check:
     revision with which the session ended.
     """
 
-    def __init__(self, view, number, beside, tries=0):
+    def __init__(self, view: View, number: int, beside: Preview, tries: int = 0) -> None:
         self.view, self.stream, self.number, self.beside, self.tries = view, view.streams[0], number, beside, tries
-        self.findings, self.damage, self.notes = [], 0, 0
+        self.findings: list[Finding] = []
+        self.damage = self.notes = 0
         # How many packets were checked, and the packets that are damaged inside.
-        self.done, self.inside = 0, []
-        self.is_over, self.has_ended, self.error = False, False, None
+        self.done = 0
+        self.inside: list[int] = []
+        self.is_over, self.has_ended = False, False
+        self.error: Optional[str] = None
         # The edits, if the session of its own is asked.
-        self.lines = None
+        self.lines: Optional[list[str]] = None
         self.stopped = threading.Event()
         threading.Thread(target=self.run, daemon=True).start()
 
-    def is_of(self, view):
+    def is_of(self, view: View) -> bool:
         """Whether the packets of a view are those that are checked. A session that was started again may have other
         packets by the same numbers.
         """
@@ -89,31 +119,35 @@ class Check:
         return self.view.contents is view.contents and (self.stream is stream or self.stream == stream)
 
     @property
-    def is_whole(self):
+    def is_whole(self) -> bool:
         """Whether all packets were checked."""
         return self.is_over and not self.error and not self.stopped.is_set()
 
     @property
-    def is_left(self):
+    def is_left(self) -> bool:
         """Whether it was left in the middle, so that another check of the same packets follows it."""
         return self.stopped.is_set() or (self.has_ended and self.tries < MOST_TRIES)
 
-    def members(self, first, most=None):
+    def members(self, first: int, most: Optional[int] = None) -> Known:
         """What is known of it, with findings from one on."""
         is_over = self.is_over and not self.is_left
         # The findings last: those that come meanwhile are told then.
-        state = {
-            "damage": self.damage,
-            "notes": self.notes,
-            "done": self.done,
+        damage, notes, done, failed = self.damage, self.notes, self.done, self.error if is_over else None
+        findings = self.findings[first : None if most is None else first + most]
+        return {
+            "check": self.number,
+            "from": first,
+            "findings": findings,
+            "groups": self.groups(findings),
+            "damage": damage,
+            "notes": notes,
+            "done": done,
             "packets": len(self.stream),
             "over": is_over,
-            "failed": self.error if is_over else None,
+            "failed": failed,
         }
-        findings = self.findings[first : None if most is None else first + most]
-        return {"check": self.number, "from": first, "findings": findings, "groups": self.groups(findings), **state}
 
-    def groups(self, findings):
+    def groups(self, findings: list[Finding]) -> list[Optional[int]]:
         """For each finding the key packet at or before its packet, or None: what is damaged after a packet is mostly
         damaged with it.
         """
@@ -123,12 +157,12 @@ class Check:
             for finding in findings
         ]
 
-    def stop(self):
+    def stop(self) -> None:
         """Ends the check after the question that is asked now."""
         if not self.is_over:
             self.stopped.set()
 
-    def run(self):
+    def run(self) -> None:
         try:
             self.check()
         except Stale:
@@ -144,7 +178,7 @@ class Check:
         finally:
             self.is_over = True
 
-    def check(self):
+    def check(self) -> None:
         contents, pace = self.view.contents, Pace()
         if self.beside.is_open:
             # The stream is long, as was found before.
@@ -160,7 +194,7 @@ class Check:
             time.sleep(PAUSE)
         self.take(file_findings.at_end(contents, self.stream))
 
-    def adapt(self, pace, took):
+    def adapt(self, pace: Pace, took: float) -> None:
         if not pace.is_late(took):
             pace.go_on(took)
         elif self.done < len(self.stream):
@@ -170,10 +204,10 @@ class Check:
             if pace.before > MOST_BEFORE and self.lines is None:
                 self.go_beside(pace)
 
-    def go_beside(self, pace):
+    def go_beside(self, pace: Pace) -> None:
         self.lines, pace.short = self.asked(lambda session: list(session.edits)), LONG
 
-    def ask(self, first, count):
+    def ask(self, first: int, count: int) -> tuple[list[Finding], dict[str, int]]:
         """The findings at packets, and their numbers."""
         if self.lines is None:
             return self.asked(lambda session: answer(session, first, count))
@@ -181,7 +215,7 @@ class Check:
             raise Stale
         return self.beside.check(self.lines, first, count, self.stopped)
 
-    def asked(self, function):
+    def asked(self, function: Callable[[Session], Found]) -> Found:
         """What a function returns of the session of the stream, which has the packets that are checked."""
         contents = self.view.contents
         with contents.session.turn():
@@ -193,7 +227,7 @@ class Check:
                 raise Stale
             return function(contents.session)
 
-    def first_size(self, session):
+    def first_size(self, session: Session) -> Optional[tuple[int, int]]:
         """The size of the first key packet that has one, or None. It is asked for only if it is not listed yet."""
         keys, listing = self.view.keys(0), self.view.contents.listing
         place = keys.find(1)
@@ -206,7 +240,7 @@ class Check:
             place = keys.find(1, place + 1)
         return None
 
-    def take(self, findings, numbers=None):
+    def take(self, findings: list[Finding], numbers: Optional[dict[str, int]] = None) -> None:
         """Takes findings, of which some are damage and the others are notes."""
         if numbers is None:
             damage = sum(finding["severity"] == "damage" for finding in findings)
@@ -220,10 +254,12 @@ class Check:
 class News:
     """What a client was told of the check of the current packets, and what there is more by now."""
 
-    def __init__(self, live):
-        self.live, self.check, self.count, self.inside, self.state = live, None, 0, 0, None
+    def __init__(self, live: Opened) -> None:
+        self.live, self.count, self.inside = live, 0, 0
+        self.check: Optional[Check] = None
+        self.state: Optional[tuple[int, int, int, bool]] = None
 
-    def events(self):
+    def events(self) -> tuple[list[bytes], Optional[float]]:
         """An event with what is new, and the seconds until there may be more; None if that needs a change."""
         revision = self.live.revision
         try:
@@ -248,6 +284,6 @@ class News:
         return found, 0 if is_rest else None if members["over"] else OFTEN
 
 
-def event(members):
+def event(members: Mapping[str, object]) -> bytes:
     """An event of a check."""
     return b"event: check\ndata: %b\n\n" % json.dumps(members).encode()

@@ -2,11 +2,16 @@
 again by a session of their own.
 """
 
+from __future__ import annotations
+
 import shutil
+from typing import Mapping, Optional, Sequence
 
 from ..errors import Refuse
 from ..base import programs
+from ..server.live import Live
 from ..session import exports
+from ..session.contents import Contents
 from ..session.session import Session
 from ..tools import cat, coding
 from .sounding import has_sound
@@ -19,7 +24,7 @@ NO_ENCODER = (
 )
 
 
-def costs_of(session):
+def costs_of(session: Session) -> dict[str, object]:
     """What an export costs (`coding.costs_of`), whether there is sound that can fade, and what codes: a name, or None
     with a sentence that says what helps.
     """
@@ -30,14 +35,14 @@ def costs_of(session):
     return {**found, "sounds": fades and has_sound(contents), "encoder": name, "why": "" if name else NO_ENCODER}
 
 
-def how_of(query):
+def how_of(query: Mapping[str, str]) -> Optional[coding.How]:
     """How the export of a query codes, or None if it does not. `Refuse` if it asks for what there is not."""
     if query.get("code") != "1":
         return None
     try:
         least = float(query.get("psnr", coding.USUAL))
     except ValueError:
-        least = 0
+        least = 0.0
     if (
         not coding.LEAST <= least <= coding.MOST
         or query.get("lead", "exact") not in ("exact", "coded")
@@ -47,12 +52,12 @@ def how_of(query):
     return coding.How(least, query.get("lead") == "coded", lambda text: None, query.get("sound") == "fade")
 
 
-def export(live, lines, out, how, room):
+def export(live: Live, lines: Sequence[str], out: exports.Output, how: coding.How, room: str) -> str:
     """Writes the frames after these edits, of which those that the script changes are coded again. A session of their
     own makes them, so the page goes on meanwhile.
     """
 
-    def open_session(path):
+    def open_session(path: str) -> Session:
         return cat.open_session(path, [], None, None, None, programs.find("vp8serve"))
 
     session = Session(**live.options, explain=True)
@@ -65,6 +70,6 @@ def export(live, lines, out, how, room):
     return told.text() if coded is None else f"{told.text()}; {coded.text(told.frames)}"
 
 
-def export_as_packets(contents, lines, out, room):
+def export_as_packets(contents: Contents, lines: Sequence[str], out: exports.Output, room: str) -> str:
     """Writes the same frames without coding."""
     return exports.export(contents, lines, out, room).text()

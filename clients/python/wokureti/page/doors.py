@@ -2,13 +2,15 @@
 that was killed finds it then.
 """
 
+from __future__ import annotations
+
 import contextlib
 import hashlib
 import json
 import os
 import secrets
 import time
-from typing import NamedTuple
+from typing import NamedTuple, Optional
 
 from .. import system
 from ..server.web import Server
@@ -25,14 +27,14 @@ class Door(NamedTuple):
     reading: str
 
 
-def file_of(path):
+def file_of(path: str) -> str:
     """The file that keeps the address for the list of edits at a path."""
     return os.path.join(
         system.state_folder(), "pages", hashlib.sha256(os.fsencode(os.path.realpath(path))).hexdigest()[:32]
     )
 
 
-def kept(path):
+def kept(path: str) -> Optional[Door]:
     """The address that was kept for a list, or None. A file that others may read or write is not believed."""
     with (
         contextlib.suppress(OSError, ValueError, KeyError, TypeError),
@@ -52,7 +54,7 @@ def kept(path):
     return None
 
 
-def keep(path, door):
+def keep(path: str, door: Door) -> None:
     """Keeps an address, and drops those of other lists that are old. If that fails, the page is there all the same."""
     with contextlib.suppress(OSError):
         name = file_of(path)
@@ -69,7 +71,7 @@ def keep(path, door):
                 os.unlink(entry.path)
 
 
-def opened(port, path):
+def opened(port: int, path: str) -> tuple[Server, str, str]:
     """A server, and the words of its address: those of the last run over this list, if that was within a day and its
     port is free.
     """

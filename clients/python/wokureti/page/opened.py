@@ -1,18 +1,30 @@
 """The stream that a page shows: with its views, its check, the stream before the edits, and previews of edits."""
 
-import concurrent.futures
+from __future__ import annotations
+
 import contextlib
 import threading
 import time
+from concurrent.futures import Future
+import functools
+import os
+from typing import Callable, Iterable, Iterator, Optional, Sequence, TypeVar, Union
 
 from ..errors import Changed, Ended, Lost, Refused, Stale
+from ..base.checks import AnyPath
 from ..base.lines import first_word
-from ..session.origins import runs_of
+from ..media.ivf import Rate
+from ..session.contents import Contents
+from ..session.origins import Run, runs_of
+from ..session.session import Session
 from ..server import live
+from ..server.live import Options, Picture
 from .checking import Check, answer
+from .file_findings import Finding
 from .parts import Part
 from .views import View, Views
 
+Found = TypeVar("Found")
 
 # Seconds between two pages of a list in the background, and packets that a preview asks for at a time.
 PAUSE, PAGE = 0.001, 256
@@ -30,23 +42,35 @@ OFTEN = 0.05
 class Opened(live.Live):
     """A stream with what a page needs. What is not the program's own work is answered while the program works."""
 
-    def __init__(self, options, edits=None, save=None, pad=False, stems=()):
+    def __init__(
+        self,
+        options: Options,
+        edits: Optional[AnyPath] = None,
+        save: Union[str, os.PathLike[str], None] = None,
+        pad: bool = False,
+        stems: Iterable[str] = (),
+    ) -> None:
         self.pad = pad
-        self.current, self.views, self.known_runs = None, Views(), (None, None)
-        self.check_lock, self.check, self.checks, self.count = threading.Lock(), None, [], 0
-        self.originals = {}
+        self.current: Optional[View] = None
+        self.views = Views()
+        self.known_runs: Optional[tuple[tuple[Contents, str, list[int]], list[Run]]] = None
+        self.check_lock, self.count = threading.Lock(), 0
+        self.check: Optional[Check] = None
+        self.checks: list[Check] = []
+        self.originals: dict[int, live.Live] = {}
         self.begin_others(options)
         # While an edit is made: the revision before it, the rate of the frames, and the edits that were made by then.
-        self.before = None
+        self.before: Optional[tuple[int, Rate, list[str]]] = None
         # What goes on: a word, how much of it is done, of how much, and since when; and the same of a stream that is
         # opened.
-        self.doing, self.taking = None, None
+        self.doing: Optional[tuple[str, int, int, float]] = None
+        self.taking: Optional[Part] = None
         super().__init__(options, edits, save, stems)
         threading.Thread(target=self.list_files, daemon=True).start()
 
     # Views
 
-    def list_files(self):
+    def list_files(self) -> None:
         """Lists the headers of all packets, some at a time; until that is done, no packet is known to be refused."""
         with contextlib.suppress(OSError, Ended, Lost, Refused):
             self.session.read_indexes()
@@ -66,7 +90,7 @@ class Opened(live.Live):
                     self.current = self.make_view(self.current)
                 self.changed.notify_all()
 
-    def current_view(self):
+    def current_view(self) -> View:
         """The view of the current revision."""
         found = self.current
         if found is not None and found.revision == self.revision:
@@ -80,7 +104,7 @@ class Opened(live.Live):
                 found = self.current = self.ask(lambda session: self.make_view(self.current))
             return found
 
-    def make_view(self, before):
+    def make_view(self, before: Optional[View]) -> View:
         contents = self.contents()
         if contents.listing.is_whole or contents.made:
             contents.listing.learn()
@@ -88,31 +112,31 @@ class Opened(live.Live):
             before = None
         return View(self.revision, contents, self.session, before, self.served)
 
-    def served(self, view):
+    def served(self, view: View) -> list[Run]:
         """The frames that the script serves at a revision, as runs. They stay the same as long as the script and the
         numbers of frames of the sources do. `Changed` if the stream is of another revision."""
         with self.lock:
             if view.revision != self.revision:
                 raise Changed
             key = (view.contents, view.script, view.shown)
-            if self.known_runs[0] != key:
+            if self.known_runs is None or self.known_runs[0] != key:
                 self.known_runs = (key, self.ask(lambda session: runs_of(session, view.script, view.frames)))
             return self.known_runs[1]
 
-    def tell(self):
+    def tell(self) -> None:
         super().tell()
         if self.current is not None:
             # If the program ended, the view is made when it is asked for.
             with contextlib.suppress(Ended):
                 self.current = self.make_view(self.current)
 
-    def again(self, ended):
+    def again(self, ended: object) -> None:
         super().again(ended)
         # Its packets are read again, and listed again.
         self.current = None
         threading.Thread(target=self.list_files, daemon=True).start()
 
-    def forget(self):
+    def forget(self) -> None:
         super().forget()
         self.current = None
         self.close_others()
@@ -120,7 +144,7 @@ class Opened(live.Live):
         threading.Thread(target=self.list_files, daemon=True).start()
 
     @contextlib.contextmanager
-    def opening(self, name):
+    def opening(self, name: str) -> Iterator[Part]:
         """While a stream is opened, `taking` is how much of its packets was taken out of a container."""
         self.taking = Part(f"taking the packets out of {name}")
         try:
@@ -130,7 +154,7 @@ class Opened(live.Live):
 
     # Edits
 
-    def make(self, edit):
+    def make(self, edit: Callable[[], Found]) -> Found:
         self.doing = ("edit", 0, 1, time.monotonic())
         try:
             with self.lock:
@@ -141,25 +165,27 @@ class Opened(live.Live):
         finally:
             self.doing = self.before = None
 
-    def look(self, numbers):
+    def look(self, numbers: Sequence[int]) -> tuple[int, Rate, list[Picture]]:
         """Frames do not wait for all of a large step: another program shows them as they were before it, if it is
         faster than the step.
         """
         if not self.lock.acquire(timeout=PATIENCE):
             before = self.before
-            found = None if before is None else begun(lambda: self.meanwhile.pictures(before[2], numbers))
+            found = None if before is None else begun(functools.partial(self.meanwhile.pictures, before[2], numbers))
             while not self.lock.acquire(timeout=OFTEN):
-                if found is not None and found.done():
-                    return (*before[:2], found.result())
+                if before is not None and found is not None and found.done():
+                    return before[0], before[1], found.result()
         try:
             return super().look(numbers)
         finally:
             self.lock.release()
 
-    def on_progress(self, done, total):
-        self.doing = ("edit", done, total, self.doing[3])
+    def on_progress(self, done: int, total: int) -> None:
+        # Another change that ended meanwhile has cleared it.
+        since = time.monotonic() if self.doing is None else self.doing[3]
+        self.doing = ("edit", done, total, since)
 
-    def close(self):
+    def close(self) -> None:
         if self.saves.named is None or self.is_known_saved():
             interrupt(self)
         for original in self.originals.values():
@@ -168,14 +194,14 @@ class Opened(live.Live):
         self.close_others()
         super().close()
 
-    def begin_others(self, options):
+    def begin_others(self, options: Options) -> None:
         """Programs beside the one of the stream: of edits that are not made, of packets that no frame shows, of checks
         of long streams, and of frames while an edit is made.
         """
         self.preview, self.aside, self.beside = (Preview(options) for _ in range(3))
         self.meanwhile = Preview(options, 0)
 
-    def close_others(self):
+    def close_others(self) -> None:
         # A check would start them again.
         with self.check_lock:
             if self.check is not None:
@@ -183,7 +209,7 @@ class Opened(live.Live):
         for other in (self.preview, self.aside, self.beside, self.meanwhile):
             other.close()
 
-    def is_known_saved(self):
+    def is_known_saved(self) -> bool:
         """Whether there is nothing to save at the end, without waiting for a request that goes on."""
         view = self.current
         if view is None or view.revision != self.revision:
@@ -193,15 +219,16 @@ class Opened(live.Live):
 
     # What is beside the stream
 
-    def checked(self):
+    def checked(self) -> Check:
         """The check of the current stream, begun now if it is another one than that of the check before."""
         view = self.living_view()
         with self.check_lock:
-            if self.check is None or self.check.is_left or not (self.check.is_of(view) or self.was_last_try(view)):
-                self.check = self.known_check(view) or self.new_check(view)
-            return self.check
+            check = self.check
+            if check is None or check.is_left or not (check.is_of(view) or self.was_last_try(check, view)):
+                check = self.check = self.known_check(view) or self.new_check(view)
+            return check
 
-    def living_view(self):
+    def living_view(self) -> View:
         """The view of the current revision, of a session that answers."""
         view = self.current_view()
         if view.contents.session.is_over:
@@ -209,15 +236,15 @@ class Opened(live.Live):
             view = self.current_view()
         return view
 
-    def was_last_try(self, view):
+    def was_last_try(self, check: Check, view: View) -> bool:
         """Whether the session ended with several checks of a revision: another one would end it again."""
-        return self.check.has_ended and self.check.view.revision == view.revision
+        return check.has_ended and check.view.revision == view.revision
 
-    def known_check(self, view):
+    def known_check(self, view: View) -> Optional[Check]:
         """A check of the same packets that is over: after undo, nothing is checked again."""
         return next((check for check in self.checks if check.is_whole and check.is_of(view)), None)
 
-    def new_check(self, view):
+    def new_check(self, view: View) -> Check:
         tries = 0
         if self.check is not None:
             self.check.stop()
@@ -228,20 +255,22 @@ class Opened(live.Live):
         self.checks = [check, *(old for old in self.checks if old.is_whole)][:MOST_CHECKS]
         return check
 
-    def original(self, source):
+    def original(self, source: int) -> live.Live:
         """A source as it was opened, without edits and without a script."""
         with self.check_lock:
             if source not in self.originals:
-                path = [self.options["stream"], *self.options.get("sources", ())][source]
-                self.originals[source] = live.Live({**self.options, "stream": path, "sources": ()})
+                options = self.options.copy()
+                options["stream"] = [self.options["stream"], *self.options.get("sources", ())][source]
+                options["sources"] = ()
+                self.originals[source] = live.Live(options)
             return self.originals[source]
 
 
-def begun(function):
+def begun(function: Callable[[], Found]) -> Future[Found]:
     """What a function returns, in a thread of its own."""
-    found = concurrent.futures.Future()
+    found: Future[Found] = Future()
 
-    def work():
+    def work() -> None:
         try:
             found.set_result(function())
         except BaseException as error:
@@ -254,65 +283,69 @@ def begun(function):
 class Preview:
     """A program that makes edits so that their pictures can be seen before they are made."""
 
-    def __init__(self, options, most_single=MOST_SINGLE):
-        self.options, self.most_single, self.live, self.lock = options, most_single, None, threading.Lock()
+    def __init__(self, options: Options, most_single: int = MOST_SINGLE) -> None:
+        self.options, self.most_single, self.lock = options, most_single, threading.Lock()
+        self.live: Optional[live.Live] = None
 
-    def follow(self, lines):
-        """Makes the list of the edits these lines."""
+    def follow(self, lines: Sequence[str]) -> live.Live:
+        """Makes the list of the edits these lines, and returns what has it."""
         if self.live is None:
             self.live = live.Live(self.options)
-        mine = list(self.live.session.edits)
+        made = self.live
+        mine = list(made.session.edits)
         common = next(
             (place for place, pair in enumerate(zip(mine, lines)) if pair[0] != pair[1]), min(len(mine), len(lines))
         )
         while len(mine) > common:
-            self.live.run("undo")
-            mine = list(self.live.session.edits)
-        rest = lines[len(mine) :]
+            made.run("undo")
+            mine = list(made.session.edits)
+        rest = list(lines[len(mine) :])
         place = max(0, len(rest) - self.most_single)
         if place:
-            self.live.run_step(rest[:place])
+            made.run_step(rest[:place])
         for line in rest[place:]:
-            self.live.run(line)
+            made.run(line)
+        return made
 
-    def pictures(self, lines, frames):
+    def pictures(self, lines: Sequence[str], frames: Sequence[int]) -> list[Picture]:
         """The width, height and samples of frames of one size after these edits."""
         with self.lock:
-            self.follow(lines)
-            return self.live.pictures(frames)
+            return self.follow(lines).pictures(frames)
 
-    def packet(self, lines, source, packet, frame=None):
+    def packet(self, lines: Sequence[str], source: int, packet: int, frame: Optional[int] = None) -> Picture:
         """The picture of a packet of a source after these edits, without the script. `frame` is its frame in the
         source, if that is known.
         """
         lines = [line for line in lines if first_word(line) != "script"]
         with self.lock:
-            self.follow([*lines, *([f"script source {source}"] if source else [])])
+            made = self.follow([*lines, *([f"script source {source}"] if source else [])])
             if frame is None:
-                frame = self.live.ask(lambda session: frame_at(session, source, packet))
-            return self.live.picture(frame)
+                frame = made.ask(lambda session: frame_at(session, source, packet))
+            return made.picture(frame)
 
-    def findings(self, lines, packet):
+    def findings(self, lines: Sequence[str], packet: int) -> list[Finding]:
         """The findings at the group of pictures that has a packet of source 0, after these edits."""
         with self.lock:
-            self.follow(lines)
-            return self.live.ask(lambda session: findings_of(session, *group_of(session, packet)))
+            made = self.follow(lines)
+            return made.ask(lambda session: findings_of(session, *group_of(session, packet)))
 
     @property
-    def is_open(self):
+    def is_open(self) -> bool:
         return self.live is not None
 
-    def check(self, lines, first, count, stopped):
+    def check(
+        self, lines: Sequence[str], first: int, count: int, stopped: threading.Event
+    ) -> tuple[list[Finding], dict[str, int]]:
         """What `check` reports of packets of source 0 after these edits. `Stale` if the check was stopped: a closed
         program is not started again for it.
         """
         with self.lock:
             if stopped.is_set():
                 raise Stale
-            self.follow(lines)
-            return self.live.ask(lambda session: answer(session, first, count))
+            made = self.follow(lines)
+            return made.ask(lambda session: answer(session, first, count))
 
-    def close(self):
+    def close(self) -> None:
         if self.live is not None:
             interrupt(self.live)
         with self.lock:
@@ -321,24 +354,24 @@ class Preview:
                 self.live = None
 
 
-def interrupt(stream):
+def interrupt(stream: live.Live) -> None:
     """Ends the program of a stream that is closed, also in the middle of a frame."""
     stream.closed = True
     stream.session.kill()
 
 
-def findings_of(session, first, end):
+def findings_of(session: Session, first: int, end: int) -> list[Finding]:
     """The findings at packets of source 0, from one index to another."""
     return answer(session, first, end - first)[0]
 
 
-def frame_at(session, source, packet):
+def frame_at(session: Session, source: int, packet: int) -> int:
     """The frame that shows a packet of a source, or the next shown one after it, or else the last one, of a script that
     serves this source.
     """
     while True:
         found = session.packets(range(packet, packet + PAGE), source)
-        frame = next((facts["frame"] for facts in found if facts["frame"] is not None), None)
+        frame: Optional[int] = next((facts["frame"] for facts in found if facts["frame"] is not None), None)
         if frame is not None:
             return frame
         if len(found) < PAGE:
@@ -346,7 +379,7 @@ def frame_at(session, source, packet):
         packet += PAGE
 
 
-def group_of(session, packet):
+def group_of(session: Session, packet: int) -> tuple[int, int]:
     """The packets of source 0 from the key packet at or before a packet to the next one, as a range of indexes."""
     count = len(session.edits.contents().streams[0])
     packet = max(0, min(packet, count - 1))

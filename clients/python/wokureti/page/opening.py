@@ -1,17 +1,20 @@
 """wokureti open: the page of a stream, in a browser."""
 
+from __future__ import annotations
+
 import hashlib
 import os
 import pathlib
 import secrets
 import webbrowser
-from typing import NamedTuple
+from typing import NamedTuple, Optional, Sequence
 
 from .. import system
 from ..errors import Ended
 from ..base import rooms
 from ..base.progress import say
 from ..server import serve
+from ..server.live import Options
 from ..server.web import Server
 from . import doors, recent
 from .opened import Opened
@@ -21,7 +24,7 @@ from .pages import PageRoutes
 TEXT_BROWSERS = ("www-browser", "links", "elinks", "lynx", "w3m")
 
 
-def stem_of(stream):
+def stem_of(stream: str) -> str:
     """The beginning of the names of the list of edits and of the file to save to: next to the stream, or in the state
     folder if nothing can be written there."""
     stem = "stream" if stream == "-" else os.path.splitext(stream)[0]
@@ -38,13 +41,13 @@ def stem_of(stream):
     return os.path.join(system.state_folder(), f"{os.path.basename(stem)}-{mark}")
 
 
-def is_copy(stream):
+def is_copy(stream: str) -> bool:
     """Whether a stream is a copy that the start page made: it goes with the folder that it is in."""
     room = os.path.dirname(os.path.dirname(os.path.realpath(stream)))
     return os.path.basename(room).startswith(rooms.PREFIX) and os.path.isfile(os.path.join(room, rooms.LOCK))
 
 
-def show(url, folder):
+def show(url: str, folder: str) -> bool:
     """Opens a browser, if there is one with windows. Whether it was started. Its command line, which other users of the
     machine can read, has a file that leads to the address, and that only this user can read."""
     if not system.has_windows():
@@ -58,7 +61,7 @@ def show(url, folder):
         return False
 
 
-def write_door(url, folder):
+def write_door(url: str, folder: str) -> str:
     """The file that leads to the page."""
     path = os.path.join(folder, "page.html")
     with open(
@@ -75,14 +78,14 @@ class How(NamedTuple):
     """The list of edits and the file to save to, or None; whether packets are saved as with --pad, and with their time
     stamps; and what is done with sound."""
 
-    edits: object
-    save: object
+    edits: Optional[str]
+    save: Optional[str]
     pad: bool
     keeps_stamps: bool
-    sound: object
+    sound: Optional[str]
 
 
-def run(options, titles, how, port, has_browser):
+def run(options: Options, titles: Sequence[str], how: How, port: int, has_browser: bool) -> int:
     """Serves the page until the process is interrupted, and says where the edits are."""
     stems = [stem_of(title) for title in titles]
     path = how.edits or f"{stems[0]}.edits"
@@ -106,16 +109,16 @@ def run(options, titles, how, port, has_browser):
         say(f"{path}: {edits_text(count)} made")
     names = [os.path.basename(title) for title in titles]
 
-    def announce(address, reading):
+    def announce(address: str, reading: str) -> None:
         print(f"{address}page/", flush=True)
         if not has_browser or not show(f"{address}page/", live.room.name):
             say("open this address in a browser. Ctrl-C ends it")
 
     try:
-        made = []
+        made: list[PageRoutes] = []
 
-        def routes(*given):
-            made.append(PageRoutes(*given, names, titles))
+        def routes(live: Opened, server: Server, token: str) -> PageRoutes:
+            made.append(PageRoutes(live, server, token, names, titles))
             made[0].usual = f"{stems[0]}.edits"
             return made[0]
 
@@ -128,7 +131,7 @@ def run(options, titles, how, port, has_browser):
     return 0
 
 
-def server_of(live, port, titles):
+def server_of(live: Opened, port: int, titles: Sequence[str]) -> Server:
     """A server of the page of a stream, whose address is printed. It is not started."""
     server, tokens = Server(port), [secrets.token_urlsafe(18) for _ in range(2)]
     server.routes = PageRoutes(live, server, tokens[0], [os.path.basename(title) for title in titles], titles)
@@ -137,11 +140,11 @@ def server_of(live, port, titles):
     return server
 
 
-def edits_text(count):
+def edits_text(count: int) -> str:
     return "1 edit" if count == 1 else f"{count} edits"
 
 
-def say_where(live, title, usual):
+def say_where(live: Opened, title: str, usual: str) -> None:
     """Where the edits and the saved packets are."""
     edits = live.session.edits
     lines, written = len(edits), edits.written

@@ -2,9 +2,12 @@
 one.
 """
 
+from __future__ import annotations
+
 import subprocess
 import sys
 import threading
+from typing import Iterable
 
 from .. import system
 from ..errors import Failed
@@ -16,10 +19,11 @@ MOST_START, MOST_END = 30, 10
 class Others:
     """The commands that were started."""
 
-    def __init__(self):
-        self.running, self.lock, self.closed = [], threading.Lock(), False
+    def __init__(self) -> None:
+        self.running: list[subprocess.Popen[str]] = []
+        self.lock, self.closed = threading.Lock(), False
 
-    def open(self, path, sources=()):
+    def open(self, path: str, sources: Iterable[str] = ()) -> str:
         """The address of the page of another stream. `Failed` with what the command says if it does not start."""
         words = [
             sys.executable,
@@ -41,13 +45,14 @@ class Others:
                 stderr=subprocess.PIPE,
                 text=True,
                 errors="replace",
-                **system.started_apart(),
+                creationflags=system.started_apart(),
             )
             self.running.append(process)
-        said = []
+        said: list[str] = []
         threading.Thread(target=relay, args=(process, said), daemon=True).start()
         late = threading.Timer(MOST_START, process.kill)
         late.start()
+        assert process.stdout is not None
         address = process.stdout.readline().strip()
         late.cancel()
         if not address:
@@ -55,7 +60,7 @@ class Others:
             raise Failed(" ".join(said) or "it does not start")
         return address
 
-    def close(self):
+    def close(self) -> None:
         """Ends them as Ctrl-C does."""
         with self.lock:
             self.closed, running = True, [process for process in self.running if process.poll() is None]
@@ -68,8 +73,9 @@ class Others:
                 process.kill()
 
 
-def relay(process, said):
+def relay(process: subprocess.Popen[str], said: list[str]) -> None:
     """Says what a command says."""
+    assert process.stderr is not None
     for line in process.stderr:
         said.append(line.strip().removeprefix("wokureti: "))
         print(line, end="", file=sys.stderr, flush=True)

@@ -1,5 +1,7 @@
 """The routes that `wokureti open` has more than `wokureti serve`: the files of its page, and what the page asks for."""
 
+from __future__ import annotations
+
 import itertools
 import os
 import pathlib
@@ -8,22 +10,30 @@ import secrets
 import tempfile
 import time
 import zlib
+from typing import Any, BinaryIO, Callable, Dict, Iterable, Iterator, Mapping, Optional, Sequence, Tuple
 
 from .. import system
 from ..errors import Changed, Dropped, Ended, Failed, NoKeyFrame, NoSound, NotIvf, Refuse, Stopped
 from ..base.lines import EDITS, first_word, is_edit
 from ..media import muxing
+from ..media.ivf import Rate
 from ..media.y4m import MARK, header_of
 from ..session import exports
-from ..tools import cut_lists, repair
+from ..tools import coding, cut_lists, repair
 from ..tools.differences import Lasting
 from ..server import ranges
-from ..server.routes import Routes, members_of
-from ..server.web import Response, as_json
+from ..server.live import Picture
+from ..server.routes import Answer, Paths, Routes, members_of
+from ..server.web import Request, Response, Server, as_json
 from . import adding, coded, others, waves
 from .checking import News
+from .opened import Opened
 from .parts import Part
 from .sounding import Sounding, has_sound
+from .views import View
+
+# The members of a body, of which `checked` has seen that each is of its kind.
+Members = Dict[str, Any]
 
 KINDS = {
     ".html": "text/html; charset=utf-8",
@@ -47,7 +57,7 @@ MOST_TOGETHER = 8
 NUMBERED = re.compile("(insert [0-9]{1,15})( [0-9]{1,19})? #([0-9]{1,9})")
 
 
-def files_of_page():
+def files_of_page() -> dict[str, tuple[str, bytes]]:
     """The files of the page, by their names: nothing else is served as a file."""
     folder = pathlib.Path(__file__).resolve().parent
     return {
@@ -57,22 +67,47 @@ def files_of_page():
     }
 
 
-class PageRoutes(Routes):
+class PageFiles(Paths):
+    """The routes of the files of a page."""
+
+    files: Dict[str, Tuple[str, bytes]]
+
+    def is_entry(self, request: Request) -> bool:
+        """The page, if a browser opens it as a new page: the file that leads there is of no site."""
+        is_page = (
+            request.headers.get("sec-fetch-mode") == "navigate" and request.headers.get("sec-fetch-dest") == "document"
+        )
+        return is_page and request.method == "GET" and request.parts[1:] == ["page", ""]
+
+    def page_file(self, request: Request, parts: tuple[str, ...], first: str) -> Optional[Response]:
+        """A file of the page, of which `first` is the first one; or None."""
+        if len(parts) < 2 or parts[0] != "page":
+            return None
+        found = self.files.get("/".join(parts[1:]) or first)
+        if found is None:
+            return None
+        self.only(request)
+        return Response(200, *found)
+
+
+class PageRoutes(PageFiles, Routes):
     """The routes of a stream that has a page."""
 
     most_body = MOST_BODY
+    live: Opened
 
-    def __init__(self, live, server, token, titles, paths=()):
+    def __init__(self, live: Opened, server: Server, token: str, titles: list[str], paths: Iterable[str] = ()) -> None:
         super().__init__(live, server, token)
         self.titles, self.files = titles, files_of_page()
         # The streams that the command names, and those that were added.
-        self.paths, self.added = list(paths), []
+        self.paths = list(paths)
+        self.added: list[str] = []
         # The list of edits that is taken where none is named.
-        self.usual = None
+        self.usual: Optional[str] = None
         self.sounding, self.others = Sounding(live.room.name), others.Others()
         # The exports that go on, by the names that the pages gave them.
-        self.exporting = {}
-        self.tasks = {
+        self.exporting: dict[str, Part] = {}
+        self.tasks: dict[str, tuple[Callable[[Members], dict[str, object]], dict[str, type]]] = {
             "check": (self.findings_after, {"lines": list, "packet": int, "revision": int, "contents": str}),
             "costs": (self.costs, {}),
             "cuts": (self.script_of_cuts, {"text": str}),
@@ -81,7 +116,7 @@ class PageRoutes(Routes):
             "times": (self.times, {}),
             "waves": (self.wave_times, {"source": int}),
         }
-        self.kinds = {
+        self.kinds: dict[str, Answer] = {
             "cuts.csv": self.cuts,
             "export": self.exported,
             "packets": self.packets_as_they_are,
@@ -98,14 +133,10 @@ class PageRoutes(Routes):
             }
         )
 
-    def is_entry(self, request):
-        """The page, if a browser opens it as a new page: the file that leads there is of no site."""
-        is_page = (
-            request.headers.get("sec-fetch-mode") == "navigate" and request.headers.get("sec-fetch-dest") == "document"
-        )
-        return is_page and request.method == "GET" and request.parts[1:] == ["page", ""]
+    def close(self) -> None:
+        self.others.close()
 
-    def answer(self, request):
+    def answer(self, request: Request) -> Response:
         """A browser reports each status of 400 and more as an error of the page: with `refusals=answers` a refusal is
         an answer.
         """
@@ -124,22 +155,12 @@ class PageRoutes(Routes):
             response.status = 200
         return response
 
-    def read(self, request, parts):
+    def read(self, request: Request, parts: tuple[str, ...]) -> Response:
         if len(parts) == 2 and parts[0] == "file" and parts[1] in self.kinds:
             return self.kinds[parts[1]](request)
         return self.page_file(request, parts, "index.html") or super().read(request, parts)
 
-    def page_file(self, request, parts, first):
-        """A file of the page, of which `first` is the first one; or None."""
-        if len(parts) < 2 or parts[0] != "page":
-            return None
-        kind, text = self.files.get("/".join(parts[1:]) or first, (None, None))
-        if kind is None:
-            return None
-        self.only(request)
-        return Response(200, kind, text)
-
-    def session(self, request):
+    def session(self, request: Request) -> Response:
         """What the page shows of the session, and with `known`, a view or nothing, what is new of the packets since
         that view.
         """
@@ -148,7 +169,7 @@ class PageRoutes(Routes):
         others = self.live.changes - self.live.revision
         return as_json(self.session_of(self.live.current_view(), others, request.query.get("known")))
 
-    def session_of(self, view, others, known=None):
+    def session_of(self, view: View, others: int, known: Optional[str] = None) -> dict[str, object]:
         """What the page shows of the session at a revision. `others` are the changes that made no revision."""
         edits, saves = self.live.session.edits, self.saves_of(view)
         members = {
@@ -184,7 +205,7 @@ class PageRoutes(Routes):
         }
         return members if known is None else {**members, "told": self.live.views.told(view, known)}
 
-    def again(self):
+    def again(self) -> Optional[str]:
         """The command that goes on with the list of edits, or None if there is no list."""
         path = self.live.session.edits.path
         if path is None or not self.paths:
@@ -193,10 +214,11 @@ class PageRoutes(Routes):
         words = ["wokureti", "open", stream, *(() if self.usual == path else ("--edits", os.path.abspath(path)))]
         return system.command_text(words)
 
-    def saves_of(self, view):
+    def saves_of(self, view: View) -> list[dict[str, object]]:
         """For each source whether it is edited, whether its packets are as they were opened or saved, in which file
         they are, and the file that Save writes."""
-        saves, found, slashed = self.live.saves, [], lambda path: path and system.slashed(path)
+        saves = self.live.saves
+        found: list[dict[str, object]] = []
         for source, stream in enumerate(view.streams):
             is_edited, path = view.contents.is_edited(source, stream), saves.file_of(source, view.contents, stream)
             found.append(
@@ -209,7 +231,7 @@ class PageRoutes(Routes):
             )
         return found
 
-    def progress(self, request):
+    def progress(self, request: Request) -> Response:
         """What goes on. Nothing waits here."""
         self.only(request)
         doing, found = self.live.doing, None
@@ -229,13 +251,13 @@ class PageRoutes(Routes):
             }
         )
 
-    def source_of(self, source, view):
+    def source_of(self, source: int, view: View) -> int:
         """A source that there is."""
         if source >= len(view.streams):
             raise Refuse(404, "there is no such source")
         return source
 
-    def pictures(self, request):
+    def pictures(self, request: Request) -> Response:
         """A few frames of one size: those of now; of a source as it was opened (`before`); packets of a source alone,
         without the script (`packets`); and with `lines` as they would be after these edits, which are not made."""
         self.only(request)
@@ -265,7 +287,7 @@ class PageRoutes(Routes):
             raise Refuse(404, "there is no such packet")
         return self.y4m(revision, rate, [program.packet(made, source, packet) for packet in numbers])
 
-    def before_edits(self, members):
+    def before_edits(self, members: Members) -> tuple[View, list[str]]:
         """The view that a body is about, and the edits that were made, with those of the body after them, which are not
         made.
         """
@@ -278,7 +300,7 @@ class PageRoutes(Routes):
                 raise Refuse(412, "the stream was changed", revision=self.live.revision)
         return view, made + lines
 
-    def y4m(self, revision, rate, pictures):
+    def y4m(self, revision: int, rate: Rate, pictures: Sequence[Picture]) -> Response:
         """Frames of one size as a file."""
         head = header_of(pictures[0][:2], rate)
         length = len(head) + sum(len(MARK) + len(samples) for _, _, samples in pictures)
@@ -287,7 +309,7 @@ class PageRoutes(Routes):
             200, "video/x-yuv4mpeg", length=length, headers=[("ETag", self.tag_of(revision))], pieces=pieces
         )
 
-    def task(self, request):
+    def task(self, request: Request) -> Response:
         """What takes long."""
         self.only(request)
         members = members_of(request.body)
@@ -297,12 +319,12 @@ class PageRoutes(Routes):
         act, kinds = self.tasks[kind]
         return as_json({"revision": self.live.revision, **act(checked(members, kinds))})
 
-    def findings_after(self, members):
+    def findings_after(self, members: Members) -> dict[str, object]:
         """The findings of a group of pictures after edits that are not made."""
         view, made = self.before_edits(members)
         return {"revision": view.revision, "findings": self.live.preview.findings(made, members.get("packet", 0))}
 
-    def cuts(self, request):
+    def cuts(self, request: Request) -> Response:
         """The parts of source 0 that the script shows as a list of cuts."""
         self.only(request)
         view = self.live.current_view()
@@ -312,7 +334,7 @@ class PageRoutes(Routes):
             raise Refuse(409, str(error)) from None
         return Response(200, "text/csv; charset=utf-8", text.encode(), headers=[self.attached(".csv", "cuts")])
 
-    def script_of_cuts(self, members):
+    def script_of_cuts(self, members: Members) -> dict[str, object]:
         """The script that shows the parts of a list of cuts. Nothing is changed."""
         view = self.live.current_view()
         try:
@@ -324,12 +346,12 @@ class PageRoutes(Routes):
         except Failed as error:
             raise Refuse(409, str(error)) from None
 
-    def safe_name(self):
+    def safe_name(self) -> str:
         """The name of the stream in the name of a file."""
         name = os.path.splitext(os.path.basename(self.titles[0]))[0]
         return "".join(letter if letter.isalnum() and letter.isascii() else "-" for letter in name) or "stream"
 
-    def answered(self, request):
+    def answered(self, request: Request) -> Response:
         """The reply to a question about the packets of a source, as a text."""
         self.only(request, "line", "source")
         line = request.query.get("line", "")
@@ -343,14 +365,14 @@ class PageRoutes(Routes):
                 200, "text/plain; charset=utf-8", reply.encode(), headers=[("ETag", self.tag_of(view.revision))]
             )
 
-    def events(self, request):
+    def events(self, request: Request) -> Response:
         """A line for each change, and with `check=1` what the check of the current packets found, as it comes."""
         self.only(request, "check")
         if request.query.get("check") != "1":
             return self.streamed(request, self.beats)
         return self.streamed(request, lambda: self.beats(News(self.live).events))
 
-    def facts(self, members):
+    def facts(self, members: Members) -> dict[str, object]:
         """What repairs need of packets, which are named by their numbers, as runs: time stamps, durations in the time
         of source 0, and numbers that packets with other bytes have only by chance."""
         runs, contents = members.get("numbers", []), self.live.contents()
@@ -370,45 +392,47 @@ class PageRoutes(Routes):
         }
         return {"revision": self.live.revision, **found, "step": contents.inputs.all[0].step()}
 
-    def repair_all(self, members):
+    def repair_all(self, members: Members) -> dict[str, object]:
         """The edits that `wokureti repair` would make, with source 1 as the second recording if there is one, and what
         they do.
         """
         view = self.live.current_view()
         contents = view.contents
-        data, *others = (b"".join(self.text(view, source)) for source in range(min(2, len(view.streams))))
+        texts = [b"".join(self.text(view, source)) for source in range(min(2, len(view.streams)))]
+        data, second = texts[0], texts[1] if len(texts) > 1 else None
         given = (contents.program, contents.lister)
+        tables = None if contents.tables is None else os.fsdecode(contents.tables)
         try:
             try:
-                found = repair.repair(data, *given, *others, tables=contents.tables, steps=STEPS)
+                found = repair.repair(data, *given, second, tables=tables, steps=STEPS)
             except (NotIvf, NoKeyFrame):
                 raise
             except ValueError:
                 # Source 1 is another stream.
-                found = repair.repair(data, *given, tables=contents.tables, steps=STEPS)
+                found = repair.repair(data, *given, tables=tables, steps=STEPS)
         except (NotIvf, NoKeyFrame) as error:
             raise Refuse(409, str(error)) from None
         durations = [contents.durations(0, stream) for stream in view.streams[:2]]
-        lasting = Lasting(durations[0], durations[-1] if others else (), contents.inputs.all[0].step())
+        lasting = Lasting(durations[0], durations[-1] if second is not None else (), contents.inputs.all[0].step())
         return {
             "revision": view.revision,
-            "lines": repair.edits_of(data, found, *others, lasting=lasting),
+            "lines": repair.edits_of(data, found, second, lasting),
             "said": found.lines,
             "left": found.left,
         }
 
-    def text(self, view, source):
+    def text(self, view: View, source: int) -> Iterator[bytes]:
         """The packets of a source as an IVF file, in pieces."""
         stream = view.streams[source]
         yield view.contents.inputs.all[source].head.text(len(stream))
         yield from view.contents.records(stream)
 
-    def times(self, members):
+    def times(self, members: Members) -> dict[str, object]:
         """When each frame begins, in milliseconds, if the rate varies."""
         view = self.live.current_view()
         return {"revision": view.revision, "times": view.times()}
 
-    def sound(self, request):
+    def sound(self, request: Request) -> Response:
         """The sound of the frames that are shown. `revision` only names it."""
         self.only(request, "revision", "instance")
         view = self.live.current_view()
@@ -432,7 +456,7 @@ class PageRoutes(Routes):
             206 if found else 200, "audio/webm", length=end - start, headers=headers, pieces=pieces_of(file, start, end)
         )
 
-    def wave(self, request):
+    def wave(self, request: Request) -> Response:
         """A minute of the sound of a source's file, from which the page draws it. Nothing if no packet is there."""
         self.only(request, "source", "piece", "instance")
         view = self.live.current_view()
@@ -444,13 +468,13 @@ class PageRoutes(Routes):
         except ValueError as error:
             raise Refuse(409, str(error)) from None
 
-    def wave_times(self, members):
+    def wave_times(self, members: Members) -> dict[str, object]:
         """At which times of which file the sound of the frames of a source is."""
         view = self.live.current_view()
         source = self.source_of(members.get("source", 0), view)
         return {"revision": view.revision, "source": source, "runs": waves.runs_of(view, source)}
 
-    def list_streams(self, request):
+    def list_streams(self, request: Request) -> Response:
         """The streams that can be added, or those of them that are a file with this name, number of bytes and
         SHA-256.
         """
@@ -459,7 +483,7 @@ class PageRoutes(Routes):
         found = adding.files_of(self.paths) if name is None else adding.same_as(self.paths, name, size, digest)
         return as_json({"revision": self.live.revision, "files": found})
 
-    def open_stream(self, request):
+    def open_stream(self, request: Request) -> Response:
         """Opens one of these on a page of its own, and answers with its address, or as the last source, and answers
         with its number.
         """
@@ -482,17 +506,17 @@ class PageRoutes(Routes):
         self.added.append(path)
         return self.changed(source=len(self.titles) - 1)
 
-    def attached(self, ending, what):
+    def attached(self, ending: str, what: str) -> tuple[str, str]:
         """The header of an answer that a browser saves as a file."""
         return ("Content-Disposition", f'attachment; filename="{self.safe_name()}-{what}{ending}"')
 
-    def download(self, path, ending, what, *headers):
+    def download(self, path: str, ending: str, what: str, *headers: tuple[str, str]) -> Response:
         """A file that goes once it is sent."""
         file = system.open_to_remove(path)
         length, found = os.fstat(file.fileno()).st_size, [self.attached(ending, what), *headers]
         return Response(200, CONTAINERS[ending], length=length, headers=found, pieces=pieces_of(file))
 
-    def packets_as_they_are(self, request):
+    def packets_as_they_are(self, request: Request) -> Response:
         """The current packets of source 0 as a file of the kind that was opened: an IVF file, or WebM or Matroska with
         its sound.
         """
@@ -508,7 +532,7 @@ class PageRoutes(Routes):
                 raise Refuse(409, str(error)) from None
         return self.download(path, ending, "edited")
 
-    def exported(self, request):
+    def exported(self, request: Request) -> Response:
         """The frames that the script serves as packets. Other requests go on meanwhile; it ends if nobody waits for it
         any more.
         """
@@ -524,7 +548,7 @@ class PageRoutes(Routes):
             if self.exporting.get(name) is watch:
                 del self.exporting[name]
 
-    def export(self, watch, how):
+    def export(self, watch: Part, how: Optional[coding.How]) -> Response:
         """Without `how` nothing is coded again."""
         with self.live.lock:
             revision, contents, lines = self.live.revision, self.live.contents(), list(self.live.session.edits)
@@ -548,12 +572,12 @@ class PageRoutes(Routes):
             os.rename(path, kept)
         return self.download(kept, ending, "export", ("X-Exported", told))
 
-    def costs(self, members):
+    def costs(self, members: Members) -> dict[str, object]:
         """What an export of the frames that are shown costs."""
         with self.live.lock:
             return {"revision": self.live.revision, **self.live.ask(coded.costs_of)}
 
-    def change(self, request):
+    def change(self, request: Request) -> Response:
         """An edit, several as one step, which may have a title, `undo`, `redo` or `save`, which may be of a source.
         With `known` the answer has the state after it.
         """
@@ -567,7 +591,7 @@ class PageRoutes(Routes):
             return self.save(members, known)
         if "lines" not in members:
             with self.live.lock:
-                return self.changed(known, reply=self.make_change(members))
+                return self.changed_since(known, reply=self.make_change(members))
         if not members["lines"] or {"line", "source"} & set(members):
             raise Refuse(400, "a change is of a line, or of lines")
         with self.live.lock:
@@ -579,9 +603,9 @@ class PageRoutes(Routes):
                 reply = self.live.run_step(lines, members.get("title", ""))
             except ValueError as error:
                 raise Refuse(400, str(error)) from None
-            return self.changed(known, reply=reply)
+            return self.changed_since(known, reply=reply)
 
-    def lines_of(self, members):
+    def lines_of(self, members: Members) -> list[str]:
         """The edits of a body. One that names a packet by its number inserts that packet."""
         return [
             self.with_packet(found, members.get("contents")) if found else line
@@ -589,17 +613,17 @@ class PageRoutes(Routes):
             for found in [NUMBERED.fullmatch(line)]
         ]
 
-    def with_packet(self, found, name):
+    def with_packet(self, found: re.Match[str], name: Optional[str]) -> str:
         """The line of an edit that inserts a packet, of which the page knows the number only. It may have been deleted,
         or replaced, since.
         """
-        contents, (line, stamp, number) = self.live.contents(), found.groups()
-        number = int(number)
+        contents, (line, stamp, text) = self.live.contents(), found.groups()
+        number = int(text)
         if number >= (contents.next_number if contents.name == name else contents.of_files):
             raise Refuse(409, "the packets that were copied are gone")
         return f"{line}{stamp or f' {contents.stamp(number)}'} {contents.bytes(number).hex() or '-'}"
 
-    def changed(self, known=None, **members):
+    def changed_since(self, known: Optional[str], **members: object) -> Response:
         """The answer to a change, with the state after it for a page, of which `known` says what it has: nothing more
         is to be asked then.
         """
@@ -607,9 +631,9 @@ class PageRoutes(Routes):
             members["session"] = self.session_of(
                 self.live.current_view(), self.live.changes - self.live.revision, known
             )
-        return super().changed(**members)
+        return self.changed(**members)
 
-    def save(self, members, known):
+    def save(self, members: Members, known: Optional[str]) -> Response:
         """Saves the packets of a source."""
         source = members["source"]
         if members.get("line") != "save":
@@ -621,10 +645,14 @@ class PageRoutes(Routes):
                 path, renumbered = self.live.make(lambda: (self.live.save(source), self.live.renumbers(source)))
             except ValueError as error:
                 raise Refuse(409, str(error)) from None
-            return self.changed(known, reply=path, renumbered=renumbered)
+            return self.changed_since(known, reply=path, renumbered=renumbered)
 
 
-def pieces_of(file, start=0, end=None):
+def slashed(path: Optional[str]) -> Optional[str]:
+    return path and system.slashed(path)
+
+
+def pieces_of(file: BinaryIO, start: int = 0, end: Optional[int] = None) -> Iterator[bytes]:
     """The bytes of a file from one place to another, which is closed after them."""
     with file:
         file.seek(start)
@@ -637,16 +665,16 @@ def pieces_of(file, start=0, end=None):
             yield piece
 
 
-def is_number(value):
+def is_number(value: object) -> bool:
     return isinstance(value, int) and not isinstance(value, bool) and 0 <= value < 1 << 60
 
 
-def parse_body(body, kinds):
+def parse_body(body: bytes, kinds: Mapping[str, type]) -> Members:
     """The members of a JSON object, each of its kind."""
     return checked(members_of(body), kinds)
 
 
-def checked(members, kinds):
+def checked(members: object, kinds: Mapping[str, type]) -> Members:
     """Members, each of its kind."""
     if not isinstance(members, dict) or not set(members) <= set(kinds):
         raise Refuse(400, f"the body is an object with {', '.join(kinds)}")
@@ -656,9 +684,9 @@ def checked(members, kinds):
     return members
 
 
-def checked_lines(members):
+def checked_lines(members: Members) -> list[str]:
     """The edits of a body."""
-    lines = members.get("lines", [])
+    lines: list[str] = members.get("lines", [])
     if len(lines) > MOST_LINES:
         raise Refuse(400, f"a step has at most {MOST_LINES} edits")
     for line in lines:

@@ -1,6 +1,9 @@
 """How far something is that takes long, for who asks."""
 
+from __future__ import annotations
+
 import time
+from typing import Callable, Optional
 
 from ..errors import Stopped
 from ..base import progress
@@ -11,22 +14,26 @@ class Part(progress.Watch):
     more.
     """
 
-    def __init__(self, text, is_gone=lambda: False):
+    text: Optional[str]
+    done: Optional[int]
+    total: Optional[int]
+
+    def __init__(self, text: str, is_gone: Callable[[], bool] = lambda: False) -> None:
         self.is_gone, self.since = is_gone, time.monotonic()
         self.stage(text)
 
-    def stage(self, text):
+    def stage(self, text: Optional[str]) -> None:
         self.text, self.done, self.total = text, None, None
 
-    def part(self, done, total):
+    def part(self, done: int, total: Optional[int]) -> None:
         self.done, self.total = done, total
         self.check()
 
-    def check(self):
+    def check(self) -> None:
         if self.is_gone():
             raise Stopped
 
-    def members(self):
+    def members(self) -> dict[str, object]:
         return {
             "what": self.text,
             "done": self.done,

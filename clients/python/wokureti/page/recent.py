@@ -1,9 +1,12 @@
 """The streams that pages were opened of, the last one first: the start page offers them, with their lists of edits."""
 
+from __future__ import annotations
+
 import contextlib
 import json
 import os
 import time
+from typing import List, Optional, Sequence, TypedDict
 
 from .. import system
 
@@ -11,11 +14,23 @@ from .. import system
 MOST = 20
 
 
-def file_of():
+class Entry(TypedDict):
+    """A stream that was opened: its path, or None if it was a copy; its name, its list of edits, its other sources, and
+    when.
+    """
+
+    stream: Optional[str]
+    name: str
+    list: str
+    sources: List[str]
+    when: float
+
+
+def file_of() -> str:
     return os.path.join(system.state_folder(), "recent.json")
 
 
-def noted():
+def noted() -> list[Entry]:
     """What was opened: for each stream its path, or none if it was a copy, which is gone; its name; its list of edits;
     its other sources; and when. A file that others may read or write is not believed."""
     with (
@@ -27,8 +42,14 @@ def noted():
     return []
 
 
-def is_entry(entry):
-    kinds = {"stream": (str, type(None)), "name": str, "list": str, "sources": list, "when": (int, float)}
+def is_entry(entry: object) -> bool:
+    kinds: dict[str, tuple[type, ...]] = {
+        "stream": (str, type(None)),
+        "name": (str,),
+        "list": (str,),
+        "sources": (list,),
+        "when": (int, float),
+    }
     return (
         isinstance(entry, dict)
         and set(entry) == set(kinds)
@@ -36,9 +57,9 @@ def is_entry(entry):
     )
 
 
-def note(stream, path, sources, is_copy=False):
+def note(stream: str, path: str, sources: Sequence[str], is_copy: bool = False) -> None:
     """Remembers a stream and its list of edits. If that fails, the page is there all the same."""
-    entry = {
+    entry: Entry = {
         "stream": None if is_copy else os.path.abspath(stream),
         "name": os.path.basename(stream),
         "list": os.path.abspath(path),
@@ -56,7 +77,7 @@ def note(stream, path, sources, is_copy=False):
         os.replace(new, file_of())
 
 
-def edits_in(path):
+def edits_in(path: str) -> Optional[int]:
     """The number of edits in a list; None if there is no list."""
     try:
         with open(path, encoding="utf-8", errors="replace") as file:
@@ -65,7 +86,7 @@ def edits_in(path):
         return None
 
 
-def offered():
+def offered() -> list[dict[str, object]]:
     """What the start page shows of these streams. A list without edits, or whose stream is gone, is not offered."""
     found = []
     for number, entry in enumerate(noted()):

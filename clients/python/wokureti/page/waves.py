@@ -2,12 +2,17 @@
 source are.
 """
 
+from __future__ import annotations
+
 import bisect
 import os
+from typing import Iterable, Iterator, Optional, Tuple
 
 from ..base import rooms
 from ..media import containers, excerpts, muxing, sounds
+from ..media.webm import AnyMedia
 from ..session.exports import Frames
+from .views import View
 
 # The nanoseconds of a piece; by how many a frame may be drawn beside its sound, which is half of what a page tells
 # apart.
@@ -16,7 +21,11 @@ PIECE, NEAR = 60 * sounds.NANO, 5_000_000
 BITS = 64000
 
 
-def piece_of(media, number):
+# The number of frames of a run, what has their sound, its start and its length.
+Whole = Tuple[int, Optional[AnyMedia], float, float]
+
+
+def piece_of(media: AnyMedia, number: int) -> bytes:
     """A piece of the first track of sound of a file, as the bytes of a WebM file without a picture; none if no packet
     is there. Packets of Opus are copied, and of another codec ffmpeg codes this minute."""
     if not media.sounds:
@@ -63,7 +72,7 @@ def piece_of(media, number):
             return file.read()
 
 
-def runs_of(view, source):
+def runs_of(view: View, source: int) -> list[list[object]]:
     """Where the sound of the frames of a source is: runs of frames, each with their number, the source whose file has
     their sound, or None if they are silent, and in milliseconds when the first one begins there and how long all
     are."""
@@ -76,12 +85,12 @@ def runs_of(view, source):
     ]
 
 
-def evened(spans):
+def evened(spans: Iterable[sounds.Span]) -> Iterator[Whole]:
     """Spans of frames as runs of frames that last about as long as each other: each frame of a run begins within NEAR
     of its time. A run is the number of frames, their media, the start and the length of all."""
-    run = None
+    run: Optional[Run] = None
     for span in spans:
-        after = run and run.after(span)
+        after = None if run is None else run.after(span)
         if after is None:
             if run is not None:
                 yield run.whole()
@@ -97,11 +106,18 @@ class Run:
     ended.
     """
 
-    def __init__(self, media, start, count=0, end=None, lengths=(0, float("inf"))):
+    def __init__(
+        self,
+        media: Optional[AnyMedia],
+        start: int,
+        count: int = 0,
+        end: Optional[int] = None,
+        lengths: tuple[float, float] = (0, float("inf")),
+    ) -> None:
         self.media, self.start, self.count, self.lengths = media, start, count, lengths
         self.end = start if end is None else end
 
-    def after(self, span):
+    def after(self, span: sounds.Span) -> Optional[Run]:
         """The run with a frame more, or None if that is another run's."""
         if span.media is not self.media or (self.media is not None and abs(span.start - self.end) > NEAR):
             return None
@@ -110,6 +126,6 @@ class Run:
         most = min(self.lengths[1], (end - self.start + NEAR) / count)
         return Run(self.media, self.start, count, end, (least, most)) if least <= most else None
 
-    def whole(self):
+    def whole(self) -> Whole:
         length = min(max((self.end - self.start) / self.count, self.lengths[0]), self.lengths[1])
         return self.count, self.media, self.start, length * self.count

@@ -2,6 +2,8 @@
 is read.
 """
 
+from __future__ import annotations
+
 import bisect
 import os
 import threading
@@ -9,14 +11,21 @@ import time
 from array import array
 from collections import OrderedDict
 from itertools import accumulate
+from typing import Iterator, Optional, Protocol, Tuple, Union
 
 from .. import system
 from ..errors import Changed, Refused, TooManyRuns, Unreadable, Unserved
+from ..base.checks import AnyBytes
 from ..base.lines import EDITS as EDIT_WORDS, first_word, lines_in, lines_of
 from ..media import ivf, png
 from ..media.y4m import MARK
+from ..session.contents import Contents
 from ..session.frames import frame_of
+from .live import Live
 from .virtual import Clip
+
+# A revision and a frame of it, as samples or as a picture.
+Key = Union[Tuple[int, int], Tuple[int, int, str]]
 
 # Bytes of pictures that are kept for the next read: programs read a frame in many pieces.
 MOST_KEPT = 64 << 20
@@ -32,24 +41,33 @@ CLIP, PACKETS, EDITS, ERROR, FINDINGS, FACTS, FRAMES = (
 CONTAINERS = ("clip.webm", "clip.mkv")
 
 
+class File(Protocol):
+    """A file: its size, and its bytes from one place to another."""
+
+    size: int
+
+    def read(self, start: int, end: int) -> AnyBytes:
+        ...
+
+
 class Text:
     """A file whose bytes are here."""
 
-    def __init__(self, data):
+    def __init__(self, data: bytes) -> None:
         self.data, self.size = data, len(data)
 
-    def read(self, start, end):
+    def read(self, start: int, end: int) -> bytes:
         return self.data[start:end]
 
 
 class OnDisk:
     """A file that was made on the disk, and has no name there any more."""
 
-    def __init__(self, path):
+    def __init__(self, path: str) -> None:
         self.file = system.open_to_remove(path)
         self.size = os.fstat(self.file.fileno()).st_size
 
-    def read(self, start, end):
+    def read(self, start: int, end: int) -> bytes:
         return system.pread_all(self.file.fileno(), end - start, start)
 
 
@@ -58,7 +76,7 @@ class Packets:
     touch.
     """
 
-    def __init__(self, contents):
+    def __init__(self, contents: Contents) -> None:
         self.contents, self.numbers = contents, array("I", contents.streams[0])
         self.stamps, _ = contents.stamps(0, self.numbers)
         self.head = contents.inputs.all[0].head.text(len(self.numbers))
@@ -66,7 +84,7 @@ class Packets:
         self.places = array("Q", accumulate(sizes, initial=len(self.head)))
         self.size = self.places[-1]
 
-    def read(self, start, end):
+    def read(self, start: int, end: int) -> bytes:
         pieces = [self.head[start:end]]
         place = max(0, bisect.bisect_right(self.places, start) - 1)
         stop = min(len(self.numbers), bisect.bisect_left(self.places, end))
@@ -79,10 +97,10 @@ class Packets:
 class Frames:
     """All frames as one file; a frame that is refused has its place, and cannot be read."""
 
-    def __init__(self, clip, kept):
+    def __init__(self, clip: Clip, kept: Kept) -> None:
         self.clip, self.kept, self.size = clip, kept, clip.length
 
-    def frame(self, number):
+    def frame(self, number: int) -> bytes:
         found = self.kept.get((self.clip.revision, number))
         return (
             found
@@ -90,7 +108,7 @@ class Frames:
             else self.kept.put((self.clip.revision, number), bytes(self.clip.frames([number])[0]))
         )
 
-    def read(self, start, end):
+    def read(self, start: int, end: int) -> bytes:
         head, size = self.clip.header, self.clip.frame_size
         pieces, end = [head[start:end]], min(end, self.size)
         if end > len(head):
@@ -105,11 +123,11 @@ class Frames:
 class Picture:
     """A frame as PNG, whose size is known before it is made."""
 
-    def __init__(self, live, revision, number, size, kept):
+    def __init__(self, live: Live, revision: int, number: int, size: tuple[int, int], kept: Kept) -> None:
         self.live, self.revision, self.number, self.kept = live, revision, number, kept
         self.size = png.stored_size(*size)
 
-    def read(self, start, end):
+    def read(self, start: int, end: int) -> bytes:
         key = (self.revision, self.number, "png")
         text = self.kept.get(key)
         if text is None:
@@ -121,16 +139,17 @@ class Picture:
 class Kept:
     """The texts that were made last."""
 
-    def __init__(self):
-        self.items, self.bytes, self.lock = OrderedDict(), 0, threading.Lock()
+    def __init__(self) -> None:
+        self.items: OrderedDict[Key, bytes] = OrderedDict()
+        self.bytes, self.lock = 0, threading.Lock()
 
-    def get(self, key):
+    def get(self, key: Key) -> Optional[bytes]:
         with self.lock:
             if key in self.items:
                 self.items.move_to_end(key)
             return self.items.get(key)
 
-    def put(self, key, text):
+    def put(self, key: Key, text: bytes) -> bytes:
         with self.lock:
             if key not in self.items:
                 self.items[key] = text
@@ -143,19 +162,20 @@ class Kept:
 class Revision:
     """The files at one revision, each made when it is looked at first."""
 
-    def __init__(self, live, number, kept):
+    def __init__(self, live: Live, number: int, kept: Kept) -> None:
         self.live, self.number, self.kept = live, number, kept
-        self.time, self.files, self.lock = time.time(), {}, threading.RLock()
+        self.time, self.lock = time.time(), threading.RLock()
+        self.files: dict[str, File] = {}
         self.outcomes = live.outcomes()[1]
 
-    def file(self, name):
+    def file(self, name: str) -> File:
         """A file. `KeyError` if there is none of this name."""
         with self.lock:
             if name not in self.files:
                 self.files[name] = self.make(name)
             return self.files[name]
 
-    def make(self, name):
+    def make(self, name: str) -> File:
         live = self.live
         with live.lock:
             if live.revision != self.number:
@@ -193,7 +213,7 @@ class Revision:
             self.kept,
         )
 
-    def clip(self):
+    def clip(self) -> File:
         try:
             clip = Clip(self.live, "error")
         except (Unserved, TooManyRuns):
@@ -203,12 +223,12 @@ class Revision:
             raise Changed
         return Frames(clip, self.kept)
 
-    def container(self, contents, name):
+    def container(self, contents: Contents, name: str) -> File:
         path = os.path.join(self.live.room.name, f"{self.number}-{name}")
         contents.save(path, self.live.pad, 0, True, self.live.sound, self.live.notice)
         return OnDisk(path)
 
-    def refused(self):
+    def refused(self) -> Iterator[str]:
         """A line for each run of frames that are not served."""
         start = 0
         for end, (_, outcome) in zip(self.outcomes.ends, self.outcomes.runs):
@@ -217,39 +237,40 @@ class Revision:
             start = end
 
 
-def picture_name(number):
+def picture_name(number: int) -> str:
     return f"{FRAMES}/{number:06}.png"
 
 
 class Folder:
     """The folder of a stream that is edited meanwhile."""
 
-    def __init__(self, live):
+    def __init__(self, live: Live) -> None:
         self.live, self.kept, self.lock = live, Kept(), threading.RLock()
-        self.current, self.error, self.failed = None, "", time.time()
+        self.current: Optional[Revision] = None
+        self.error, self.failed = "", time.time()
 
-    def now(self):
+    def now(self) -> Revision:
         """The files of the current revision."""
         with self.lock:
             if self.current is None or self.current.number != self.live.revision:
                 self.current = Revision(self.live, self.live.revision, self.kept)
             return self.current
 
-    def names(self):
+    def names(self) -> list[str]:
         """What is in the folder."""
         return [CLIP, PACKETS, CONTAINERS[0], FRAMES, EDITS, FINDINGS, FACTS, *([ERROR] if self.error else [])]
 
-    def pictures(self):
+    def pictures(self) -> Iterator[str]:
         return (picture_name(number).split("/")[1] for number in range(self.now().outcomes.count))
 
-    def open(self, name):
+    def open(self, name: str) -> tuple[Optional[Revision], File]:
         """The revision and a file of it; `KeyError` if there is none of this name."""
         if name == ERROR and self.error:
             return None, Text(self.error.encode())
         revision = self.now()
         return revision, revision.file(name)
 
-    def read(self, revision, file, start, size):
+    def read(self, revision: Optional[Revision], file: File, start: int, size: int) -> bytes:
         """Bytes of a file. `Changed` if the stream was edited since it was opened, `Unreadable` if a frame is
         refused.
         """
@@ -260,7 +281,7 @@ class Folder:
         except (Refused, Unserved) as refused:
             raise Unreadable(str(refused)) from None
 
-    def edit(self, text):
+    def edit(self, text: str) -> None:
         """Makes the list of edits this text. `ValueError` if an edit is refused; the list is then as it was, and the
         reason is in a file.
         """
@@ -278,7 +299,7 @@ class Folder:
             raise ValueError(str(error)) from None
 
 
-def replace_edits(live, lines):
+def replace_edits(live: Live, lines: list[str]) -> None:
     """Makes the edits of a session these lines: those that both begin with stay, the others are undone. If one is
     refused, all are as before.
     """

@@ -2,16 +2,23 @@
 when it ends.
 """
 
+from __future__ import annotations
+
 import contextlib
 import os
 import re
 import secrets
 import threading
+from typing import Callable, Iterable, Optional, Sequence, Tuple, TypedDict, TypeVar, Union
 
 from ..errors import Changed, Ended, Lost, NotWritten, Refused
 from ..base import rooms
+from ..base.checks import AnyPath
 from ..base.progress import say
 from ..media import containers, facts, muxing, webm
+from ..media.ivf import Rate
+from ..session.contents import Contents
+from ..session.edits import EditList
 from ..session.outcomes import Outcomes
 from ..session.session import Session
 from .saves import Saves
@@ -25,7 +32,23 @@ MOST_TIME = 120
 MOST_NOTICES = 100
 
 
-def with_damage(lines, contents):
+Found = TypeVar("Found")
+# The width, height and samples of a frame.
+Picture = Tuple[int, int, memoryview]
+
+
+class Options(TypedDict, total=False):
+    """How the sessions of a stream are opened: arguments of `Session`."""
+
+    stream: AnyPath
+    sources: Sequence[AnyPath]
+    cache: Optional[int]
+    tables: Optional[AnyPath]
+    anyway: bool
+    timeout: float
+
+
+def with_damage(lines: list[str], contents: Contents) -> list[str]:
     """The lines of `vp8list --check` of the packets of source 0, with the damage of its file, which these packets do
     not have.
     """
@@ -40,7 +63,7 @@ def with_damage(lines, contents):
 class Viewer:
     """A session that makes the edits of another one after it, and serves frames of one size."""
 
-    def __init__(self, live):
+    def __init__(self, live: Live) -> None:
         self.session = Session(**live.options)
         try:
             for line in live.session.edits:
@@ -50,7 +73,7 @@ class Viewer:
             raise
         self.seen = len(live.log)
 
-    def follow(self, log):
+    def follow(self, log: Sequence[str]) -> None:
         """Makes the edits that were made since."""
         for line in log[self.seen :]:
             self.session.request(line, listed=False)
@@ -62,36 +85,49 @@ class Live:
 
     # Whether packets are saved as with --pad, whether they keep their time stamps, and what is done with sound
     # (`sounds.outputs`).
-    pad, keeps_stamps, sound = False, False, None
+    pad, keeps_stamps = False, False
+    sound: Optional[str] = None
     # Whether frames are repeated or left out, so that all last as long.
     is_constant = False
 
-    def __init__(self, options, edits=None, save=None, stems=()):
-        self.options = dict(options, timeout=MOST_TIME)
+    def __init__(
+        self,
+        options: Options,
+        edits: Optional[AnyPath] = None,
+        save: Union[str, os.PathLike[str], None] = None,
+        stems: Iterable[str] = (),
+    ) -> None:
+        self.options = options.copy()
+        self.options["timeout"] = MOST_TIME
         self.lock = threading.RLock()
         self.changed = threading.Condition(self.lock)
         self.instance, self.revision = secrets.token_hex(4), 1
         paths = [self.options.get("stream", "-"), *self.options.get("sources", ())]
         self.saves = Saves(save, stems, [muxing.ending_for(webm.media_of(path)) for path in paths])
         self.room = rooms.Room()
-        self.viewers, self.log = [], []
-        self.known, self.found = (None, None), (None, None)
+        self.viewers: list[Viewer] = []
+        self.log: list[str] = []
+        self.known: Optional[tuple[int, Outcomes]] = None
+        self.found: Optional[tuple[int, list[str]]] = None
         self.checking = threading.Lock()
         self.closed = False
         # How often the program was started again, and what else is to be said: sentences, numbered from 1.
-        self.events, self.notices, self.noticed, self.told = [], [], 0, set()
+        self.events: list[str] = []
+        self.notices: list[tuple[int, str]] = []
+        self.noticed = 0
+        self.told: set[str] = set()
         try:
             self.session = self.open(edits=edits)
         except BaseException:
             self.room.cleanup()
             raise
 
-    def open(self, **how):
-        session = Session(**{**self.options, **how}, explain=True)
+    def open(self, edits: Optional[AnyPath] = None, resume: Optional[EditList] = None) -> Session:
+        session = Session(**self.options, edits=edits, resume=resume, explain=True)
         session.on_edit, session.edits.on_notice = self.heard, self.notice
         return session
 
-    def tell_damage(self):
+    def tell_damage(self) -> None:
         """Says which files end in the middle or are damaged. What was said when a container was read is said to the
         page only.
         """
@@ -101,19 +137,19 @@ class Live:
                     self.told.add(text)
                     self.notice(text, is_said=text in containers.damage_of(item.path))
 
-    def notice(self, text, is_said=False):
+    def notice(self, text: str, is_said: bool = False) -> None:
         """Says something that nobody asked for."""
         if not is_said:
             say(text)
         self.noticed += 1
         self.notices = [*self.notices, (self.noticed, text)][-MOST_NOTICES:]
 
-    def heard(self, line):
+    def heard(self, line: str) -> None:
         """An edit was accepted."""
         if self.viewers:
             self.log.append(line)
 
-    def close(self):
+    def close(self) -> None:
         """Ends the programs. The edits are in the list; the stream is saved if it was changed since the last time."""
         with self.lock:
             try:
@@ -126,13 +162,13 @@ class Live:
                 self.room.cleanup()
                 self.changed.notify_all()
 
-    def drop_viewers(self):
+    def drop_viewers(self) -> None:
         for viewer in self.viewers:
             viewer.session.kill()
         self.viewers.clear()
         self.log.clear()
 
-    def again(self, ended):
+    def again(self, ended: object) -> None:
         """Starts the program again, from the list of edits."""
         if self.closed:
             raise Lost("the server ends")
@@ -147,55 +183,57 @@ class Live:
         self.events.append("restarted")
         self.changed.notify_all()
 
-    def add_source(self, path, stem, ending):
+    def add_source(self, path: AnyPath, stem: str, ending: str) -> None:
         """Opens another stream as the last source: the program is started again, from the list of edits. If it does not
         read the stream, all is as before."""
         with self.lock:
             before, edits = self.options, self.alive().edits
             # A list without edits is removed when its session ends.
-            how = {"resume": edits} if edits.path is None or len(edits) or edits.undone else {"edits": edits.path}
-            self.options = {**before, "sources": [*before.get("sources", ()), path]}
+            is_kept = edits.path is None or bool(len(edits) or edits.undone)
+            listed, resumed = (None, edits) if is_kept else (edits.path, None)
+            self.options = before.copy()
+            self.options["sources"] = [*before.get("sources", ()), path]
             self.drop_viewers()
             self.session.kill()
             try:
-                self.session = self.open(**how)
+                self.session = self.open(listed, resumed)
             except (Ended, OSError, ValueError):
                 self.options = before
-                self.session = self.open(**how)
+                self.session = self.open(listed, resumed)
                 raise
             finally:
                 self.forget()
             self.saves.stems.append((stem, ending))
             self.tell()
 
-    def forget(self):
+    def forget(self) -> None:
         """Nothing is known of the packets any more: the program reads the streams again."""
-        self.known = self.found = (None, None)
+        self.known = self.found = None
 
     @property
-    def changes(self):
+    def changes(self) -> int:
         """How often something was changed: an edit, a save, or the program started again. Who knows the number knows
         all.
         """
         return self.revision + len(self.events) + self.saves.count
 
-    def tell(self):
+    def tell(self) -> None:
         """The stream was changed."""
         self.revision += 1
         self.changed.notify_all()
 
-    def run(self, line):
+    def run(self, line: str) -> Union[str, list[str]]:
         """Makes an edit, `undo`, `redo` or `save`, and returns the reply, or the lines that were undone or made
         again.
         """
         return self.make(lambda: self.run_one(line))
 
-    def run_step(self, lines, title=""):
+    def run_step(self, lines: list[str], title: str = "") -> str:
         """Makes edits as one step for `undo`, and returns the reply to the last one. If one is refused, none is
         made.
         """
 
-        def step():
+        def step() -> str:
             reply = self.session.edits.run_step(
                 lines, progress=lambda done: self.on_progress(done, len(lines)), title=title
             )
@@ -204,10 +242,10 @@ class Live:
 
         return self.make(step)
 
-    def on_progress(self, done, total):
+    def on_progress(self, done: int, total: int) -> None:
         """So many edits of a step were made."""
 
-    def run_one(self, line):
+    def run_one(self, line: str) -> Union[str, list[str]]:
         if line == "save":
             return self.save()
         if line in ("undo", "redo"):
@@ -219,7 +257,7 @@ class Live:
         self.tell()
         return reply
 
-    def make(self, edit):
+    def make(self, edit: Callable[[], Found]) -> Found:
         """What a function returns that edits the session. If the program ends, it is started again, and the edit is not
         made.
         """
@@ -236,7 +274,7 @@ class Live:
                 self.tell()
                 raise
 
-    def save(self, source=0):
+    def save(self, source: int = 0) -> str:
         """Writes the packets of a source, and returns the name of the file."""
         contents = self.contents()
         restamps = not self.keeps_stamps and contents.is_edited(source, contents.streams[source])
@@ -246,7 +284,7 @@ class Live:
         self.changed.notify_all()
         return path
 
-    def renumbers(self, source=0):
+    def renumbers(self, source: int = 0) -> bool:
         """Whether a save gives the packets of a source other time stamps than they have."""
         contents = self.contents()
         stream = contents.streams[source]
@@ -254,38 +292,38 @@ class Live:
             return False
         return any(stamp != contents.stamp(number) for stamp, number in zip(contents.stamps(source, stream)[0], stream))
 
-    def is_saved(self):
+    def is_saved(self) -> bool:
         """Whether the packets of all sources are as they were opened or saved."""
         with self.lock:
             contents = self.contents()
             return all(self.saves.is_saved(source, contents, stream) for source, stream in enumerate(contents.streams))
 
-    def is_to_be_saved(self):
+    def is_to_be_saved(self) -> bool:
         """Whether something was edited, and the file that was named does not have it."""
         contents = self.contents()
         is_edited = self.revision > 1 or len(self.session.edits) > 0
         return is_edited and self.saves.file_of(0, contents, contents.streams[0]) is None
 
-    def picture(self, number, revision=None):
+    def picture(self, number: int, revision: Optional[int] = None) -> Picture:
         """The width, height and samples of a frame. `Changed` if the stream is of another revision."""
         return self.pictures([number], revision)[0]
 
-    def pictures(self, numbers, revision=None):
+    def pictures(self, numbers: Sequence[int], revision: Optional[int] = None) -> list[Picture]:
         """The same of several frames of one size."""
 
-        def view(session):
+        def view(session: Session) -> list[Picture]:
             if revision is not None and revision != self.revision:
                 raise Changed
             return self.view(session, numbers)
 
         return self.ask(view)
 
-    def look(self, numbers):
+    def look(self, numbers: Sequence[int]) -> tuple[int, Rate, list[Picture]]:
         """The revision, the rate of the frames, and some of them, of one size."""
         with self.lock:
             return self.revision, self.rate(), self.pictures(numbers)
 
-    def ask(self, function):
+    def ask(self, function: Callable[[Session], Found]) -> Found:
         """What a function returns of the session. If the program ended, it is started again, and asked again once."""
         with self.lock:
             for last in (False, True):
@@ -297,7 +335,7 @@ class Live:
                         raise Lost("vp8serve ended twice at this request") from None
             raise AssertionError
 
-    def view(self, session, numbers):
+    def view(self, session: Session, numbers: Sequence[int]) -> list[Picture]:
         """Frames of the program that serves their size."""
         try:
             return session.pictures(numbers)
@@ -320,32 +358,32 @@ class Live:
         self.viewers.insert(0, Viewer(self))
         return self.viewers[0].session.pictures(numbers)
 
-    def alive(self):
+    def alive(self) -> Session:
         """The session, started again if it ended."""
         if self.session.is_over:
             self.again("before this request")
         return self.session
 
-    def contents(self):
+    def contents(self) -> Contents:
         return self.alive().edits.contents()
 
-    def outcomes(self):
+    def outcomes(self) -> tuple[int, Outcomes]:
         """The revision, and the outcomes of its frames."""
         with self.lock:
-            if self.known[0] != self.revision:
+            if self.known is None or self.known[0] != self.revision:
                 self.known = (self.revision, self.ask(Outcomes))
             return self.known
 
-    def rate(self):
+    def rate(self) -> Rate:
         with self.lock:
             return self.contents().rate
 
-    def findings(self):
+    def findings(self) -> tuple[int, list[str]]:
         """The revision, and what `vp8list --check` says of its packets of source 0, line by line."""
         with self.checking:
             with self.lock:
                 revision, contents = self.revision, self.contents()
-                if self.found[0] == revision:
+                if self.found is not None and self.found[0] == revision:
                     return self.found
                 path = os.path.join(self.room.name, "checked.ivf")
                 with open(path, "wb") as file:

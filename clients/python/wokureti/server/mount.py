@@ -2,6 +2,8 @@
 path.
 """
 
+from __future__ import annotations
+
 import contextlib
 import errno
 import os
@@ -9,12 +11,16 @@ import stat
 import subprocess
 import sys
 import threading
+from types import ModuleType
+from typing import Callable, Optional, Union
 
 from .. import system
 from ..errors import Changed, Ended, Failed, Lost, Unreadable
 from ..base import waits
 from ..base.progress import say
-from .folders import EDITS, FRAMES, Folder
+from .folders import EDITS, FRAMES, File, Folder, Revision
+from .live import Live
+from .web import Server
 
 WRITES = os.O_WRONLY | os.O_RDWR
 # Seconds between two looks at whether a folder is unmounted.
@@ -39,7 +45,7 @@ DONE = (
 REFUSED = ("chmod", "chown", "create", "mkdir", "unlink", "rmdir", "rename", "symlink", "link", "mknod")
 
 
-def fuse_module():
+def fuse_module() -> ModuleType:
     """The module fusepy, which Debian calls so and PyPI calls fuse."""
     if system.IS_WINDOWS:
         raise Failed(
@@ -65,22 +71,23 @@ def fuse_module():
 class Open:
     """An open file: its revision and what it reads, or the text that is written to it."""
 
-    def __init__(self, revision, file, text=None):
+    def __init__(self, revision: Optional[Revision], file: File, text: Optional[bytearray] = None) -> None:
         self.revision, self.file, self.text, self.is_changed = revision, file, text, False
 
 
 class Operations:
     """What the system asks of the folder. Paths begin with `/`."""
 
-    def __init__(self, folder, module):
+    def __init__(self, folder: Folder, module: ModuleType) -> None:
         self.folder, self.fail, self.unmount = folder, module.FuseOSError, module.fuse_exit
         # Set when the folder is to be unmounted: the next operation does that, since libfuse takes it only from one.
         self.is_over = False
-        self.opened, self.count, self.counting = {}, 0, threading.Lock()
+        self.opened: dict[int, Open] = {}
+        self.count, self.counting = 0, threading.Lock()
         # Whether the list of edits was cut to nothing before it is opened: the system does so in two steps.
         self.is_cut = False
 
-    def __call__(self, operation, *given):
+    def __call__(self, operation: str, *given: object) -> object:
         """Does an operation. Errors are those of the system."""
         if self.is_over and operation not in ("init", "destroy"):
             self.unmount()
@@ -100,13 +107,13 @@ class Operations:
         except (Unreadable, Lost, Ended, MemoryError):
             raise self.fail(errno.EIO) from None
 
-    def init(self, path):
+    def init(self, path: str) -> None:
         """The folder is there."""
 
-    def destroy(self, path):
+    def destroy(self, path: str) -> None:
         """The folder goes."""
 
-    def getattr(self, path, handle=None):
+    def getattr(self, path: str, handle: Optional[int] = None) -> dict[str, Union[int, float]]:
         name, (user, group) = path[1:], system.owner()
         if name in ("", FRAMES):
             when = self.folder.now().time
@@ -133,10 +140,10 @@ class Operations:
             "st_gid": group,
         }
 
-    def readdir(self, path, handle):
+    def readdir(self, path: str, handle: int) -> list[str]:
         return [".", "..", *(self.folder.names() if path == "/" else self.folder.pictures())]
 
-    def open(self, path, flags):
+    def open(self, path: str, flags: int) -> int:
         writes = bool(flags & WRITES)
         if writes and path[1:] != EDITS:
             raise self.fail(errno.EACCES)
@@ -149,13 +156,13 @@ class Operations:
             self.opened[self.count] = found
             return self.count
 
-    def read(self, path, size, start, handle):
+    def read(self, path: str, size: int, start: int, handle: int) -> bytes:
         found = self.opened[handle]
         if found.text is not None:
             return bytes(found.text[start : start + size])
         return self.folder.read(found.revision, found.file, start, size)
 
-    def write(self, path, data, start, handle):
+    def write(self, path: str, data: bytes, start: int, handle: int) -> int:
         text = self.opened[handle].text
         if text is None:
             raise self.fail(errno.EBADF)
@@ -164,7 +171,7 @@ class Operations:
         self.opened[handle].is_changed = True
         return len(data)
 
-    def truncate(self, path, length, handle=None):
+    def truncate(self, path: str, length: int, handle: Optional[int] = None) -> None:
         if path[1:] != EDITS:
             raise self.fail(errno.EACCES)
         with self.counting:
@@ -176,33 +183,35 @@ class Operations:
             )
         self.is_cut = not writers and length == 0
         for found in writers:
+            if found.text is None:
+                raise self.fail(errno.EBADF)
             found.text = found.text[:length] + bytes(max(0, length - len(found.text)))
             found.is_changed = True
 
-    def flush(self, path, handle):
+    def flush(self, path: str, handle: int) -> None:
         found = self.opened[handle]
-        if found.is_changed:
+        if found.is_changed and found.text is not None:
             found.is_changed = False
             self.folder.edit(found.text.decode(errors="replace"))
 
-    def fsync(self, path, is_data, handle):
+    def fsync(self, path: str, is_data: int, handle: int) -> None:
         return self.flush(path, handle)
 
-    def release(self, path, handle):
+    def release(self, path: str, handle: int) -> None:
         with self.counting:
             del self.opened[handle]
 
-    def statfs(self, path):
+    def statfs(self, path: str) -> dict[str, int]:
         return {"f_bsize": 4096, "f_frsize": 4096, "f_namemax": 255}
 
-    def access(self, path, mode):
+    def access(self, path: str, mode: int) -> None:
         """What may be done is said when it is tried."""
 
-    def utimens(self, path, times=None):
+    def utimens(self, path: str, times: Optional[tuple[float, float]] = None) -> None:
         """Times are those of edits."""
 
 
-def clear(folder):
+def clear(folder: str) -> None:
     """Unmounts a folder whose program is gone."""
     try:
         os.stat(folder)
@@ -220,11 +229,12 @@ class Mount:
     right before that ends the process.
     """
 
-    def __init__(self, operations, mounts):
-        self.operations, self.mounts, self.gone, self.error = operations, mounts, threading.Event(), None
+    def __init__(self, operations: Operations, mounts: Callable[[Operations], object]) -> None:
+        self.operations, self.mounts, self.gone = operations, mounts, threading.Event()
+        self.error: Optional[BaseException] = None
         self.thread = threading.Thread(target=self.work, daemon=True)
 
-    def work(self):
+    def work(self) -> None:
         try:
             if not self.operations.is_over:
                 self.mounts(self.operations)
@@ -233,7 +243,7 @@ class Mount:
         finally:
             self.gone.set()
 
-    def wait(self):
+    def wait(self) -> None:
         """Mounts the folder until it is unmounted."""
         self.thread.start()
         while not self.gone.wait(waits.LONGEST):
@@ -241,7 +251,7 @@ class Mount:
         if self.error is not None:
             raise self.error
 
-    def end(self, folder):
+    def end(self, folder: str) -> None:
         """Unmounts the folder, also if it is just being mounted."""
         self.operations.is_over = True
         while self.thread.ident is not None and not self.gone.wait(OFTEN):
@@ -249,7 +259,7 @@ class Mount:
                 os.stat(folder)
 
 
-def run(live, folder, others=False, server=None):
+def run(live: Live, folder: str, others: bool = False, server: Optional[Server] = None) -> int:
     """Mounts the folder until it is unmounted or the process is interrupted. `server` serves the same session
     meanwhile.
     """
@@ -288,6 +298,6 @@ def run(live, folder, others=False, server=None):
         mount.end(folder)
         if server is not None:
             server.end()
-            server.routes.others.close()
+            server.routes.close()
         live.close()
     return 0

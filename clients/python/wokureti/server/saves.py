@@ -1,10 +1,16 @@
 """The files that the packets of an edited stream were saved to, and whether what is in them is what the stream has."""
 
+from __future__ import annotations
+
 import os
 from array import array
-from typing import NamedTuple
+from typing import Callable, Iterable, Iterator, NamedTuple, Optional, Sequence, Tuple, Union
 
 from .. import system
+from ..session.contents import Contents
+
+# Which file is at a path: its device, its number there, its bytes, and when it was written.
+Identity = Tuple[int, int, int, int]
 
 
 class Saved(NamedTuple):
@@ -13,12 +19,12 @@ class Saved(NamedTuple):
     """
 
     path: str
-    identity: tuple
+    identity: Optional[Identity]
     contents: str
-    packets: array
+    packets: array[int]
 
 
-def names_of(stem, ending):
+def names_of(stem: str, ending: str) -> Iterator[str]:
     """clip-edited.ivf, clip-edited-2.ivf, and so on."""
     number = 1
     while True:
@@ -26,12 +32,12 @@ def names_of(stem, ending):
         number += 1
 
 
-def free_name(stem, ending=".ivf"):
+def free_name(stem: str, ending: str = ".ivf") -> str:
     """The first of these names that is not there yet."""
     return next(path for path in names_of(stem, ending) if not os.path.lexists(path))
 
 
-def claimed(stem, ending=".ivf"):
+def claimed(stem: str, ending: str = ".ivf") -> str:
     """The same as a new file, so that no other program gets it."""
     for path in names_of(stem, ending):
         try:
@@ -42,7 +48,7 @@ def claimed(stem, ending=".ivf"):
     raise AssertionError
 
 
-def identity(path):
+def identity(path: str) -> Optional[Identity]:
     """Which file is at a path, and its bytes; None if there is none."""
     try:
         found = os.stat(path)
@@ -56,11 +62,14 @@ class Saves:
     source goes to a new file of its stem and ending, that no other program has, and only this file is replaced
     later."""
 
-    def __init__(self, named=None, stems=(), endings=()):
+    def __init__(
+        self, named: Union[str, os.PathLike[str], None] = None, stems: Iterable[str] = (), endings: Iterable[str] = ()
+    ) -> None:
         self.named, self.stems = None if named is None else os.fspath(named), list(zip(stems, endings))
-        self.done, self.count = {}, 0
+        self.done: dict[int, Saved] = {}
+        self.count = 0
 
-    def path(self, source=0):
+    def path(self, source: int = 0) -> Optional[str]:
         """The file that the next save of a source writes, or None."""
         if source == 0 and self.named is not None:
             return self.named
@@ -69,7 +78,7 @@ class Saves:
             return done.path
         return free_name(*self.stems[source]) if source < len(self.stems) else None
 
-    def save(self, source, contents, write):
+    def save(self, source: int, contents: Contents, write: Callable[[str], object]) -> str:
         """Saves a source: `write` writes a file of this path. Returns the path."""
         path, is_new = self.path(source), False
         if path is None:
@@ -94,7 +103,7 @@ class Saves:
         self.count += 1
         return path
 
-    def file_of(self, source, contents, stream):
+    def file_of(self, source: int, contents: Contents, stream: Sequence[int]) -> Optional[str]:
         """The file that has exactly the packets of a source, or None."""
         done = self.done.get(source)
         if done is None or done.packets != stream or identity(done.path) != done.identity:
@@ -103,6 +112,6 @@ class Saves:
         is_known = done.contents == contents.name or all(number < contents.of_files for number in stream)
         return done.path if is_known else None
 
-    def is_saved(self, source, contents, stream):
+    def is_saved(self, source: int, contents: Contents, stream: Sequence[int]) -> bool:
         """Whether a source is as it was opened, or as it was saved."""
         return not contents.is_edited(source, stream) or self.file_of(source, contents, stream) is not None

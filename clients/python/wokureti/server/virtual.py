@@ -2,12 +2,20 @@
 it touches.
 """
 
+from __future__ import annotations
+
 import queue
 import threading
+from typing import Callable, Generator, Optional, Sequence, Tuple, TypeVar, Union
 
 from ..errors import Changed, Lost, Refused, Unserved
+from ..base.checks import AnyBytes
 from ..media.y4m import MARK, header_of, size_of
 from ..tools import paces
+from .live import Live
+
+Item = TypeVar("Item")
+Made = TypeVar("Made")
 
 # Frames that are asked for at a time, at most, and the bytes of those that are made for all readers together and not
 # sent yet: a reader has up to three groups of them.
@@ -20,17 +28,17 @@ class Ahead:
     time.
     """
 
-    def __init__(self):
+    def __init__(self) -> None:
         self.taken, self.lock = 0, threading.Lock()
 
-    def take(self, frame_size):
+    def take(self, frame_size: int) -> int:
         """How many frames a group has, three of which fit; 0 if there is no room. `give` gives their bytes back."""
         with self.lock:
             count = min(AT_ONCE, max(0, MOST_BYTES - self.taken) // (3 * frame_size))
             self.taken += 3 * count * frame_size
             return count
 
-    def give(self, count, frame_size):
+    def give(self, count: int, frame_size: int) -> None:
         with self.lock:
             self.taken -= 3 * count * frame_size
 
@@ -42,7 +50,7 @@ class Clip:
     """The file of one revision. `mode` says what is in the place of a frame that is refused: None, the file cannot be
     served; `repeat`, the frame before it; `black`, a black frame; `error`, none: the other frames are served."""
 
-    def __init__(self, live, mode=None):
+    def __init__(self, live: Live, mode: Optional[str] = None) -> None:
         self.live, self.mode = live, mode
         with live.lock:
             self.revision, self.outcomes = live.outcomes()
@@ -63,14 +71,14 @@ class Clip:
         luma = size[0] * size[1]
         self.black = bytes([16]) * luma + bytes([128]) * (self.samples - luma)
 
-    def source_of(self, number):
+    def source_of(self, number: int) -> Optional[int]:
         """The frame of the stream whose picture is served as this one, or None for a black one."""
         number = number if self.order is None else self.order[number]
         if self.outcomes.is_served(self.outcomes.of_frame(number)):
             return number
         return self.outcomes.served_before(number) if self.mode == "repeat" else None
 
-    def frames(self, numbers):
+    def frames(self, numbers: Sequence[int]) -> list[AnyBytes]:
         """The samples of frames of the file."""
         wanted = list(dict.fromkeys(source for source in map(self.source_of, numbers) if source is not None))
         found = dict(zip(wanted, self.live.pictures(wanted, self.revision)))
@@ -84,7 +92,7 @@ class Clip:
             raise Unserved(number, self.outcomes.reply(self.outcomes.of_frame(number)))
         return [self.black if source is None else found[source][2] for source in sources]
 
-    def in_order(self, first, end):
+    def in_order(self, first: int, end: int) -> Generator[AnyBytes, None, None]:
         """The samples of a range of frames, some of them made while those before them are sent."""
         budget = AHEAD
         at_once = 0 if end - first <= 2 else budget.take(self.frame_size)
@@ -101,7 +109,7 @@ class Clip:
             made.close()
             budget.give(at_once, self.frame_size)
 
-    def pieces(self, start, end):
+    def pieces(self, start: int, end: int) -> Generator[AnyBytes, None, None]:
         """The bytes of a range. It stops, before the range is whole, at an edit, or if a frame cannot be made."""
         head = len(self.header)
         if start < head:
@@ -122,11 +130,12 @@ class Clip:
             frames.close()
 
 
-def ahead(make, numbers):
+def ahead(make: Callable[[Item], Made], numbers: Sequence[Item]) -> Generator[Made, None, None]:
     """What `make` makes of each item, in order, the next one before it is asked for."""
-    made, stopped = queue.Queue(1), threading.Event()
+    made: queue.Queue[Union[Tuple[Made], BaseException]] = queue.Queue(1)
+    stopped = threading.Event()
 
-    def put(item):
+    def put(item: Union[Tuple[Made], BaseException]) -> None:
         while not stopped.is_set():
             try:
                 made.put(item, timeout=0.5)
@@ -134,25 +143,26 @@ def ahead(make, numbers):
             except queue.Full:
                 pass
 
-    def work():
+    def work() -> None:
         for number in numbers:
             if stopped.is_set():
                 return
+            item: Union[Tuple[Made], BaseException]
             try:
-                item = (make(number), None)
+                item = (make(number),)
             except BaseException as error:
-                item = (None, error)
+                item = error
             put(item)
-            if item[1] is not None:
+            if isinstance(item, BaseException):
                 return
 
     threading.Thread(target=work, daemon=True).start()
     try:
         for _ in numbers:
-            item, error = made.get()
-            if error is not None:
-                raise error
-            yield item
+            item = made.get()
+            if isinstance(item, BaseException):
+                raise item
+            yield item[0]
     finally:
         stopped.set()
 

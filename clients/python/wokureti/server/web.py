@@ -5,6 +5,8 @@ another site cannot reach it under a name of its own (DNS rebinding); and where 
 request comes from, it must be this one.
 """
 
+from __future__ import annotations
+
 import contextlib
 import json
 import re
@@ -13,9 +15,11 @@ import sys
 import threading
 import time
 import urllib.parse
+from typing import Callable, Iterable, Mapping, Optional, Protocol
 
 from .. import system
 from ..errors import Dropped, Refuse
+from ..base.checks import AnyBytes
 
 MOST_HEAD = 16 << 10
 MOST_BODY = 8 << 20
@@ -50,22 +54,30 @@ TOKEN = re.compile(rb"[!#$%&'*+.^_`|~0-9A-Za-z-]+")
 class Response:
     """What is sent: a status, headers, and a body of bytes or of pieces whose length is known."""
 
-    def __init__(self, status, kind, body=b"", length=None, headers=(), pieces=None):
+    def __init__(
+        self,
+        status: int,
+        kind: Optional[str],
+        body: bytes = b"",
+        length: Optional[int] = None,
+        headers: Iterable[tuple[str, str]] = (),
+        pieces: Optional[Iterable[AnyBytes]] = None,
+    ) -> None:
         self.status, self.kind, self.body, self.headers, self.pieces = status, kind, body, list(headers), pieces
         self.length = len(body) if length is None and pieces is None else length
 
 
-def as_json(members, status=200, headers=()):
+def as_json(members: Mapping[str, object], status: int = 200, headers: Iterable[tuple[str, str]] = ()) -> Response:
     """A JSON object as a response."""
     return Response(status, "application/json", json.dumps(members).encode() + b"\n", headers=headers)
 
 
-def as_text(refuse):
+def as_text(refuse: Refuse) -> Response:
     """A refusal that a person reads in a browser."""
     return Response(refuse.status, "text/plain; charset=utf-8", f"Wokureti: {refuse.members['error']}\n".encode())
 
 
-def is_opened(request):
+def is_opened(request: Request) -> bool:
     """Whether a browser opens the request as a page."""
     return request.headers.get("sec-fetch-dest") == "document" or request.headers.get("accept", "").startswith(
         "text/html"
@@ -75,10 +87,10 @@ def is_opened(request):
 class Request:
     """A request: the method, the parts of the path, the query, the headers (names in small letters) and the body."""
 
-    def __init__(self, method, target, version, headers, body=b""):
+    def __init__(self, method: str, target: str, version: str, headers: Mapping[str, str], body: bytes = b"") -> None:
         self.method, self.version, self.headers, self.body = method, version, headers, body
         # Whether nobody waits for the answer any more.
-        self.is_gone = lambda: False
+        self.is_gone: Callable[[], bool] = lambda: False
         path, _, query = target.partition("?")
         if not path.startswith("/") or not re.fullmatch(r"[\x21-\x7e]*", target):
             raise Refuse(400, "the target of the request is not a path")
@@ -93,13 +105,13 @@ class Request:
             raise Refuse(400, "a name is twice in the query")
 
     @property
-    def keeps(self):
+    def keeps(self) -> bool:
         """Whether the client wants to use the connection again."""
         said = self.headers.get("connection", "").lower()
         return "close" not in said and (self.version == "HTTP/1.1" or "keep-alive" in said)
 
 
-def parse_head(text):
+def parse_head(text: bytes) -> tuple[str, str, str, dict[str, str]]:
     """The method, target, version and headers of a request."""
     lines = text.split(b"\r\n")
     words = lines[0].split(b" ")
@@ -107,12 +119,12 @@ def parse_head(text):
         raise Refuse(400, "not a request line")
     if words[2] not in (b"HTTP/1.1", b"HTTP/1.0"):
         raise Refuse(505, "only HTTP/1.1 and HTTP/1.0 are spoken")
-    headers = {}
+    headers: dict[str, str] = {}
     for line in lines[1:]:
-        name, colon, value = line.partition(b":")
-        if not colon or not TOKEN.fullmatch(name) or b"\n" in value or b"\r" in value or b"\0" in value:
+        token, colon, value = line.partition(b":")
+        if not colon or not TOKEN.fullmatch(token) or b"\n" in value or b"\r" in value or b"\0" in value:
             raise Refuse(400, "not a header")
-        name = name.decode("ascii").lower()
+        name = token.decode("ascii").lower()
         if name in headers:
             if name in ("host", "content-length", "content-type", "origin", "range", "if-range", "transfer-encoding"):
                 raise Refuse(400, f"the header {name} is there twice")
@@ -122,15 +134,35 @@ def parse_head(text):
     return words[0].decode("ascii"), words[1].decode("latin-1"), words[2].decode("ascii"), headers
 
 
+class Handler(Protocol):
+    """What answers the requests of a server. `reading` is the word of the address that only reads."""
+
+    reading: Optional[str]
+
+    def is_entry(self, request: Request) -> bool:
+        ...
+
+    def check(self, request: Request) -> None:
+        ...
+
+    def answer(self, request: Request) -> Response:
+        ...
+
+    def close(self) -> None:
+        ...
+
+
 class Connection:
     """A connection of a client, which has a thread of its own."""
 
-    def __init__(self, server, sock):
+    def __init__(self, server: Server, sock: socket.socket) -> None:
         self.server, self.socket = server, sock
         self.moved = time.monotonic()
         self.rest = b""
+        # The request that is answered, once its head was read.
+        self.asked: Optional[Request] = None
 
-    def run(self):
+    def run(self) -> None:
         try:
             self.socket.setsockopt(socket.IPPROTO_TCP, socket.TCP_NODELAY, 1)
             while self.answer_one():
@@ -144,16 +176,16 @@ class Connection:
             self.close()
             self.server.forget(self)
 
-    def shut(self):
+    def shut(self) -> None:
         """Ends the connection, from another thread."""
         with contextlib.suppress(OSError):
             self.socket.shutdown(socket.SHUT_RDWR)
 
-    def close(self):
+    def close(self) -> None:
         self.shut()
         self.socket.close()
 
-    def receive(self, deadline):
+    def receive(self, deadline: float) -> bytes:
         """More bytes, before a deadline."""
         left = deadline - time.monotonic()
         if left <= 0:
@@ -167,7 +199,7 @@ class Connection:
             raise Dropped
         return piece
 
-    def read_head(self):
+    def read_head(self) -> bytes:
         """The head of the next request, without its empty line."""
         deadline = time.monotonic() + IDLE_TIME
         while b"\r\n\r\n" not in self.rest:
@@ -184,7 +216,7 @@ class Connection:
             raise Refuse(431, "the head of the request is too long")
         return head
 
-    def read_request(self):
+    def read_request(self) -> Request:
         method, target, version, headers = parse_head(self.read_head().lstrip(b"\r\n"))
         if "transfer-encoding" in headers:
             raise Refuse(501, "a body must have a Content-Length")
@@ -192,7 +224,7 @@ class Connection:
         if not re.fullmatch("[0-9]{1,18}", text):
             raise Refuse(400, "Content-Length is not a number")
         length = int(text)
-        most = getattr(self.server.routes, "most_body", MOST_BODY)
+        most: int = getattr(self.server.routes, "most_body", MOST_BODY)
         if length > most:
             raise Refuse(413, f"a body has at most {most} bytes")
         # What must not be answered is refused before its body is read.
@@ -207,9 +239,10 @@ class Connection:
         request.body, self.rest = self.rest[:length], self.rest[length:]
         return request
 
-    def answer_one(self):
+    def answer_one(self) -> bool:
         """Answers a request. Whether another one may come."""
-        request = self.asked = None
+        request: Optional[Request] = None
+        self.asked = None
         try:
             request = self.read_request()
             request.is_gone = self.is_gone
@@ -228,14 +261,14 @@ class Connection:
             self.linger()
         return keeps
 
-    def is_gone(self):
+    def is_gone(self) -> bool:
         """Whether the client closed the connection."""
         try:
             return system.is_readable(self.socket) and self.socket.recv(1, socket.MSG_PEEK) == b""
         except OSError:
             return True
 
-    def respond(self, response, keeps, is_head):
+    def respond(self, response: Response, keeps: bool, is_head: bool) -> None:
         head = [f"HTTP/1.1 {response.status} {REASONS[response.status]}"]
         head += [f"{name}: {value}" for name, value in (*SAFE, *response.headers)]
         if response.kind:
@@ -259,7 +292,7 @@ class Connection:
             if response.pieces is not None and hasattr(response.pieces, "close"):
                 response.pieces.close()
 
-    def send(self, data):
+    def send(self, data: AnyBytes) -> None:
         """Sends bytes; a client that takes none for too long is dropped."""
         view = memoryview(data)
         self.socket.settimeout(WRITE_TIME)
@@ -271,7 +304,7 @@ class Connection:
             view = view[count:]
             self.moved = time.monotonic()
 
-    def linger(self):
+    def linger(self) -> None:
         """Reads what the client still sends, for a moment, so that it sees the answer and not a reset."""
         with contextlib.suppress(OSError):
             self.socket.shutdown(socket.SHUT_WR)
@@ -286,16 +319,18 @@ class Server:
     returns a `Response`.
     """
 
-    def __init__(self, port=0):
+    def __init__(self, port: int = 0) -> None:
         self.listener = socket.create_server(("127.0.0.1", port), backlog=128)
         self.port = self.listener.getsockname()[1]
         self.host = f"127.0.0.1:{self.port}"
         self.origin = f"http://{self.host}"
-        self.connections, self.strangers, self.lock = set(), {}, threading.Lock()
-        self.routes = None
+        self.connections: set[Connection] = set()
+        self.strangers: dict[Connection, bool] = {}
+        self.lock = threading.Lock()
+        self.routes: Handler
         self.ended = False
 
-    def check(self, request):
+    def check(self, request: Request) -> None:
         """Refuses what is not from this machine's own client."""
         if request.headers.get("host") != self.host:
             raise Refuse(
@@ -314,15 +349,15 @@ class Server:
             raise Refuse(403, "the request comes from another site")
         self.routes.check(request)
 
-    def answer(self, request):
+    def answer(self, request: Request) -> Response:
         return self.routes.answer(request)
 
-    def forget(self, connection):
+    def forget(self, connection: Connection) -> None:
         with self.lock:
             self.connections.discard(connection)
             self.strangers.pop(connection, None)
 
-    def meet(self, connection):
+    def meet(self, connection: Connection) -> None:
         """Takes a connection that has not sent a token yet. If there are too many of these, the oldest one goes: it is
         no client of ours, which sends its first request at once."""
         oldest = None
@@ -334,7 +369,7 @@ class Server:
         if oldest is not None:
             oldest.shut()
 
-    def admit(self, connection):
+    def admit(self, connection: Connection) -> None:
         """Gives a connection whose request has the token a place. If there is none, the one that is stalled for the
         longest time goes.
         """
@@ -352,7 +387,7 @@ class Server:
         if stalled is not None:
             stalled.shut()
 
-    def serve(self):
+    def serve(self) -> None:
         """Takes connections until `end` is called."""
         while not self.ended:
             try:
@@ -371,7 +406,7 @@ class Server:
                 connection.close()
                 self.forget(connection)
 
-    def end(self):
+    def end(self) -> None:
         """Ends `serve`, and all connections."""
         self.ended = True
         with contextlib.suppress(OSError):

@@ -9,7 +9,6 @@ import builtins
 import contextlib
 import copy
 import itertools
-import math
 import os
 import secrets
 import tempfile

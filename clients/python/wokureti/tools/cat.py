@@ -16,8 +16,8 @@ import threading
 from typing import IO, Callable, ContextManager, Iterable, Iterator, NamedTuple, Optional, Sequence
 
 from .. import system
-from ..errors import Ended, Failed, Refused, sentence
-from ..base import checks, files, programs, rooms, waits
+from ..errors import Failed, Refused, sentence
+from ..base import checks, files, rooms, waits
 from ..base.checks import AnyPath, AnyStream
 from ..base.progress import Progress, say
 from ..media.y4m import MARK, header_of, parse_header

@@ -14,7 +14,7 @@ import shutil
 import subprocess
 import tempfile
 from array import array
-from typing import Callable, Iterable, Iterator, NamedTuple, Optional, Sequence
+from typing import Callable, Dict, Iterable, Iterator, List, NamedTuple, Optional, Sequence, TypedDict
 
 from .. import system
 from ..errors import Failed
@@ -424,7 +424,16 @@ def durations_of(served: Sequence[exports.Shown], contents: Contents, pieces: It
     return found
 
 
-def costs_of(session: Session) -> dict[str, object]:
+class Costs(TypedDict):
+    """What an export costs."""
+
+    frames: int
+    coded: int
+    nodes: List[int]
+    leads: List[Dict[str, object]]
+
+
+def costs_of(session: Session) -> Costs:
     """What an export of a session costs: the number of its frames, how many are coded again, what of the script changes
     them, and the leads.
     """

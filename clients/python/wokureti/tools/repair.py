@@ -29,6 +29,7 @@ from typing import (
 from .. import system
 from ..errors import NoKeyFrame, NoSecond, NotIvf
 from ..base.checks import AnyBytes, AnyPath
+from ..base.files import Mapped
 from ..calls import recordings
 from ..media import facts, ivf, salvage, times
 from ..session import convert, runs
@@ -269,7 +270,7 @@ class Repair:
 
     # Reading
 
-    def read(self, data: bytes, scan: bool = True, path: Optional[AnyPath] = None) -> None:
+    def read(self, data: Mapped, scan: bool = True, path: Optional[AnyPath] = None) -> None:
         """Takes the packets of a file. Its path is only for vp8list, which then reads it itself."""
         found = salvage.plain(data)
         if found is not None:
@@ -654,7 +655,7 @@ class Repair:
             self.say(f"packet {place}: {text}: not repaired", False)
         self.left = len(refused) + len(past) + len(around)
 
-    def need_key(self, second: Optional[bytes]) -> None:
+    def need_key(self, second: Optional[Mapped]) -> None:
         """`NoKeyFrame` if nothing can be decoded: there is nothing to repair from."""
         if any(found.is_key and not found.cause for found in self.outlines()):
             return
@@ -835,7 +836,7 @@ def shift_between(packets: Iterable[Packet], other: Iterable[Packet]) -> Optiona
     return shifts.most_common(1)[0][0] if shifts else None
 
 
-def packets_of(data: bytes, scan: bool = True) -> list[Packet]:
+def packets_of(data: Mapped, scan: bool = True) -> list[Packet]:
     """The packets of a second recording."""
     reader = Repair(None, None)
     try:
@@ -846,10 +847,10 @@ def packets_of(data: bytes, scan: bool = True) -> list[Packet]:
 
 
 def repair(
-    data: bytes,
+    data: Mapped,
     program: str,
     lister: str,
-    second: Optional[bytes] = None,
+    second: Optional[Mapped] = None,
     tables: Optional[str] = None,
     steps: Container[str] = frozenset(("scan", "double", "sort", "hold")),
     stage: Optional[Callable[[str], None]] = None,
@@ -888,7 +889,7 @@ def repair(
 
 
 def edits_of(
-    data: bytes, found: Repair, second: Optional[bytes] = None, lasting: Optional[Lasting] = None
+    data: Mapped, found: Repair, second: Optional[Mapped] = None, lasting: Optional[Lasting] = None
 ) -> Optional[list[str]]:
     """The edits that make the mended stream of the file, or None if vp8serve does not read the file. Packets of a
     second recording that is source 1 are copied from it. `lasting` says how long packets are shown, if edits of the
