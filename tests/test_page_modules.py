@@ -1,5 +1,6 @@
 #!/usr/bin/env python3
-"""The modules of the page without a browser: `node --test` over clients/python/tests/page, `tsc --checkJs` over all.
+"""The modules of the page without a browser: `node --test` over clients/python/tests/page, `tsc --checkJs` over all,
+which have no line of more than 120 characters.
 
 It prints what is wrong and ends with 1, or prints nothing and ends with 0; a line `skipped: ..` names what could not be
 run.
@@ -16,7 +17,7 @@ import tempfile
 TOP = pathlib.Path(__file__).resolve().parent.parent
 PAGE, HERE = TOP / "clients/python/wokureti/page", TOP / "clients/python/tests/page"
 TESTS = sorted(HERE.glob("*.test.mjs"))
-LIMIT = 600
+LIMIT, WIDTH = 600, 120
 # Members that a class has of those that extend it, or of the module that makes its objects: tsc does not see them.
 GIVEN = {
     "Contents": "sizes stamps tags hashes",
@@ -94,8 +95,9 @@ def copy(folder):
     for name in ("browsers.d.ts", "tsconfig.json"):
         shutil.copyfile(HERE / name, folder / name)
     for path in PAGE.rglob("*.js"):
-        text = re.sub(r"Object\.assign\(this, \{ (.*) \}\);", assigned, path.read_text(encoding="utf-8"))
-        text = re.sub(r"^\s*\[(this\..*?)\] = \[(.*)\];$", paired, text, flags=re.M)
+        text = path.read_text(encoding="utf-8")
+        text = re.sub(r"Object\.assign\(this, \{\s(.*?)\s\}\);", assigned, text, flags=re.S)
+        text = re.sub(r"^ *\[(this\.[^\]]*)\] = \[([^;]*?)\];$", paired, text, flags=re.M)
         other = folder / "page" / path.relative_to(PAGE)
         other.parent.mkdir(parents=True, exist_ok=True)
         other.write_text(text, encoding="utf-8")
@@ -134,8 +136,28 @@ def checked():
         )
 
 
+def long_lines(folder):
+    """The lines of modules with more characters than a line may have."""
+    return [
+        f"{path.relative_to(folder)}:{number}: {len(line)} characters, at most {WIDTH}"
+        for path in sorted(folder.rglob("*.js"))
+        for number, line in enumerate(path.read_text(encoding="utf-8").split("\n"), 1)
+        if len(line) > WIDTH
+    ]
+
+
+def narrow():
+    """The long lines of the page, and whether one that is planted is not found."""
+    yield from long_lines(PAGE)
+    with tempfile.TemporaryDirectory() as name:
+        pathlib.Path(name, "planted.js").write_text(f"// {'a' * WIDTH}\n", encoding="utf-8")
+        if not long_lines(pathlib.Path(name)):
+            yield f"a line of more than {WIDTH} characters is not found"
+
+
 def main():
     wrong = [] if TESTS else ["clients/python/tests/page has no test"]
+    wrong += narrow()
     for program, what, act in (("node", "the page's functions", tested), ("tsc", "the page's types", checked)):
         if shutil.which(program):
             wrong += act()

@@ -12,7 +12,9 @@ const MOST_BYTES = 1 << 30;
 /** A file as it is called below the folder that all files have in common. */
 export function namedFrom(file, files) {
   const parts = files[0].split("/").slice(0, -1);
-  const common = parts.filter((_, place) => files.every((other) => other.startsWith(`${parts.slice(0, place + 1).join("/")}/`)));
+  const common = parts.filter((_, place) => files.every((other) =>
+    other.startsWith(`${parts.slice(0, place + 1).join("/")}/`),
+  ));
   return file.split("/").slice(common.length).join("/");
 }
 
@@ -63,7 +65,11 @@ export class Adding {
     const digest = await digestOf(dropped[0]);
     const same = digest ? await engine.same(name, size, digest) : [];
     if (same.length) await this.choose(same, await engine.files());
-    else notice(`${name} is no stream in the folders of those that are open, or below them: move it there, or name it with --source`, { isBad: true, id: "dropped" });
+    else notice(
+      `${name} is no stream in the folders of those that are open, or below them: move it there, or name it with ` +
+        "--source",
+      { isBad: true, id: "dropped" },
+    );
   }
 
   /** Opens a file of this machine: next to the stream that is open, or in its place. */

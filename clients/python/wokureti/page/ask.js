@@ -2,8 +2,8 @@
 
 import { find } from "./elements.js";
 
-/** Asks for values; `fields` are objects with name, label, value, and choices, or the most and the step of a number. `note` is a sentence below them. Returns the values, or
- * null. */
+/** Asks for values; `fields` are objects with name, label, value, and choices, or the most and the step of a number.
+ * `note` is a sentence below them. Returns the values, or null. */
 export function ask(title, action, fields, note = "") {
   const dialog = find("ask");
   dialog.querySelector("h2").textContent = title;
@@ -44,7 +44,12 @@ export function ask(title, action, fields, note = "") {
   return new Promise((answer) => {
     dialog.addEventListener(
       "close",
-      () => answer(dialog.returnValue === "yes" ? Object.fromEntries(Object.entries(inputs).map(([name, input]) => [name, input.value])) : null),
+      () =>
+        answer(
+          dialog.returnValue === "yes"
+            ? Object.fromEntries(Object.entries(inputs).map(([name, input]) => [name, input.value]))
+            : null,
+        ),
       { once: true },
     );
   });

@@ -71,7 +71,10 @@ export function toColour(frame) {
       for (const stop = Math.min(end, place + 2); place < stop; place++) {
         const light = LUMA[y.samples[place]];
         out[place] =
-          (255 << 24) | (CLAMPED[((light + blue) >> SHIFT) + LOW] << 16) | (CLAMPED[((light + green) >> SHIFT) + LOW] << 8) | CLAMPED[((light + red) >> SHIFT) + LOW];
+          (255 << 24) |
+          (CLAMPED[((light + blue) >> SHIFT) + LOW] << 16) |
+          (CLAMPED[((light + green) >> SHIFT) + LOW] << 8) |
+          CLAMPED[((light + red) >> SHIFT) + LOW];
       }
     }
   }
@@ -120,7 +123,8 @@ export function toDifference(frame, other, plane, gain) {
   return out;
 }
 
-/** Of two frames of one size: for each plane the PSNR (Infinity if they are the same), and the number of samples that differ. */
+/** Of two frames of one size: for each plane the PSNR (Infinity if they are the same), and the number of samples that
+ * differ. */
 export function compared(frame, other) {
   const [mine, theirs] = [planes(frame), planes(other)];
   const psnr = {};

@@ -49,7 +49,10 @@ export class Cropping {
   position(event) {
     const box = this.picture.canvas.getBoundingClientRect();
     const { width, height } = this.picture.now;
-    return { x: ((event.clientX - box.left) / box.width) * width, y: ((event.clientY - box.top) / box.height) * height };
+    return {
+      x: ((event.clientX - box.left) / box.width) * width,
+      y: ((event.clientY - box.top) / box.height) * height,
+    };
   }
 
   begin(event) {
@@ -71,7 +74,12 @@ export class Cropping {
     const { now, canvas } = this.picture;
     const box = find("crop-box");
     const [across, down] = [canvas.clientWidth / now.width, canvas.clientHeight / now.height];
-    Object.assign(box.style, { left: `${canvas.offsetLeft + x * across}px`, top: `${canvas.offsetTop + y * down}px`, width: `${width * across}px`, height: `${height * down}px` });
+    Object.assign(box.style, {
+      left: `${canvas.offsetLeft + x * across}px`,
+      top: `${canvas.offsetTop + y * down}px`,
+      width: `${width * across}px`,
+      height: `${height * down}px`,
+    });
     box.hidden = false;
   }
 
@@ -84,10 +92,19 @@ export class Cropping {
       { name: "width", label: "Width", value: found.width, most: width },
       { name: "height", label: "Height", value: found.height, most: height },
     ];
-    const given = await ask("Crop all frames", "Crop", fields, "The script crops what is shown; no packet is changed. Export then codes all frames again.");
+    const given = await ask(
+      "Crop all frames",
+      "Crop",
+      fields,
+      "The script crops what is shown; no packet is changed. Export then codes all frames again.",
+    );
     this.toggle(false);
     if (!given) return;
     const { x, y, width: wide, height: high } = given;
-    await this.cutting.set(cropped(this.model.session.script, { x, y, width: wide, height: high }), `${wide}x${high} samples of each frame are shown`, this.model.frame);
+    await this.cutting.set(
+      cropped(this.model.session.script, { x, y, width: wide, height: high }),
+      `${wide}x${high} samples of each frame are shown`,
+      this.model.frame,
+    );
   }
 }

@@ -1,4 +1,5 @@
-// A curve over the timeline: a number of each packet's header, of the packets that are seen, or how much their frames differ from those before the edits.
+// A curve over the timeline: a number of each packet's header, of the packets that are seen, or how much their frames
+// differ from those before the edits.
 
 import { compared } from "./colours.js";
 import { objectsOf } from "./details.js";
@@ -10,7 +11,8 @@ const MOST_PACKETS = 4000;
 const QUIET = 250;
 // Packets that are asked for at a time for a file.
 const MOST_ASKED = 10000;
-// The greatest value of each number; that of others is the greatest one that is seen. Frames that are the same have the greatest PSNR.
+// The greatest value of each number; that of others is the greatest one that is seen. Frames that are the same have the
+// greatest PSNR.
 const MOST = { quantizer: 127, level: 63, psnr: 60 };
 // Frames that are compared for a curve, at most, and after how many it is drawn again.
 const MOST_FRAMES = 300;
@@ -19,7 +21,11 @@ const DRAWN = 10;
 /** Rows of a packet and its number as CSV; a packet without a number has none. */
 export function csvOf(kind, rows) {
   const name = kind === "bytes" ? "bits" : kind;
-  return [`packet,${name}`, ...rows.map(([packet, value]) => `${packet},${typeof value === "number" ? value : ""}`), ""].join("\n");
+  return [
+    `packet,${name}`,
+    ...rows.map(([packet, value]) => `${packet},${typeof value === "number" ? value : ""}`),
+    "",
+  ].join("\n");
 }
 
 /** The points of a curve: a packet without a value has none, and ends a line. */
@@ -87,9 +93,14 @@ export class Curves {
   async save() {
     const { kind } = this;
     const { source, packets, session } = this.model;
-    const rows = kind === "psnr" ? [...(this.timeline.curve?.values ?? [])].filter(([, value]) => value !== null).sort(([one], [other]) => one - other) : [];
+    const rows = kind === "psnr"
+      ? [...(this.timeline.curve?.values ?? [])].filter(([, value]) => value !== null).sort(([one], [other]) =>
+        one - other,
+      )
+      : [];
     for (let first = 0; kind !== "psnr" && first < packets; first += MOST_ASKED) {
-      const found = objectsOf(await engine.answer(`list ${first} ${MOST_ASKED}`, source, { waits: "the numbers of the packets" }));
+      const found =
+        objectsOf(await engine.answer(`list ${first} ${MOST_ASKED}`, source, { waits: "the numbers of the packets" }));
       rows.push(...found.map((facts) => [facts.packet, this.valueIn(facts, kind)]));
     }
     const stem = session.names[source].replace(/\.[^.]*$/, "");

@@ -17,7 +17,8 @@ export class EditList {
     this.key = key;
     find("edits-count").textContent = edits.length ? (before + edits.length).toLocaleString("en") : "";
     find("edits-text").textContent = unwritten
-      ? `The last ${unwritten === 1 ? "edit is" : `${unwritten.toLocaleString("en")} edits are`} not on the disk yet: make room, and the next edit writes all to ${session.list}.`
+      ? `The last ${unwritten === 1 ? "edit is" : `${unwritten.toLocaleString("en")} edits are`} not on the disk ` +
+        `yet: make room, and the next edit writes all to ${session.list}.`
       : edits.length
         ? `Each edit is in ${session.list} already. Save writes the packets to ${session.saves[0].next}.`
         : "No edits yet. Select packets in the timeline and delete, hold or drop them, or take a repair of a finding.";
@@ -51,7 +52,10 @@ export class EditList {
     }
     const packet = packetOfLine(line);
     if (line.startsWith("script")) button.addEventListener("click", () => find("tab-script").click());
-    else if (packet !== null) button.addEventListener("click", () => this.model.goPacket(Math.min(packet, this.model.packets - 1)).catch(() => {}));
+    else if (packet !== null)
+      button.addEventListener("click", () => this.model
+        .goPacket(Math.min(packet, this.model.packets - 1))
+        .catch(() => {}));
     if (isEnd && place + 1 < this.model.session.edits.length) {
       const texts = { className: "here", textContent: "Back to here", title: "Undo the edits after this one" };
       entry.append(make("button", { ...texts, onclick: () => this.editing.undoTo(number) }));

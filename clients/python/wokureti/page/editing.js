@@ -41,8 +41,12 @@ export class Editing {
     if (!session) return;
     find("undo").disabled = !session.edits.length;
     find("redo").disabled = !session.undone.length;
-    find("undo").title = session.edits.length ? `Undo: ${session.edits[session.edits.length - 1].slice(0, 60)} (Ctrl+Z)` : "Nothing to undo";
-    find("redo").title = session.undone.length ? `Redo: ${session.undone[0].slice(0, 60)} (Ctrl+Shift+Z)` : "Nothing to redo";
+    find("undo").title = session.edits.length
+      ? `Undo: ${session.edits[session.edits.length - 1].slice(0, 60)} (Ctrl+Z)`
+      : "Nothing to undo";
+    find("redo").title = session.undone.length
+      ? `Redo: ${session.undone[0].slice(0, 60)} (Ctrl+Shift+Z)`
+      : "Nothing to redo";
     find("save").disabled = session.saved && session.script === "-";
     for (const id of ["delete", "hold", "drop", "copy", "cut"]) find(id).disabled = !chosen;
     find("paste").disabled = !this.clipboard;
@@ -66,7 +70,11 @@ export class Editing {
     performance.mark("edit");
     try {
       const title = typeof said === "string" ? said : "";
-      const answer = await this.model.change((page) => engine.ask(lines, { revision: this.model.revision, title, page }));
+      const answer = await this.model.change((page) => engine.ask(lines, {
+        revision: this.model.revision,
+        title,
+        page,
+      }));
       const text = typeof said === "function" ? said(answer.reply) : said;
       if (text && !isQuiet) this.status.say(`${text} (${Math.round(performance.now() - since)} ms)`);
       this.last = answer.reply;
@@ -109,15 +117,26 @@ export class Editing {
     const { saves, names } = session;
     let source = 0;
     if (saves.some(({ edited }, number) => number && edited)) {
-      const choices = saves.map(({ edited, next }, number) => [`the packets of ${names[number]}, to ${fileOf(next)}`, number, edited]).filter(([, number, edited]) => edited || number === 0);
-      const found = await ask("Save packets as they are", "Save", [{ name: "source", label: "What", value: 0, choices }], "The script is in no packet: Export gives the frames that are shown.");
+      const choices = saves
+        .map(({ edited, next }, number) => [`the packets of ${names[number]}, to ${fileOf(next)}`, number, edited])
+        .filter(([, number, edited]) => edited || number === 0);
+      const found = await ask(
+        "Save packets as they are",
+        "Save",
+        [{ name: "source", label: "What", value: 0, choices }],
+        "The script is in no packet: Export gives the frames that are shown.",
+      );
       if (!found) return;
       source = Number(found.source);
     }
     return this.inTurn(async () => {
       try {
         const { reply: path, renumbered } = await this.model.change((page) => engine.save(source, page));
-        const what = source === 0 && this.model.session.script !== "-" ? "The packets were saved, without the script, to" : source ? `The packets of ${names[source]} were saved to` : "Saved to";
+        const what = source === 0 && this.model.session.script !== "-"
+          ? "The packets were saved, without the script, to"
+          : source
+          ? `The packets of ${names[source]} were saved to`
+          : "Saved to";
         const said = `${what} ${path}${renumbered ? "; times were numbered again" : ""}`;
         notice(said, { id: "saved" });
         this.status.say(`${said[0].toLowerCase()}${said.slice(1)}`);
@@ -164,11 +183,13 @@ export class Editing {
       if (model.revision !== revision) this.status.say("the stream was changed since: undo, and then cut out");
       else if (await this.undo()) await this.cutting.cutOutPackets(source, first, end);
     };
-    notice(`${packets({ first, end })[0].toUpperCase()}${packets({ first, end }).slice(1)} deleted. ${broken} ${deleted}, ${until}, ${key - first === 1 ? "is" : "are"} predicted from ${deleted}, so ${key - first === 1 ? "its picture breaks" : "their pictures break"}. Cut out leaves all packets as they are, and only does not show the frames.`, {
-      isBad: true,
-      id: "broken",
-      act: ["Cut out instead", act],
-    });
+    const gone = packets({ first, end });
+    const [are, breaks] = key - first === 1 ? ["is", "its picture breaks"] : ["are", "their pictures break"];
+    notice(
+      `${gone[0].toUpperCase()}${gone.slice(1)} deleted. ${broken} ${deleted}, ${until}, ${are} predicted from ` +
+        `${deleted}, so ${breaks}. Cut out leaves all packets as they are, and only does not show the frames.`,
+      { isBad: true, id: "broken", act: ["Cut out instead", act] },
+    );
   }
 
   async keyAfter(packet) {
@@ -221,7 +242,15 @@ export class Editing {
       const at = model.packet;
       const source = model.source;
       try {
-        const found = await model.change((page) => engine.paste({ contents, numbers, source, at, move: isMove, revision: model.revision, page }));
+        const found = await model.change((page) => engine.paste({
+          contents,
+          numbers,
+          source,
+          at,
+          move: isMove,
+          revision: model.revision,
+          page,
+        }));
         if (isMove) this.clipboard = null;
         if (!found.made) return this.status.say("they are there already");
         model.select(found.first, found.first + found.count);
@@ -244,7 +273,11 @@ export class Editing {
       { name: "width", label: "Width", value: now ? now.width : 320, most: 16383 },
       { name: "height", label: "Height", value: now ? now.height : 180, most: 16383 },
     ]);
-    if (found) await this.step([`blank ${at} ${Number(found.width)} ${Number(found.height)}`], `a grey frame is inserted at ${at}`);
+    if (found)
+      await this.step(
+        [`blank ${at} ${Number(found.width)} ${Number(found.height)}`],
+        `a grey frame is inserted at ${at}`,
+      );
   }
 
   async replaceByFile() {
@@ -254,7 +287,11 @@ export class Editing {
     const bytes = steps.packetOf(new Uint8Array(await file.arrayBuffer()));
     find("file").value = "";
     if (bytes.length > MOST_BYTES) {
-      notice(`${file.name} has ${bytes.length.toLocaleString("en")} bytes; a packet that the page sends has at most ${MOST_BYTES.toLocaleString("en")}.`, { isBad: true });
+      notice(
+        `${file.name} has ${bytes.length.toLocaleString("en")} bytes; a packet that the page sends has at most ` +
+          `${MOST_BYTES.toLocaleString("en")}.`,
+        { isBad: true },
+      );
       return;
     }
     await this.step([`replace ${at} ${steps.hexadecimal(bytes)}`], `packet ${at} has the bytes of ${file.name}`);
@@ -262,7 +299,9 @@ export class Editing {
 
   async replaceBySource() {
     const { session, packet: at, source } = this.model;
-    const others = session.names.map((name, number) => [`${number}: ${name}`, number]).filter(([, number]) => number !== source);
+    const others = session.names.map((name, number) => [`${number}: ${name}`, number]).filter(([, number]) =>
+      number !== source,
+    );
     const found = await ask(`Replace packet ${at}`, "Replace", [
       { name: "source", label: "Source", value: others[0][1], choices: others },
       { name: "packet", label: "Packet of it", value: at },
@@ -292,7 +331,8 @@ export function savedText({ saves, script, names, edits }) {
     const without = source === 0 && file && script !== "-" ? ", without the script" : "";
     parts.push(file ? `${of}saved to ${fileOf(file)}${without}` : `${of}not saved`);
   });
-  if (!parts.length && edits.length) parts.push(script === "-" ? "nothing to save" : "the script is in the list of edits");
+  if (!parts.length && edits.length)
+    parts.push(script === "-" ? "nothing to save" : "the script is in the list of edits");
   return parts.join(" · ");
 }
 

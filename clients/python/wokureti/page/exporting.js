@@ -1,4 +1,5 @@
-// Export: the frames that are shown as a file, or why that cannot be. What the script changes is coded again, if that is wanted.
+// Export: the frames that are shown as a file, or why that cannot be. What the script changes is coded again, if that
+// is wanted.
 
 import { ask } from "./ask.js";
 import { find } from "./elements.js";
@@ -7,7 +8,8 @@ import { notice } from "./status.js";
 
 // Milliseconds between two looks at how far an export is.
 const OFTEN = 200;
-// Nanoseconds of a lead from which on there is a choice, and decibels that each coded frame has at least if nothing is said.
+// Nanoseconds of a lead from which on there is a choice, and decibels that each coded frame has at least if nothing is
+// said.
 const LONG = 10e9;
 const USUAL = 45;
 
@@ -18,7 +20,8 @@ function many(number, what) {
 /** What an export codes again, in a sentence. */
 export function codedText({ coded, frames }) {
   if (coded === frames) return `The script changes each of the ${many(frames, "frame")}: all of them are coded again.`;
-  return `${coded.toLocaleString("en")} of ${many(frames, "frame")} ${coded === 1 ? "is" : "are"} coded again; all others stay as they are.`;
+  return `${coded.toLocaleString("en")} of ${many(frames, "frame")} ${coded === 1 ? "is" : "are"} coded again; all ` +
+    "others stay as they are.";
 }
 
 /** What each way costs for parts that begin between key packets. */
@@ -27,9 +30,14 @@ export function leadText(leads) {
   const frames = leads.reduce((all, { first, end }) => all + end - first, 0);
   const isOne = leads.length === 1;
   const longest = (Math.max(...leads.map(({ length }) => length)) / 1e9).toFixed(0);
-  const begin = isOne ? `Frame ${leads[0].first} is ${longest} s after a key frame.` : `${leads.length} parts begin between key frames, one of them ${longest} s after one.`;
-  const exact = `The packets from ${isOne ? "there" : "the key frames"} on can come before ${isOne ? "it" : "them"}, hidden: ${many(sum("packets"), "packet")}, ${many(sum("bytes"), "byte")}.`;
-  return `${begin} ${exact} Or ${isOne ? "its" : "their"} first ${many(frames, "frame")}, ${many(sum("coded_bytes"), "byte")} now, ${frames === 1 ? "is" : "are"} coded again, and nothing is hidden.`;
+  const begin = isOne
+    ? `Frame ${leads[0].first} is ${longest} s after a key frame.`
+    : `${leads.length} parts begin between key frames, one of them ${longest} s after one.`;
+  const exact =
+    `The packets from ${isOne ? "there" : "the key frames"} on can come before ${isOne ? "it" : "them"}, hidden: ` +
+    `${many(sum("packets"), "packet")}, ${many(sum("bytes"), "byte")}.`;
+  return `${begin} ${exact} Or ${isOne ? "its" : "their"} first ${many(frames, "frame")}, ` +
+    `${many(sum("coded_bytes"), "byte")} now, ${frames === 1 ? "is" : "are"} coded again, and nothing is hidden.`;
 }
 
 /** Whether a part begins so long after a key packet that there is a choice. It is of all parts. */
@@ -44,8 +52,20 @@ function fieldsOf(costs) {
   if (!encoder || (!coded && !isLong)) return [];
   const label = "Decibels that each coded frame has at least";
   const fields = /** @type {any[]} */ ([{ name: "psnr", label, value: USUAL, most: 60 }]);
-  if (sounds) fields.push({ name: "sound", label: "Sound", value: "fade", choices: [["fades with the picture", "fade"], ["stays as it is", "copy"]] });
-  if (isLong) fields.push({ name: "lead", label: "Packets before a part", value: "exact", choices: [["hidden", "exact"], ["none: coded again", "coded"]] });
+  if (sounds)
+    fields.push({
+      name: "sound",
+      label: "Sound",
+      value: "fade",
+      choices: [["fades with the picture", "fade"], ["stays as it is", "copy"]],
+    });
+  if (isLong)
+    fields.push({
+      name: "lead",
+      label: "Packets before a part",
+      value: "exact",
+      choices: [["hidden", "exact"], ["none: coded again", "coded"]],
+    });
   return fields;
 }
 
@@ -55,7 +75,12 @@ async function chosen(signal) {
   if (costs.coded && !costs.encoder) throw new Error(`${codedText(costs)} ${costs.why}`);
   const fields = fieldsOf(costs);
   if (!fields.length) return {};
-  const how = await ask("Export", "Export", fields, [costs.coded ? codedText(costs) : "", hasLong(costs) ? leadText(costs.leads) : ""].join(" ").trim());
+  const how = await ask(
+    "Export",
+    "Export",
+    fields,
+    [costs.coded ? codedText(costs) : "", hasLong(costs) ? leadText(costs.leads) : ""].join(" ").trim(),
+  );
   // Nothing is coded.
   if (how && !costs.coded && how.lead !== "coded") return {};
   return how && { how };
@@ -91,7 +116,12 @@ export class Exporting {
     const number = String(Math.random()).slice(2);
     this.tell(number, making).catch(() => {});
     try {
-      const { file, name, said } = await engine.file("export", { ...how, name: number, signal: making.signal, got: (done, total) => this.status.share("the export is read", done / total) });
+      const { file, name, said } = await engine.file("export", {
+        ...how,
+        name: number,
+        signal: making.signal,
+        got: (done, total) => this.status.share("the export is read", done / total),
+      });
       if (file) offer(file, name);
       this.status.say(`exported ${name}: ${said}`);
       this.done?.(name);

@@ -15,10 +15,13 @@ const INSIDE = ["past_end", "unread"];
 /** Damage before notes, each in the order of packets. */
 export function ordered(findings) {
   const rank = (finding) => (finding.severity === "damage" ? 0 : 1);
-  return findings.map((finding, place) => ({ finding, place })).sort((one, other) => rank(one.finding) - rank(other.finding) || one.place - other.place);
+  return findings.map((finding, place) => ({ finding, place })).sort((one, other) =>
+    rank(one.finding) - rank(other.finding) || one.place - other.place,
+  );
 }
 
-/** Findings in groups: damage up to the next key packet is mostly that of the first packet, and notes of one kind say one thing. */
+/** Findings in groups: damage up to the next key packet is mostly that of the first packet, and notes of one kind say
+ * one thing. */
 export function grouped(list) {
   const groups = new Map();
   for (const { finding, place } of list) {
@@ -38,7 +41,8 @@ function keyOf(finding) {
 /** What a person can do where no repair is certain. */
 export function hopelessText(left) {
   const many = left === 1 ? "1 packet stays damaged" : `${left.toLocaleString("en")} packets stay damaged`;
-  return `No repair is certain, so nothing is changed: ${many}. Press a finding to see what can be done there, or open a second recording as source 1 (Open …): its packets replace damaged ones.`;
+  return `No repair is certain, so nothing is changed: ${many}. Press a finding to see what can be done there, or ` +
+    "open a second recording as source 1 (Open …): its packets replace damaged ones.";
 }
 
 export class Findings {
@@ -84,7 +88,8 @@ export class Findings {
     if (answer.check !== this.news.check || !answer.from) this.news = { check: answer.check, findings: [] };
     const { check, findings } = this.news;
     findings.push(...answer.findings.map((finding, place) => ({ ...finding, group: answer.groups[place] })));
-    const isNew = !this.check || this.check.check !== check || answer.findings.length > 0 || this.check.over !== answer.over;
+    const isNew =
+      !this.check || this.check.check !== check || answer.findings.length > 0 || this.check.over !== answer.over;
     // Those of the stream before stay until this check is over, or has found something, or takes long.
     if (answer.over || findings.length || this.check?.check === check) {
       this.check = { ...answer, findings };
@@ -109,9 +114,12 @@ export class Findings {
     find("repair-all-line").hidden = !over || damage < 2;
     this.offerAll();
     clearTimeout(this.learning);
-    if (over && damage >= 2 && this.all.check !== this.check?.check) this.learning = setTimeout(() => this.learnAll().catch(() => {}), LATER);
+    if (over && damage >= 2 && this.all.check !== this.check?.check)
+      this.learning = setTimeout(() => this.learnAll().catch(() => {}), LATER);
     find("report-line").hidden = !over || !(damage || notes);
-    find("check-status").textContent = over ? `checked, ${totals}` : `checking ${done.toLocaleString("en")} of ${packets.toLocaleString("en")} packets`;
+    find("check-status").textContent = over
+      ? `checked, ${totals}`
+      : `checking ${done.toLocaleString("en")} of ${packets.toLocaleString("en")} packets`;
     const count = find("findings-count");
     count.textContent = damage || notes ? (damage || notes).toLocaleString("en") : "";
     count.classList.toggle("bad", damage > 0);
@@ -120,7 +128,9 @@ export class Findings {
 
   write() {
     const { findings, check, over, damage: all, notes } = this.check;
-    const damage = [...new Set(findings.filter(({ severity, packet }) => severity === "damage" && packet !== null).map(({ packet }) => packet))];
+    const damage = [...new Set(
+      findings.filter(({ severity, packet }) => severity === "damage" && packet !== null).map(({ packet }) => packet),
+    )];
     const inside = findings.filter(({ kind }) => INSIDE.includes(kind)).map(({ packet }) => packet);
     // The timeline is asked for again only if there are more findings than are told.
     this.timeline.setFindings(damage, inside, over && findings.length < all + notes ? String(check) : "");
@@ -176,8 +186,14 @@ export class Findings {
     const open = { key, finding, revision: this.model.revision, repairs: null };
     this.open = open;
     try {
-      const given = ["kind", "packet", "before", "stamp"].filter((name) => name === "kind" || Number.isInteger(finding[name]));
-      const answer = await engine.task("repairs", { finding: Object.fromEntries(given.map((name) => [name, finding[name]])) }, { waits: "the repairs" });
+      const given = ["kind", "packet", "before", "stamp"].filter((name) =>
+        name === "kind" || Number.isInteger(finding[name]),
+      );
+      const answer = await engine.task(
+        "repairs",
+        { finding: Object.fromEntries(given.map((name) => [name, finding[name]])) },
+        { waits: "the repairs" },
+      );
       open.repairs = answer.repairs;
     } catch (error) {
       open.repairs = [];
@@ -224,7 +240,9 @@ export class Findings {
       const { findings } = await engine.task("check", { lines: repair.lines, packet: repair.packet, revision });
       if (this.shown !== repair) return;
       const damage = findings.filter(({ severity }) => severity === "damage").length;
-      find("preview-result").textContent = damage ? `damage up to the next key frame: ${damage}` : "no damage up to the next key frame";
+      find("preview-result").textContent = damage
+        ? `damage up to the next key frame: ${damage}`
+        : "no damage up to the next key frame";
     } catch (error) {
       if (this.shown === repair) find("preview-result").textContent = error.message;
     }
@@ -241,7 +259,12 @@ export class Findings {
   async learnAll(waits = "") {
     const check = this.check?.check;
     if (this.all.check !== check) {
-      const found = await engine.task("repair_all", {}, { waits }).catch((error) => ({ lines: [], said: [], left: 0, why: error.message }));
+      const found = await engine.task("repair_all", {}, { waits }).catch((error) => ({
+        lines: [],
+        said: [],
+        left: 0,
+        why: error.message,
+      }));
       this.all = { ...found, check, why: found.why ?? (found.lines.length ? "" : hopelessText(found.left)) };
       this.offerAll();
     }
@@ -255,7 +278,9 @@ export class Findings {
       notice(why, { id: "repairs" });
       return;
     }
-    const title = `${said.length.toLocaleString("en")} steps, ${lines.length.toLocaleString("en")} edits${left ? `, ${left} packets stay damaged` : ""}`;
+    const title =
+      `${said.length.toLocaleString("en")} steps, ${lines.length.toLocaleString("en")} ` +
+      `edits${left ? `, ${left} packets stay damaged` : ""}`;
     await this.preview({ title, lines, packet: this.model.packet, step: "Repair all" });
     find("preview-text").title = said.slice(0, 40).join("\n");
   }
@@ -266,7 +291,10 @@ export class Findings {
     const { packet } = repair;
     this.close();
     toTimeline();
-    const isMade = await this.editing.make(this.model.session.source === 0 ? repair.lines : ["use 0", ...repair.lines], repair.step || repair.title);
+    const isMade = await this.editing.make(
+      this.model.session.source === 0 ? repair.lines : ["use 0", ...repair.lines],
+      repair.step || repair.title,
+    );
     await this.viewer.setPreview(null);
     if (isMade) await this.model.goPacket(Math.min(packet, this.model.packets - 1));
   }
@@ -302,7 +330,9 @@ export class Findings {
 
   /** Goes to the next damage after the current packet, or to the one before it. */
   go(step) {
-    const packets = [...new Set((this.check?.findings || []).filter(({ packet }) => packet !== null).map(({ packet }) => packet))].sort((one, other) => one - other);
+    const packets = [...new Set(
+      (this.check?.findings || []).filter(({ packet }) => packet !== null).map(({ packet }) => packet),
+    )].sort((one, other) => one - other);
     const { packet } = this.model;
     const next = step > 0 ? packets.find((one) => one > packet) : packets.filter((one) => one < packet).pop();
     if (next !== undefined) this.model.goPacket(next).catch(() => {});
@@ -311,7 +341,11 @@ export class Findings {
 
 /** The keys go to the packets if the button that was pressed is gone. */
 function toTimeline() {
-  if (!document.activeElement || document.activeElement === document.body || document.activeElement.closest("#preview-bar")) find("timeline").focus({ focusVisible: false });
+  if (
+    !document.activeElement ||
+    document.activeElement === document.body ||
+    document.activeElement.closest("#preview-bar")
+  ) find("timeline").focus({ focusVisible: false });
 }
 
 function fold(entry) {

@@ -6,8 +6,10 @@ export function parse(text) {
   for (const part of text.replace(/^#/, "").split("&")) {
     const [name, value = ""] = part.split("=");
     if (["frame", "source"].includes(name) && /^\d{1,15}$/.test(value)) found[name] = Number(value);
-    if (["from", "scale", "left", "zoom"].includes(name) && /^\d{1,15}(\.\d{1,9})?$/.test(value)) found[name] = Number(value);
-    if (["view", "plane", "size", "overlay", "panel"].includes(name) && /^[a-z0-9]{1,12}$/.test(value)) found[name] = value;
+    if (["from", "scale", "left", "zoom"].includes(name) && /^\d{1,15}(\.\d{1,9})?$/.test(value))
+      found[name] = Number(value);
+    if (["view", "plane", "size", "overlay", "panel"].includes(name) && /^[a-z0-9]{1,12}$/.test(value))
+      found[name] = value;
   }
   return found;
 }
@@ -15,8 +17,11 @@ export function parse(text) {
 /** The fragment of members; those that are as at the start are left out. */
 export function format(members) {
   const defaults = { view: "frame", plane: "colour", size: "fit", overlay: "none", panel: "findings", source: 0 };
-  const parts = Object.entries(members).filter(([name, value]) => value !== undefined && value !== null && value !== defaults[name]);
-  return `#${parts.map(([name, value]) => `${name}=${typeof value === "number" ? Number(value.toFixed(6)) : value}`).join("&")}`;
+  const parts = Object.entries(members).filter(([name, value]) =>
+    value !== undefined && value !== null && value !== defaults[name],
+  );
+  const textOf = (value) => (typeof value === "number" ? Number(value.toFixed(6)) : value);
+  return `#${parts.map(([name, value]) => `${name}=${textOf(value)}`).join("&")}`;
 }
 
 export class Fragment {

@@ -63,7 +63,9 @@ export class Frames {
           throw error;
         },
       );
-    return Promise.all(Array.from({ length: count }, (_, place) => this.fetch(`now ${first + place}`, revision, each(place))));
+    return Promise.all(
+      Array.from({ length: count }, (_, place) => this.fetch(`now ${first + place}`, revision, each(place))),
+    );
   }
 
   /** The picture of a packet without the script. */

@@ -17,13 +17,28 @@ export function keysOf({ model, player, sound, lane, editing, findings, viewer, 
   return [
     { keys: ["ArrowLeft"], show: "←", text: "back one frame", act: step(-1) },
     { keys: ["ArrowRight"], show: "→", text: "forward one frame", act: step(1) },
-    { keys: ["Shift+ArrowLeft"], show: "Shift ←", text: "extend the selection to the left (on the picture: move the loupe, or to the next macroblock)", act: () => extend(model, -1) },
-    { keys: ["Shift+ArrowRight"], show: "Shift →", text: "extend the selection to the right", act: () => extend(model, 1) },
+    {
+      keys: ["Shift+ArrowLeft"],
+      show: "Shift ←",
+      text: "extend the selection to the left (on the picture: move the loupe, or to the next macroblock)",
+      act: () => extend(model, -1),
+    },
+    {
+      keys: ["Shift+ArrowRight"],
+      show: "Shift →",
+      text: "extend the selection to the right",
+      act: () => extend(model, 1),
+    },
     { keys: ["PageUp"], show: "Page Up", text: "back 10 frames", act: step(-10) },
     { keys: ["PageDown"], show: "Page Down", text: "forward 10 frames", act: step(10) },
     { keys: ["ArrowUp"], show: "↑", text: "the key frame before", act: () => model.goKey(-1) },
     { keys: ["ArrowDown"], show: "↓", text: "next key frame", act: () => model.goKey(1) },
-    { keys: ["Shift+PageUp"], show: "Shift Page Up", text: "the cut before, where the script joins", act: () => model.goCut(-1) },
+    {
+      keys: ["Shift+PageUp"],
+      show: "Shift Page Up",
+      text: "the cut before, where the script joins",
+      act: () => model.goCut(-1),
+    },
     { keys: ["Shift+PageDown"], show: "Shift Page Down", text: "next cut", act: () => model.goCut(1) },
     { keys: ["Home"], show: "Home", text: "first frame", act: () => model.goEnd(true) },
     { keys: ["End"], show: "End", text: "last frame", act: () => model.goEnd(false) },
@@ -34,22 +49,67 @@ export function keysOf({ model, player, sound, lane, editing, findings, viewer, 
     { keys: ["u", "U"], show: "U", text: "the sound of playback on or off", act: () => sound.toggle() },
     { keys: ["i", "I"], show: "I", text: "In: the selected frames begin here", act: () => cutting.mark(true) },
     { keys: ["o", "O"], show: "O", text: "Out: the selected frames end here", act: () => cutting.mark(false) },
-    { keys: ["Ctrl+a"], show: "Ctrl A", text: "select all frames, or in the lane of packets all packets", act: () => (model.lane === "packets" ? model.select(0, model.packets) : model.selectFrames(0, model.frames)) },
-    { keys: ["Escape"], show: "Esc", text: "leave the preview, or drop In, Out and the selections", act: () => palette.escape() },
-    { keys: ["Delete", "Backspace"], show: "Delete", text: "cut the selected frames out; in the lane of packets: delete packets", act: () => (model.lane === "packets" ? editing.delete() : cutting.cutOut()) },
-    { keys: ["h", "H"], show: "H", text: "packets: hold the picture before in their place", act: packets(() => editing.hold()) },
+    {
+      keys: ["Ctrl+a"],
+      show: "Ctrl A",
+      text: "select all frames, or in the lane of packets all packets",
+      act: () => (model.lane === "packets" ? model.select(0, model.packets) : model.selectFrames(0, model.frames)),
+    },
+    {
+      keys: ["Escape"],
+      show: "Esc",
+      text: "leave the preview, or drop In, Out and the selections",
+      act: () => palette.escape(),
+    },
+    {
+      keys: ["Delete", "Backspace"],
+      show: "Delete",
+      text: "cut the selected frames out; in the lane of packets: delete packets",
+      act: () => (model.lane === "packets" ? editing.delete() : cutting.cutOut()),
+    },
+    {
+      keys: ["h", "H"],
+      show: "H",
+      text: "packets: hold the picture before in their place",
+      act: packets(() => editing.hold()),
+    },
     { keys: ["d", "D"], show: "D", text: "packets: drop them, for empty packets", act: packets(() => editing.drop()) },
     { keys: ["e", "E"], show: "E", text: "keep the selected frames, and show no others", act: () => cutting.keep() },
-    { keys: ["x", "X"], show: "X", text: "cut the selected frames out: no packet is changed", act: () => cutting.cutOut() },
-    { keys: ["v", "V"], show: "V", text: "show the selected frames before the current one", act: () => cutting.moveHere() },
-    { keys: ["r", "R"], show: "R", text: "fade, show black or a frame for a time, or join a source", act: () => cutting.more() },
+    {
+      keys: ["x", "X"],
+      show: "X",
+      text: "cut the selected frames out: no packet is changed",
+      act: () => cutting.cutOut(),
+    },
+    {
+      keys: ["v", "V"],
+      show: "V",
+      text: "show the selected frames before the current one",
+      act: () => cutting.moveHere(),
+    },
+    {
+      keys: ["r", "R"],
+      show: "R",
+      text: "fade, show black or a frame for a time, or join a source",
+      act: () => cutting.more(),
+    },
     { keys: ["Ctrl+c"], show: "Ctrl C", text: "copy packets", act: packets(() => editing.copy(false)) },
     { keys: ["Ctrl+x"], show: "Ctrl X", text: "copy packets, to move them", act: packets(() => editing.copy(true)) },
     { keys: ["Ctrl+v"], show: "Ctrl V", text: "insert these before the current packet", act: () => editing.paste() },
     { keys: ["Ctrl+z"], show: "Ctrl Z", text: "undo", act: () => editing.undo() },
     { keys: ["Ctrl+Shift+Z", "Ctrl+Shift+z", "Ctrl+y"], show: "Ctrl Shift Z", text: "redo", act: () => editing.redo() },
-    { keys: ["Ctrl+s", "Ctrl+e"], show: "Ctrl S", text: "export what is seen as a file", act: () => find("export").click() },
-    { keys: ["Ctrl+Shift+S", "Ctrl+Shift+s"], show: "Ctrl Shift S", text: "save the packets as they are", act: () => editing.save() },
+    {
+      keys: ["Ctrl+s", "Ctrl+e"],
+      show: "Ctrl S",
+      text: "export what is seen as a file",
+      act: () => find("export").click(),
+    },
+    {
+      keys: ["Ctrl+Shift+S", "Ctrl+Shift+s"],
+      show: "Ctrl Shift S",
+      text: "save the packets as they are",
+      act: () => editing.save(),
+    },
     { keys: ["+", "="], show: "+", text: "zoom in", act: () => lane().zoom(2) },
     { keys: ["-"], show: "−", text: "zoom out", act: () => lane().zoom(0.5) },
     { keys: ["0"], show: "0", text: "all of the lane", act: () => lane().zoomAll() },
@@ -61,11 +121,21 @@ export function keysOf({ model, player, sound, lane, editing, findings, viewer, 
     { keys: ["w", "W"], show: "W", text: "the picture on the whole screen", act: () => palette.fullScreen() },
     { keys: ["p", "P"], show: "P", text: "the loupe", act: () => viewer.loupe.toggle() },
     { keys: ["m", "M"], show: "M", text: "the overlay of macroblocks", act: () => macroblocks.toggle() },
-    { keys: ["n"], show: "N", text: "next frame that differs; with Shift the one before", act: () => viewer.nextDifference(1) },
+    {
+      keys: ["n"],
+      show: "N",
+      text: "next frame that differs; with Shift the one before",
+      act: () => viewer.nextDifference(1),
+    },
     { keys: ["N", "Shift+N"], act: () => viewer.nextDifference(-1) },
     { keys: ["."], show: ".", text: "next finding", act: () => findings.go(1) },
     { keys: [","], show: ",", text: "the finding before", act: () => findings.go(-1) },
-    { keys: ["g", "G"], show: "G", text: "type a frame: a number, a step as -5, or a time as 1:02.5", act: () => find("frame").select() },
+    {
+      keys: ["g", "G"],
+      show: "G",
+      text: "type a frame: a number, a step as -5, or a time as 1:02.5",
+      act: () => find("frame").select(),
+    },
     { keys: ["?"], show: "?", text: "this list", act: () => palette.showKeys() },
   ];
 }
@@ -95,7 +165,12 @@ export function listen(keys, loupe, macroblocks) {
   document.addEventListener("keydown", (event) => {
     const name = nameOf(event);
     if (event.altKey || event.defaultPrevented || takes(event.target, name)) return;
-    const moves = { "Shift+ArrowLeft": [-1, 0], "Shift+ArrowRight": [1, 0], "Shift+ArrowUp": [0, -1], "Shift+ArrowDown": [0, 1] }[name];
+    const moves = {
+      "Shift+ArrowLeft": [-1, 0],
+      "Shift+ArrowRight": [1, 0],
+      "Shift+ArrowUp": [0, -1],
+      "Shift+ArrowDown": [0, 1],
+    }[name];
     const moved = loupe.isOn ? loupe : macroblocks.isPanel ? macroblocks : null;
     if (moved && moves && event.target.id === "stage") {
       event.preventDefault();
@@ -125,7 +200,9 @@ export function write(keys) {
 /** Moves on by an item of the lane that is active, and the end of its selection with it. */
 export function extend(model, step) {
   const isPackets = model.lane === "packets";
-  const [here, count, selection] = isPackets ? [model.packet, model.packets, model.selection] : [model.frame, model.frames, model.range];
+  const [here, count, selection] = isPackets
+    ? [model.packet, model.packets, model.selection]
+    : [model.frame, model.frames, model.range];
   const next = Math.max(0, Math.min(count - 1, here + step));
   let { first, end } = selection || { first: here, end: here + 1 };
   if (here === end - 1 && (step > 0 || end - first > 1)) end = next + 1;

@@ -1,4 +1,5 @@
-// The kinds of packets: the letter of the interface, the variable of the colour, and the name. Each one is worse than those before it.
+// The kinds of packets: the letter of the interface, the variable of the colour, and the name. Each one is worse than
+// those before it.
 
 import { make } from "./elements.js";
 
@@ -20,7 +21,10 @@ export function theme() {
   const style = getComputedStyle(document.documentElement);
   const value = (name) => style.getPropertyValue(name).trim();
   const found = Object.fromEntries(KINDS.map(({ letter, colour }) => [letter, value(colour)]));
-  for (const name of ["text", "muted", "line", "line-strong", "grid", "selection", "cursor", "edit", "accent", "panel", "back", "refused", "wave"]) {
+  for (const name of [
+    "text", "muted", "line", "line-strong", "grid", "selection", "cursor", "edit", "accent", "panel", "back",
+    "refused", "wave",
+  ]) {
     found[name] = value(`--${name}`);
   }
   return found;

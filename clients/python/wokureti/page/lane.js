@@ -1,11 +1,12 @@
-// What both lanes of the timeline do: the frames that are shown, and the packets of a source. Each has a window that is zoomed and moved, goes to what is pressed, and
-// selects what is dragged over.
+// What both lanes of the timeline do: the frames that are shown, and the packets of a source. Each has a window that is
+// zoomed and moved, goes to what is pressed, and selects what is dragged over.
 
 import { drag } from "./elements.js";
 import { theme } from "./kinds.js";
 import { Window } from "./window.js";
 
-// Pixels within which an edge of the selection is dragged, within which a boundary snaps, and up to which a press is not a drag.
+// Pixels within which an edge of the selection is dragged, within which a boundary snaps, and up to which a press is
+// not a drag.
 const EDGE = 5;
 const SNAP = 6;
 const STILL = 3;

@@ -17,7 +17,12 @@ export function samplesAt(frame, x, y) {
 /** What the loupe says of a position. */
 export function textAt(frame, before, x, y) {
   const { y: light, u, v } = samplesAt(frame, x, y);
-  const lines = [`x ${x}, y ${y}`, `Y ${light}  U ${u}  V ${v}`, `RGB ${colourOf(light, u, v).join(", ")}`, `macroblock ${x >> 4}, ${y >> 4}`];
+  const lines = [
+    `x ${x}, y ${y}`,
+    `Y ${light}  U ${u}  V ${v}`,
+    `RGB ${colourOf(light, u, v).join(", ")}`,
+    `macroblock ${x >> 4}, ${y >> 4}`,
+  ];
   if (before && before.width === frame.width && before.height === frame.height) {
     const old = samplesAt(before, x, y);
     lines.splice(2, 0, `before ${old.y}  ${old.u}  ${old.v}`);

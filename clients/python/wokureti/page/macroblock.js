@@ -1,4 +1,5 @@
-// The overlay over the picture, and the macroblock under the pointer: its record, and its samples before and after the edits.
+// The overlay over the picture, and the macroblock under the pointer: its record, and its samples before and after the
+// edits.
 
 import { planes } from "./colours.js";
 import { find, make } from "./elements.js";
@@ -38,11 +39,17 @@ export function vectorText([x, y]) {
 export function valueText(name, value) {
   if (name === "skip" || name === "inner") return value ? "yes" : "no";
   if (name === "vector") return `${vectorText(value)} samples`;
-  if (name === "blocks") return `Y ${value.slice(0, 16).replace(/(.{4})(?=.)/g, "$1 ")}\nU ${value.slice(16, 20)}  V ${value.slice(20, 24)}  Y2 ${value.slice(24)}`;
+  if (name === "blocks")
+    return `Y ${value.slice(0, 16).replace(/(.{4})(?=.)/g, "$1 ")}\nU ${value.slice(16, 20)}  V ` +
+      `${value.slice(20, 24)}  Y2 ${value.slice(24)}`;
   if (name !== "parts") return typeof value === "number" ? value.toLocaleString("en") : value;
-  const parts = value.map((part) => (typeof part === "string" ? part.replace(/^B_|_PRED$/g, "") : vectorText(part).replace(", ", ":")));
+  const parts = value.map((part) =>
+    (typeof part === "string" ? part.replace(/^B_|_PRED$/g, "") : vectorText(part).replace(", ", ":")),
+  );
   const width = Math.max(...parts.map((part) => part.length));
-  return [0, 4, 8, 12].map((first) => parts.slice(first, first + 4).map((part) => part.padStart(width)).join(" ")).join("\n");
+  return [0, 4, 8, 12]
+    .map((first) => parts.slice(first, first + 4).map((part) => part.padStart(width)).join(" "))
+    .join("\n");
 }
 
 /** The samples of a block of a plane: rows of numbers, cut off at the edge of the frame. */
@@ -74,7 +81,10 @@ export class Macroblocks {
     this.onchange = () => {};
     this.canvas = find("overlay-canvas");
     const select = find("overlay");
-    select.append(new Option("no overlay", "none"), ...Object.entries(OVERLAYS).map(([kind, { name }]) => new Option(name, kind)));
+    select.append(
+      new Option("no overlay", "none"),
+      ...Object.entries(OVERLAYS).map(([kind, { name }]) => new Option(name, kind)),
+    );
     select.addEventListener("change", () => this.choose(select.value));
     for (const name of ["frame", "session"]) model.addEventListener(name, () => this.soon());
     viewer.onshown = () => this.soon();
@@ -180,7 +190,10 @@ export class Macroblocks {
     if (!this.isPanel || !this.records) return;
     const box = this.viewer.picture.canvas.getBoundingClientRect();
     const { width, height } = this.viewer.picture.now;
-    this.go(Math.floor((((event.clientX - box.left) / box.width) * width) / 16), Math.floor((((event.clientY - box.top) / box.height) * height) / 16));
+    this.go(
+      Math.floor((((event.clientX - box.left) / box.width) * width) / 16),
+      Math.floor((((event.clientY - box.top) / box.height) * height) / 16),
+    );
   }
 
   move(across, down) {
@@ -238,17 +251,23 @@ export class Macroblocks {
   writeSamples({ column, row }, now, before) {
     let differs = 0;
     for (const [name, side] of Object.entries({ y: 16, u: 8, v: 8 })) {
-      const [mine, old] = [now, before].map((frame) => frame && rowsOf(planes(frame)[name], column * side, row * side, side));
+      const [mine, old] = [now, before].map((frame) =>
+        frame && rowsOf(planes(frame)[name], column * side, row * side, side),
+      );
       writeRows(find(`samples-${name}`), mine, old);
       const other = find(`before-${name}`);
       if (old) {
         writeRows(other, old, mine);
-        old.forEach((values, down) => (differs += values.filter((value, across) => value !== mine[down][across]).length));
+        old.forEach((values, down) =>
+          (differs += values.filter((value, across) => value !== mine[down][across]).length),
+        );
       } else {
         other.textContent = "";
       }
     }
     find("samples-before").hidden = !differs;
-    find("samples-title").textContent = before ? (differs ? `Samples now: ${differs} differ` : "Samples: as before the edits") : "Samples";
+    find("samples-title").textContent = before
+      ? (differs ? `Samples now: ${differs} differ` : "Samples: as before the edits")
+      : "Samples";
   }
 }

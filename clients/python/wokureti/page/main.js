@@ -130,7 +130,8 @@ function writeFrame() {
   if (document.activeElement !== find("frame")) find("frame").value = model.aside ? "" : model.frame;
   if (!model.session) find("time").textContent = "";
   else if (model.aside) find("time").textContent = `packet ${model.aside.packet}, which no frame shows`;
-  else find("time").textContent = `of ${model.frames.toLocaleString("en")} · ${timeText(model.frame, model.rate, model.times)}`;
+  else find("time").textContent =
+    `of ${model.frames.toLocaleString("en")} · ${timeText(model.frame, model.rate, model.times)}`;
 }
 
 function framesText(count) {
@@ -141,7 +142,9 @@ function writeSelection() {
   const { range, selection } = model;
   const count = range ? range.end - range.first : 0;
   const mark = { begin: `In at frame ${range?.first}`, end: `Out at frame ${range?.first}` }[range?.mark];
-  find("selection-text").textContent = mark ?? (range ? `${framesText(count)} selected, ${range.first} to ${range.end - 1}, ${timeText(count, model.rate)}` : "");
+  find("selection-text").textContent =
+    mark ??
+    (range ? `${framesText(count)} selected, ${range.first} to ${range.end - 1}, ${timeText(count, model.rate)}` : "");
   find("packets-text").textContent = selection ? `${packets(selection)} selected` : "";
 }
 
@@ -157,13 +160,22 @@ function writeHead() {
   const { names, rate, script, saved, sources, saves, changing } = model.session;
   find("name").textContent = names[0];
   document.title = `${saved || isExported() ? "" : "• "}${names[0]} – Wokureti`;
-  const facts = [`${model.session.packets.toLocaleString("en")} packets`, `${model.frames.toLocaleString("en")} frames`, `${(rate[0] / rate[1]).toFixed(3).replace(/\.?0+$/, "")} frames a second`];
+  const facts = [
+    `${model.session.packets.toLocaleString("en")} packets`,
+    `${model.frames.toLocaleString("en")} frames`,
+    `${(rate[0] / rate[1]).toFixed(3).replace(/\.?0+$/, "")} frames a second`,
+  ];
   if (script !== "-") facts.push("with a script");
   find("facts").textContent = facts.join(" · ");
   find("saved").textContent = isExported() ? `exported to ${exported.name}` : savedText(model.session);
   find("saved").title = find("saved").textContent;
-  find("save").title = script === "-" ? `A copy with all packets: ${saves[0].next}` : `A copy with all packets, ${saves[0].next}: the script is not in it`;
-  find("export").title = changing ? `Node ${changing[0]}, ${changing[1]}, changes the picture: these frames are coded again, all others stay as they are` : "What is seen as a file, without coding again (Ctrl+S)";
+  find("save").title = script === "-"
+    ? `A copy with all packets: ${saves[0].next}`
+    : `A copy with all packets, ${saves[0].next}: the script is not in it`;
+  find("export").title = changing
+    ? `Node ${changing[0]}, ${changing[1]}, changes the picture: these frames are coded again, all others stay as ` +
+      "they are"
+    : "What is seen as a file, without coding again (Ctrl+S)";
   find("replace-source").hidden = sources.length < 2;
   if (find("source").options.length !== sources.length) {
     find("source").replaceChildren(...names.map((name, number) => new Option(`${number}: ${name}`, number)));
@@ -228,7 +240,10 @@ const palette = {
     model.selectFrames(null);
     return model.select(null);
   },
-  sayPackets: () => status.say("This acts on packets, and frames are selected: press on the lane of packets first, or Esc to drop the selection"),
+  sayPackets: () =>
+    status.say(
+      "This acts on packets, and frames are selected: press on the lane of packets first, or Esc to drop the selection",
+    ),
   showKeys: () => find("keys").showModal(),
   fullScreen: () => (document.fullscreenElement ? document.exitFullscreen() : find("viewer").requestFullscreen()),
 };
@@ -245,7 +260,10 @@ for (const link of document.querySelectorAll("[data-file]")) {
   link.addEventListener("click", (event) => {
     if (engine.link(link.dataset.file, model.frame)) return;
     event.preventDefault();
-    engine.offer(link.dataset.file, model.frame).catch((error) => notice(error.message, { isBad: true, id: "offered" }));
+    engine.offer(link.dataset.file, model.frame).catch((error) => notice(error.message, {
+      isBad: true,
+      id: "offered",
+    }));
   });
 }
 
@@ -267,7 +285,8 @@ engine.changed((name, changes) => {
     meet().catch(() => {});
     return;
   }
-  if (name === "restarted") notice("vp8serve ended. It was started again, and all edits are there.", { id: "restarted" });
+  if (name === "restarted")
+    notice("vp8serve ended. It was started again, and all edits are there.", { id: "restarted" });
   model.load(changes).catch((error) => status.say(error.message));
 }, (found) => findings.heard(found));
 
@@ -335,7 +354,25 @@ async function begin() {
 }
 
 // For tests.
-window.wokureti = { engine, model, frames, viewer, macroblocks, player, sound, timeline, editing, findings, editList, scriptPanel, cutting, thumbs, curves, programme, waves };
+window.wokureti = {
+  engine,
+  model,
+  frames,
+  viewer,
+  macroblocks,
+  player,
+  sound,
+  timeline,
+  editing,
+  findings,
+  editList,
+  scriptPanel,
+  cutting,
+  thumbs,
+  curves,
+  programme,
+  waves,
+};
 begin().catch((error) => {
   status.say(error.message);
   notice(error.message, { isBad: true });

@@ -1,14 +1,19 @@
-// A menu below a button: Enter, Space or Down open it, the arrow keys move in it, and Escape or a press elsewhere closes it.
+// A menu below a button: Enter, Space or Down open it, the arrow keys move in it, and Escape or a press elsewhere
+// closes it.
 
 export class Menu {
   constructor(button, menu) {
     Object.assign(this, { button, menu });
     this.entries = [...menu.querySelectorAll("[role=menuitem]")];
     button.addEventListener("click", () => this.show(menu.hidden));
-    button.addEventListener("keydown", (event) => event.key === "ArrowDown" && (event.preventDefault(), this.show(true)));
+    button.addEventListener("keydown", (event) =>
+      event.key === "ArrowDown" && (event.preventDefault(), this.show(true)),
+    );
     menu.addEventListener("click", () => this.show(false));
     menu.addEventListener("keydown", (event) => this.key(event));
-    document.addEventListener("pointerdown", (event) => menu.contains(event.target) || button.contains(event.target) || this.hide());
+    document.addEventListener("pointerdown", (event) =>
+      menu.contains(event.target) || button.contains(event.target) || this.hide(),
+    );
   }
 
   hide() {

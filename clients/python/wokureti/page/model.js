@@ -1,8 +1,10 @@
-// What all parts of the page share: the state of the session, the current frame, and the selections: of frames that are shown, and of packets.
+// What all parts of the page share: the state of the session, the current frame, and the selections: of frames that are
+// shown, and of packets.
 
 import { engine, remember } from "./engine.js";
 
-/** Sends `session` when the stream was changed, `frame` when another frame is current, `range` and `selection` when other frames or packets are selected, and `lane`. */
+/** Sends `session` when the stream was changed, `frame` when another frame is current, `range` and `selection` when
+ * other frames or packets are selected, and `lane`. */
 export class Model extends EventTarget {
   constructor() {
     super();
@@ -11,7 +13,8 @@ export class Model extends EventTarget {
     this.source = 0;
     // The packet that edits act on: that of the frame, or another one that was clicked.
     this.packet = 0;
-    // The packet whose own picture is looked at, since no frame shows it: another source, or a packet that the script leaves out.
+    // The packet whose own picture is looked at, since no frame shows it: another source, or a packet that the script
+    // leaves out.
     this.aside = null;
     this.moves = 0;
     // Until the frame of a packet is known.
@@ -27,7 +30,8 @@ export class Model extends EventTarget {
     this.times = null;
     this.timed = null;
     this.loading = null;
-    // A change whose answer is not here yet, and what an answer had of the state after it: the place of the packet, and tiles of the timeline.
+    // A change whose answer is not here yet, and what an answer had of the state after it: the place of the packet, and
+    // tiles of the timeline.
     this.changing = null;
     this.given = null;
     // The tiles that the lane of packets shows, and the next key packet that it knows from a packet on.
@@ -39,7 +43,8 @@ export class Model extends EventTarget {
     this.dispatchEvent(new Event(name));
   }
 
-  /** Makes a change. `act` is called with what is shown, and the answer has the new state of that: events about the change, which may come first, wait. */
+  /** Makes a change. `act` is called with what is shown, and the answer has the new state of that: events about the
+   * change, which may come first, wait. */
   async change(act) {
     const making = act({ source: this.source, packet: this.packet, tiles: this.tilesShown() });
     const changing = making.catch(() => {});
@@ -55,7 +60,8 @@ export class Model extends EventTarget {
     }
   }
 
-  /** Reads the state of the session, unless it has so many changes already. Calls that come in the meantime are answered by one more reading. */
+  /** Reads the state of the session, unless it has so many changes already. Calls that come in the meantime are
+   * answered by one more reading. */
   async load(changes = Infinity) {
     while ((this.changing || this.loading) && changes < Infinity) await (this.changing || this.loading.catch(() => {}));
     if (this.session?.changes >= changes) return this.session;
@@ -141,7 +147,8 @@ export class Model extends EventTarget {
     if (!keepPacket) await this.follow();
   }
 
-  /** Goes on by so many frames, or by packets if the picture is that of a packet: from the packet that was asked for last. */
+  /** Goes on by so many frames, or by packets if the picture is that of a packet: from the packet that was asked for
+   * last. */
   async step(count) {
     await this.going?.catch(() => {});
     return this.aside ? this.goPacket(this.packet + count) : this.go(this.frame + count);

@@ -49,7 +49,11 @@ export function heat(part) {
 function byName(nameOf, colours) {
   return {
     colour: (record) => colours[nameOf(record)],
-    legend: (records) => Object.keys(colours).map((name) => [colours[name], name, records.filter((record) => String(nameOf(record)) === name).length]),
+    legend: (records) => Object.keys(colours).map((name) => [
+      colours[name],
+      name,
+      records.filter((record) => String(nameOf(record)) === name).length,
+    ]),
   };
 }
 
@@ -63,7 +67,9 @@ function byNumber(valueOf, most) {
       const values = records.map(valueOf);
       const [low, high] = [Math.min(...values), Math.max(...values)];
       const top = most ?? Math.max(1, high);
-      return low === high ? [[heat(low / top), String(low), values.length]] : [[heat(low / top), `${low} (least)`, null], [heat(high / top), `${high} (greatest)`, null]];
+      return low === high
+        ? [[heat(low / top), String(low), values.length]]
+        : [[heat(low / top), `${low} (least)`, null], [heat(high / top), `${high} (greatest)`, null]];
     },
   };
 }
@@ -71,7 +77,13 @@ function byNumber(valueOf, most) {
 export const OVERLAYS = {
   luma: { name: "luma mode", ...byName((record) => record.luma, LUMA) },
   reference: { name: "reference", ...byName((record) => record.reference, REFERENCE) },
-  vectors: { name: "vectors", draw: drawVectors, legend: (records) => Object.keys(REFERENCE).slice(1).map((name) => [REFERENCE[name], `from ${name}`, records.filter((record) => record.reference === name).length]) },
+  vectors: {
+    name: "vectors",
+    draw: drawVectors,
+    legend: (records) => Object.keys(REFERENCE)
+      .slice(1)
+      .map((name) => [REFERENCE[name], `from ${name}`, records.filter((record) => record.reference === name).length]),
+  },
   segment: { name: "segment", ...byName((record) => record.segment, Object.fromEntries(SEGMENT.entries())) },
   quantizer: { name: "quantizer index", ...byNumber((record) => record.quantizer, 127) },
   level: { name: "loop filter level", ...byNumber((record) => record.level, 63) },
@@ -111,7 +123,9 @@ function drawVectors(context, records, scale) {
     context.strokeStyle = context.fillStyle = REFERENCE[record.reference];
     const [x, y] = [record.column * 16 * scale, record.row * 16 * scale];
     if (record.parts) {
-      record.parts.forEach((vector, place) => arrow(context, x + (4 * (place % 4) + 2) * scale, y + (4 * (place >> 2) + 2) * scale, vector, scale));
+      record.parts.forEach((vector, place) =>
+        arrow(context, x + (4 * (place % 4) + 2) * scale, y + (4 * (place >> 2) + 2) * scale, vector, scale),
+      );
     } else {
       arrow(context, x + 8 * scale, y + 8 * scale, record.vector, scale);
     }

@@ -70,11 +70,21 @@ export class PacketFacts {
     find("header-note").textContent = whyNone(packet, details) ?? "";
     const [header = {}, ...probabilities] = details.objects;
     const fields = Object.entries(header).filter(([name]) => !["bits", "packet"].includes(name));
-    writeTable(find("header-facts"), fields.map(([name, value]) => [name, Array.isArray(value) ? value.join(", ") : value, bitsText(header.bits?.[name])]));
+    writeTable(
+      find("header-facts"),
+      fields.map(([name, value]) => [
+        name,
+        Array.isArray(value) ? value.join(", ") : value,
+        bitsText(header.bits?.[name]),
+      ]),
+    );
     const changes = find("header-changes");
     changes.hidden = !probabilities.length;
     changes.querySelector("summary").textContent = `Probabilities that it changes: ${probabilities.length}`;
-    writeTable(changes.querySelector("table"), probabilities.map(({ probability, index, old, new: now }) => [`${probability}[${index}]`, `${old} → ${now}`]));
+    writeTable(
+      changes.querySelector("table"),
+      probabilities.map(({ probability, index, old, new: now }) => [`${probability}[${index}]`, `${old} → ${now}`]),
+    );
   }
 }
 

@@ -128,9 +128,15 @@ export class Picture {
 
   /** Gives the canvases their size on the page. */
   fit() {
-    const shown = [this.now ? [this.canvas, this.now] : null, this.view === "pair" && this.before ? [this.other, this.before] : null].filter(Boolean);
+    const shown = [
+      this.now ? [this.canvas, this.now] : null,
+      this.view === "pair" && this.before ? [this.other, this.before] : null,
+    ].filter(Boolean);
     const isPair = this.view === "pair" && this.before !== null;
-    const room = { width: (this.stage.clientWidth - (isPair ? 36 : 24)) / (isPair ? 2 : 1), height: this.stage.clientHeight - (isPair ? 46 : 24) };
+    const room = {
+      width: (this.stage.clientWidth - (isPair ? 36 : 24)) / (isPair ? 2 : 1),
+      height: this.stage.clientHeight - (isPair ? 46 : 24),
+    };
     for (const [canvas, { width, height }] of shown) {
       const scale = scaleOf(this.size, width, height, room);
       canvas.style.width = `${Math.max(1, Math.round(width * scale))}px`;

@@ -8,7 +8,8 @@ const TOGETHER = 8;
 // Milliseconds that playback waits for its first frames.
 const MOST_WAIT = 600;
 
-/** The frame that is due after some frames' time, in a range that begins again at its end if it loops; null after the end. */
+/** The frame that is due after some frames' time, in a range that begins again at its end if it loops; null after the
+ * end. */
 export function frameDue(start, direction, passed, range, isLoop) {
   const count = range.end - range.first;
   if (count <= 0) return null;
@@ -30,14 +31,16 @@ export function framesAhead(frame, direction, count, range, isLoop) {
   return found;
 }
 
-/** The order in which frames are asked for. Backward, frames that are next to each other are decoded forward: the nearest of these groups first. */
+/** The order in which frames are asked for. Backward, frames that are next to each other are decoded forward: the
+ * nearest of these groups first. */
 export function orderOf(frames, direction) {
   if (direction > 0) return frames;
   const group = (frame) => Math.floor(frame / TOGETHER);
   return [...frames].sort((one, other) => group(other) - group(one) || one - other);
 }
 
-/** Frames that follow each other as pairs of the first one and how many there are, a few at most: one request for each. */
+/** Frames that follow each other as pairs of the first one and how many there are, a few at most: one request for
+ * each. */
 export function groupsOf(frames) {
   const groups = [];
   for (const frame of frames) {

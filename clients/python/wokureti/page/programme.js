@@ -114,7 +114,12 @@ export class Programme extends Lane {
     const place = this.shotOf(frame);
     if (place < 0) return null;
     const { source, first } = this.shots[place];
-    return { source, number: first + frame - this.starts[place], from: this.starts[place], end: this.starts[place + 1] };
+    return {
+      source,
+      number: first + frame - this.starts[place],
+      from: this.starts[place],
+      end: this.starts[place + 1],
+    };
   }
 
   moved() {
@@ -123,7 +128,10 @@ export class Programme extends Lane {
     else if (!this.isHeld) this.window.reveal(model.frame);
     box.setAttribute("aria-valuemax", Math.max(0, model.frames - 1));
     box.setAttribute("aria-valuenow", model.frame);
-    box.setAttribute("aria-valuetext", `frame ${model.frame} of ${model.frames}, ${timeText(model.frame, model.rate, model.times)}`);
+    box.setAttribute(
+      "aria-valuetext",
+      `frame ${model.frame} of ${model.frames}, ${timeText(model.frame, model.rate, model.times)}`,
+    );
     this.redraw();
   }
 
@@ -133,7 +141,9 @@ export class Programme extends Lane {
 
   /** The handle of a fade at a point of the band of shots. */
   handle(event) {
-    return this.isAllShots && this.height(event) > this.box.clientHeight - BAND ? handleAt(this.blocks, this.pixel(event)) : null;
+    return this.isAllShots && this.height(event) > this.box.clientHeight - BAND
+      ? handleAt(this.blocks, this.pixel(event))
+      : null;
   }
 
   /** A handle is dragged. */
@@ -147,7 +157,9 @@ export class Programme extends Lane {
     const move = (moved) => {
       const frames = fadeAt(this.blocks[handle.block], handle.name, this.pixel(moved));
       this.dragged = handle;
-      this.shots = this.shots.map((shot, place) => (place === handle.block ? { ...shot, [handle.name]: frames } : shot));
+      this.shots = this.shots.map((shot, place) =>
+        (place === handle.block ? { ...shot, [handle.name]: frames } : shot),
+      );
       this.status.say(`fade ${handle.name === "fadeIn" ? "in" : "out"}: ${frames} frames`);
       this.redraw();
     };
@@ -169,7 +181,8 @@ export class Programme extends Lane {
     }
     const line = `script ${nodes.join("; ") || "-"}`;
     const frames = shots[block][name];
-    const said = `shot ${block + 1} ${frames ? `fades ${name === "fadeIn" ? "in" : "out"} in ${frames} frames` : `does not fade ${name === "fadeIn" ? "in" : "out"}`}`;
+    const side = name === "fadeIn" ? "in" : "out";
+    const said = `shot ${block + 1} ${frames ? `fades ${side} in ${frames} frames` : `does not fade ${side}`}`;
     if (line === `script ${session.script}` || !(await this.editing.make([line], said))) this.follow();
   }
 
@@ -183,7 +196,9 @@ export class Programme extends Lane {
     if (tip.hidden) return;
     const { source, number } = found;
     const { names } = this.model.session;
-    const of = source === 0 && number === frame ? "" : ` · frame ${number} of ${names.length > 1 ? `source ${source}` : names[0]}`;
+    const of = source === 0 && number === frame
+      ? ""
+      : ` · frame ${number} of ${names.length > 1 ? `source ${source}` : names[0]}`;
     const time = timeText(frame, this.model.rate, this.model.times);
     const fade = handle && `Drag: fade ${handle.name === "fadeIn" ? "in" : "out"}`;
     this.showTip(tip, fade ?? `frame ${frame} · ${time}${of}`, this.pixel(event));
@@ -215,7 +230,11 @@ export class Programme extends Lane {
     const step = stepOf(70 / window.scale);
     context.font = "11px system-ui, sans-serif";
     context.textAlign = "left";
-    for (let frame = Math.ceil(Math.max(0, window.from) / step) * step; frame < Math.min(window.count, window.from + window.span); frame += step) {
+    for (
+      let frame = Math.ceil(Math.max(0, window.from) / step) * step;
+      frame < Math.min(window.count, window.from + window.span);
+      frame += step
+    ) {
       const left = window.pixelOf(frame);
       context.fillStyle = colours["line-strong"];
       context.fillRect(Math.round(left), 0, 1, RULER);
@@ -247,7 +266,9 @@ export class Programme extends Lane {
     context.font = "11px system-ui, sans-serif";
     context.textAlign = "center";
     context.fillStyle = colours.text;
-    const text = `${this.model.session.source_frames.length > 1 ? `${shot.source}: ` : ""}${shot.first} to ${shot.first + shot.count - 1}`;
+    const text =
+      `${this.model.session.source_frames.length > 1 ? `${shot.source}: ` : ""}${shot.first} to ` +
+      `${shot.first + shot.count - 1}`;
     if (context.measureText(text).width + 8 < wide) context.fillText(text, (from + end) / 2, height - 5);
     if (this.isAllShots && right - left >= LEAST) this.drawHandles(context, block, top);
   }

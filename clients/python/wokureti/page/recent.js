@@ -2,7 +2,8 @@
 
 import { find, make } from "./elements.js";
 
-/** Lists what was edited before: each has a `name`, a number of `edits`, `when` in milliseconds, and may have a `folder`. `pick` is called with the one that is pressed. */
+/** Lists what was edited before: each has a `name`, a number of `edits`, `when` in milliseconds, and may have a
+ * `folder`. `pick` is called with the one that is pressed. */
 export function writeRecent(entries, pick) {
   find("recent").hidden = !entries.length;
   const items = entries.map((entry) => {

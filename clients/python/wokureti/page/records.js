@@ -31,7 +31,8 @@ export class Records {
 /** Why a packet has no macroblocks, or null. */
 export function whyNone(packet, { refused, repeats }) {
   if (repeats) return `packet ${packet} has no bytes: it shows the last frame again`;
-  if (refused && refused.packet !== packet) return `packet ${packet} is lost with packet ${refused.packet}: ${refused.cause}`;
+  if (refused && refused.packet !== packet)
+    return `packet ${packet} is lost with packet ${refused.packet}: ${refused.cause}`;
   return refused ? `packet ${packet} is refused: ${refused.cause}` : null;
 }
 
@@ -46,7 +47,9 @@ export class RecordStore {
     const key = `${this.model.revision} ${source} ${packet}`;
     let found = this.found.get(key);
     if (!found) {
-      found = engine.answer(`macroblocks ${packet}`, source, { waits: `the macroblocks of packet ${packet}` }).then((reply) => new Records(source, packet, detailsOf(reply)));
+      found = engine
+        .answer(`macroblocks ${packet}`, source, { waits: `the macroblocks of packet ${packet}` })
+        .then((reply) => new Records(source, packet, detailsOf(reply)));
       found.catch(() => this.found.delete(key));
     }
     // The entries that were used last are at the end.

@@ -11,7 +11,11 @@ export function htmlOf(stream, { findings, damage, notes }) {
   const page = document.implementation.createHTMLDocument(`Findings of ${stream}`);
   const add = (name, text) => page.body.appendChild(Object.assign(page.createElement(name), { textContent: text }));
   add("h1", page.title);
-  add("p", `damage: ${damage}, notes: ${notes}${findings.length < damage + notes ? `; the first ${findings.length} are below` : ""}`);
+  add(
+    "p",
+    `damage: ${damage}, notes: ` +
+      `${notes}${findings.length < damage + notes ? `; the first ${findings.length} are below` : ""}`,
+  );
   const table = add("table", "");
   for (const finding of findings) {
     const row = table.insertRow();

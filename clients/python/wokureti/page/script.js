@@ -106,7 +106,8 @@ export class ScriptPanel {
   follow() {
     const { script } = this.model.session;
     if (script === this.shown) return;
-    const isWritten = this.shown !== null && nodesOf(this.text.value).join("; ") !== nodesOf(textOf(this.shown)).join("; ");
+    const isWritten =
+      this.shown !== null && nodesOf(this.text.value).join("; ") !== nodesOf(textOf(this.shown)).join("; ");
     if (!isWritten || document.activeElement !== this.text) {
       this.text.value = textOf(script);
       this.complain(null);
@@ -120,7 +121,9 @@ export class ScriptPanel {
       refused: (error) => {
         if (!error.reply) return false;
         const reason = error.reason || error.reply;
-        this.complain(`${reason}${nodesOf(this.text.value).some(isOddCrop) ? "; column and row of a crop are even" : ""}`);
+        this.complain(
+          `${reason}${nodesOf(this.text.value).some(isOddCrop) ? "; column and row of a crop are even" : ""}`,
+        );
         return true;
       },
     });

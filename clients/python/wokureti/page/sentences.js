@@ -17,7 +17,8 @@ export function sentence(finding) {
   const where = finding.partition === null ? "first partition" : `token partition ${finding.partition}`;
   switch (kind) {
     case "refused":
-      return `refused ${finding.cause}: ${CAUSES[finding.cause.split(" ")[0]] || "it cannot be decoded"}${lost(finding.lost)}`;
+      return `refused ${finding.cause}: ` +
+        `${CAUSES[finding.cause.split(" ")[0]] || "it cannot be decoded"}${lost(finding.lost)}`;
     case "past_end":
       return `${where}: ${finding.bytes} bytes read past its end`;
     case "unread":
@@ -63,6 +64,7 @@ function lost(count) {
 
 /** The place of a finding in words. */
 export function placeOf(finding) {
-  if (finding.packet === null) return finding.kind === "cut_record" ? "end of the file" : finding.kind === "container" ? "the file" : "header";
+  if (finding.packet === null)
+    return finding.kind === "cut_record" ? "end of the file" : finding.kind === "container" ? "the file" : "header";
   return `packet ${finding.packet}${finding.frame === null ? ", hidden" : `, frame ${finding.frame}`}`;
 }

@@ -1,4 +1,5 @@
-// The shots of a script of trims, splices, parts and fades: parts of sources, one after the other. A script that is written anew from them has no nodes left over.
+// The shots of a script of trims, splices, parts and fades: parts of sources, one after the other. A script that is
+// written anew from them has no nodes left over.
 
 import { nodesIn } from "./script.js";
 
@@ -52,7 +53,8 @@ function faded(shots, [first, count, from, to]) {
   if (!one || count < 1 || count > one.count) return null;
   const found = [...shots];
   if (from === 0 && to === 256 && first === 0 && !one.fadeIn) found[place] = { ...one, fadeIn: count };
-  else if (from === 256 && to === 0 && first + count === length && !one.fadeOut) found[place] = { ...one, fadeOut: count };
+  else if (from === 256 && to === 0 && first + count === length && !one.fadeOut)
+    found[place] = { ...one, fadeOut: count };
   else return null;
   return found;
 }
@@ -99,14 +101,15 @@ function resultsOf(script, frames) {
   return { results, isAll };
 }
 
-/** The shots of a script, and whether they are all of it: a crop, or a fade in the middle, is not in them. `frames` has the number of frames of each source. */
+/** The shots of a script, and whether they are all of it: a crop, or a fade in the middle, is not in them. `frames` has
+ * the number of frames of each source. */
 export function shotsOf(script, frames) {
   const { results, isAll } = resultsOf(script, frames);
   return { shots: joined(results[results.length - 1].filter(({ count }) => count > 0)), isAll };
 }
 
-/** The nodes of a script with these frames of what it shows, one range after the other, each the first frame and the one after the last. If the last node is
- * parts itself, they are parts of its nodes, so cut after cut adds no node. */
+/** The nodes of a script with these frames of what it shows, one range after the other, each the first frame and the
+ * one after the last. If the last node is parts itself, they are parts of its nodes, so cut after cut adds no node. */
 export function partsOver(script, ranges, frames) {
   const nodes = nodesIn(script);
   const { results } = resultsOf(script, frames);
@@ -165,7 +168,8 @@ export function nodesFor(shots, frames) {
   return [...nodes, partsText(parts.map(({ here, first, count }) => [here, first, count]))];
 }
 
-/** The node of frames of nodes, one part after the other: of each the node, its first frame and how many. One part is a trim. */
+/** The node of frames of nodes, one part after the other: of each the node, its first frame and how many. One part is a
+ * trim. */
 export function partsText(parts) {
   return `${parts.length === 1 ? "trim" : "parts"} ${parts.flat().join(" ")}`;
 }

@@ -1,4 +1,5 @@
-// The sound of playback at the stream's own speed, forward, if a stream has some. The picture is the clock: sound that parts from it is set again.
+// The sound of playback at the stream's own speed, forward, if a stream has some. The picture is the clock: sound that
+// parts from it is set again.
 
 import { find } from "./elements.js";
 import { engine } from "./engine.js";
@@ -15,7 +16,9 @@ export class Sound {
   constructor(model, status) {
     Object.assign(this, { model, status, isOn: true, isPlaying: false });
     this.audio = new Audio();
-    this.audio.addEventListener("error", () => this.isPlaying && this.status.say("the sound of these frames cannot be played"));
+    this.audio.addEventListener("error", () =>
+      this.isPlaying && this.status.say("the sound of these frames cannot be played"),
+    );
     find("sound").addEventListener("click", () => this.toggle());
     model.addEventListener("session", () => this.follow());
   }

@@ -1,4 +1,5 @@
-// The page of `wokureti open` without a stream: it opens a file of the browser's dialog, which the server copies, or a stream that was open before.
+// The page of `wokureti open` without a stream: it opens a file of the browser's dialog, which the server copies, or a
+// stream that was open before.
 
 import { find } from "./elements.js";
 import { writeRecent } from "./recent.js";
@@ -8,7 +9,9 @@ const BASE = new URL("../", document.baseURI);
 const PIECE = 3 << 20;
 
 async function members(path, body) {
-  const options = body ? { method: "POST", headers: { "Content-Type": "application/json" }, body: JSON.stringify(body) } : {};
+  const options = body
+    ? { method: "POST", headers: { "Content-Type": "application/json" }, body: JSON.stringify(body) }
+    : {};
   const answer = await fetch(new URL(path, BASE), options).catch(() => {
     throw new Error("The server of this page does not answer: was it ended?");
   });
@@ -24,7 +27,10 @@ function say(text) {
 /** The bytes of a piece as base64. */
 async function textOf(piece) {
   const reader = new FileReader();
-  const read = new Promise((done, fail) => Object.assign(reader, { onload: () => done(reader.result), onerror: () => fail(reader.error) }));
+  const read = new Promise((done, fail) => Object.assign(reader, {
+    onload: () => done(reader.result),
+    onerror: () => fail(reader.error),
+  }));
   reader.readAsDataURL(piece);
   return (await read).replace(/^[^,]*,?/, "");
 }
@@ -34,7 +40,13 @@ async function open(file) {
   let copy = "";
   for (let at = 0; at === 0 || at < size; at += PIECE) {
     say(`copying ${name}: ${size ? Math.floor((100 * at) / size) : 100} %`);
-    ({ copy } = await members("piece", { copy, name, at, data: await textOf(file.slice(at, at + PIECE)), last: at + PIECE >= size }));
+    ({ copy } = await members("piece", {
+      copy,
+      name,
+      at,
+      data: await textOf(file.slice(at, at + PIECE)),
+      last: at + PIECE >= size,
+    }));
   }
   await go({ copy, name }, name);
 }

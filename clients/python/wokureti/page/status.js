@@ -102,11 +102,13 @@ export function withdraw(id) {
   for (const old of [...find("notices").children]) if (old.dataset.id === id) old.remove();
 }
 
-/** Shows a notice, which goes by itself unless it is bad or stays. `act` is what it offers: the text of a button, and what that does. */
+/** Shows a notice, which goes by itself unless it is bad or stays. `act` is what it offers: the text of a button, and
+ * what that does. */
 export function notice(text, { isBad = false, id = "", stays = false, act = null } = {}) {
   const place = find("notices");
   // The same sentence is there once, also if two tabs were told it.
-  for (const old of [...place.children]) if ((id && old.dataset.id === id) || old.querySelector("span").textContent === text) old.remove();
+  for (const old of [...place.children])
+    if ((id && old.dataset.id === id) || old.querySelector("span").textContent === text) old.remove();
   const said = make("span", { textContent: text });
   const box = make("div", { className: `notice${isBad ? " bad" : ""}`, "data-id": id }, said);
   const press = () => {

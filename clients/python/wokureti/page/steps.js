@@ -1,19 +1,21 @@
-// The request lines of edits of several packets. Each list is made as one step, line by line, so numbers are those that are true then.
+// The request lines of edits of several packets. Each list is made as one step, line by line, so numbers are those that
+// are true then.
 
 /** Deletes packets `first` to `end` - 1. */
 export function deleted(first, end) {
   return Array.from({ length: end - first }, () => `delete ${first}`);
 }
 
-/** Holds the picture before in the place of packets. A held packet has the time stamp of the packet before it: so it is inserted after the
- * packet that it replaces. */
+/** Holds the picture before in the place of packets. A held packet has the time stamp of the packet before it: so it is
+ * inserted after the packet that it replaces. */
 export function held(first, end) {
   const lines = [];
   for (let at = first; at < end; at++) lines.push(`hold ${at + 1}`, `delete ${at}`);
   return lines;
 }
 
-/** The same for packets that give no size of their own, such as a broken key packet: with the time stamp of the packet before. */
+/** The same for packets that give no size of their own, such as a broken key packet: with the time stamp of the packet
+ * before. */
 export function heldBefore(first, end) {
   const lines = [];
   for (let at = first; at < end; at++) lines.push(`hold ${at}`, `delete ${at + 1}`);

@@ -1,4 +1,5 @@
-// Small pictures of the frames that are shown, along the programme. Each is that of a frame in its place: a key frame if there is one, since that is decoded by itself.
+// Small pictures of the frames that are shown, along the programme. Each is that of a frame in its place: a key frame
+// if there is one, since that is decoded by itself.
 
 import { toColour } from "./colours.js";
 import { find } from "./elements.js";
@@ -8,10 +9,12 @@ import { nodesOf } from "./script.js";
 // Pixels of a place, and how many pictures are stored.
 const WIDE = 76;
 const MOST_PICTURES = 300;
-// Milliseconds for which nothing changes before pictures are fetched, and before those from before an edit of packets are fetched again.
+// Milliseconds for which nothing changes before pictures are fetched, and before those from before an edit of packets
+// are fetched again.
 const QUIET = 350;
 const RENEW = 5000;
-// Frames that are decoded for a picture, at most: else it is that of the key frame before, of which there may be one in hours.
+// Frames that are decoded for a picture, at most: else it is that of the key frame before, of which there may be one in
+// hours.
 const MOST_DECODED = 600;
 // Frames of a place of which any picture that is here will do, at most.
 const MOST_LOOKED = 256;
@@ -20,7 +23,9 @@ const MOST_LOOKED = 256;
 export function placesOf(window) {
   const found = /** @type {[number, number][]} */ ([]);
   for (let left = 0; left + WIDE / 2 <= window.width; left += WIDE) {
-    const [first, end] = [left, left + WIDE].map((pixel) => Math.min(window.count, Math.max(0, window.packetAt(pixel))));
+    const [first, end] = [left, left + WIDE].map((pixel) =>
+      Math.min(window.count, Math.max(0, window.packetAt(pixel))),
+    );
     if (first >= window.count) break;
     found.push([first, Math.max(first + 1, end)]);
   }
@@ -45,7 +50,8 @@ export class Thumbs {
     [this.wanted, this.shown] = [[], []];
     // The revision whose frames the wanted pictures are of.
     this.revision = null;
-    // The packets that were shown last, and whether a picture from near its place will do: packets were edited, and pictures are fetched again soon.
+    // The packets that were shown last, and whether a picture from near its place will do: packets were edited, and
+    // pictures are fetched again soon.
     this.packets = null;
     this.isLoose = false;
     this.isOn = true;
@@ -72,7 +78,8 @@ export class Thumbs {
     if (keys === undefined || model.isPlaying) return;
     this.key = key;
     // What was refused may be there now.
-    if (this.revision !== model.revision) for (const [name, { picture }] of this.found) if (!picture) this.found.delete(name);
+    if (this.revision !== model.revision)
+      for (const [name, { picture }] of this.found) if (!picture) this.found.delete(name);
     this.revision = model.revision;
     const packets = packetsOf(model.session);
     this.isLoose = this.isLoose || (this.packets !== null && packets !== this.packets);
@@ -137,7 +144,8 @@ export class Thumbs {
     if (within) return found(within.frame);
     const slack = this.isLoose ? to - from : 0;
     for (let far = 0; far <= Math.min(MOST_LOOKED, to - from + slack); far++) {
-      for (const frame of [number - far, number + far]) if (frame >= from - slack && frame < to + slack && this.found.has(nameOf(frame))) return found(frame);
+      for (const frame of [number - far, number + far])
+        if (frame >= from - slack && frame < to + slack && this.found.has(nameOf(frame))) return found(frame);
     }
     const key = mine.findLast(({ frame }) => frame <= number);
     const before = Math.max(last?.source === source && last.frame <= number ? last.frame : 0, key?.frame ?? 0);
@@ -151,7 +159,10 @@ export class Thumbs {
       const [frame] = await engine.frames([number], { of, low: true });
       const { width, height } = frame;
       const data = new ImageData(new Uint8ClampedArray(toColour(frame).buffer), width, height);
-      const picture = await createImageBitmap(data, { resizeHeight: 64 * Math.ceil(devicePixelRatio || 1), resizeQuality: "medium" });
+      const picture = await createImageBitmap(data, {
+        resizeHeight: 64 * Math.ceil(devicePixelRatio || 1),
+        resizeQuality: "medium",
+      });
       return { picture, of: of ? undefined : frame.revision };
     } catch {
       return { picture: null };
@@ -173,7 +184,17 @@ export class Thumbs {
       // The middle of a picture that is wider than its place.
       const wide = Math.min(WIDE - 1, (picture.width * tall) / picture.height);
       const part = (wide * picture.height) / tall;
-      context.drawImage(picture, (picture.width - part) / 2, 0, part, picture.height, place * WIDE + (WIDE - 1 - wide) / 2, top, wide, tall);
+      context.drawImage(
+        picture,
+        (picture.width - part) / 2,
+        0,
+        part,
+        picture.height,
+        place * WIDE + (WIDE - 1 - wide) / 2,
+        top,
+        wide,
+        tall,
+      );
     });
     this.programme.canvas.dataset.pictures = pictures.filter(Boolean).length;
   }

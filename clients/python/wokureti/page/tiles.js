@@ -25,7 +25,8 @@ export class Tiles {
     this.source = source;
   }
 
-  /** The tile with this number of columns of `per` packets: that of the current state, or an older one until it is here, or null. */
+  /** The tile with this number of columns of `per` packets: that of the current state, or an older one until it is
+   * here, or null. */
   get(per, number) {
     const key = `${per}/${number}`;
     const entry = this.found.get(key);
@@ -60,7 +61,11 @@ export class Tiles {
     this.found.delete(key);
     this.found.set(key, entry);
     try {
-      const tile = await engine.look("timeline", { source, first: number * COLUMNS * per, per, count: COLUMNS }, { waits: "the packets of the timeline" });
+      const tile = await engine.look(
+        "timeline",
+        { source, first: number * COLUMNS * per, per, count: COLUMNS },
+        { waits: "the packets of the timeline" },
+      );
       if (state !== this.state && this.found.get(key) !== entry) return;
       entry.tile = prepared(tile);
       entry.state = state;

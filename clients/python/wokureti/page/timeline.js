@@ -78,22 +78,31 @@ export class Timeline extends Lane {
   tilesShown() {
     const { window } = this;
     const per = perOf(window.scale);
-    const [first, last] = [window.from, Math.min(window.count - 1, window.from + window.span)].map((packet) => Math.max(0, Math.floor(packet / per / COLUMNS)));
+    const [first, last] = [window.from, Math.min(window.count - 1, window.from + window.span)].map((packet) =>
+      Math.max(0, Math.floor(packet / per / COLUMNS)),
+    );
     const found = Array.from({ length: Math.min(MOST_SHOWN, last - first + 1) }, (_, place) => [per, first + place]);
     const whole = perOf(COLUMNS / Math.max(1, window.count));
     return whole === per && first === 0 ? found : [...found, [whole, 0]];
   }
 
-  /** The key packets that are known of the source that is shown, each with its index, its frame, and a name that stays its own; undefined until some are known. */
+  /** The key packets that are known of the source that is shown, each with its index, its frame, and a name that stays
+   * its own; undefined until some are known. */
   keys() {
     if (!this.model.packets) return [];
     const tiles = this.tilesShown().map(([per, number]) => this.tiles.fresh(per, number));
     if (tiles.includes(null)) return undefined;
-    const found = new Map(tiles.flatMap(({ keys, contents }) => keys.map(([packet, number, frame]) => [packet, { packet, frame, name: `${contents} ${number}` }])));
+    const found = new Map(
+      tiles.flatMap(({ keys, contents }) => keys.map(([packet, number, frame]) => [
+        packet,
+        { packet, frame, name: `${contents} ${number}` },
+      ])),
+    );
     return [...found.values()].sort((one, other) => one.packet - other.packet);
   }
 
-  /** The next key packet from a packet on, or the number of packets if there is none; undefined if that is not known here. */
+  /** The next key packet from a packet on, or the number of packets if there is none; undefined if that is not known
+   * here. */
   keyFrom(packet) {
     for (let at = packet; at < this.window.count; at++) {
       const found = this.tiles.peek(1, Math.floor(at / COLUMNS));
@@ -103,14 +112,16 @@ export class Timeline extends Lane {
     return this.window.count;
   }
 
-  /** The findings of the check, those packets that are damaged inside, and a text that changes with what only the server has of these. */
+  /** The findings of the check, those packets that are damaged inside, and a text that changes with what only the
+   * server has of these. */
   setFindings(findings, inside, state) {
     this.findings = findings;
     this.inside = inside;
     this.columns.clear();
     if (state !== this.state) {
       this.state = state;
-      if (this.model.session) this.tiles.use(this.model.revision, this.model.source, `${this.model.session.listed} ${state}`);
+      if (this.model.session)
+        this.tiles.use(this.model.revision, this.model.source, `${this.model.session.listed} ${state}`);
     }
     this.redraw();
   }
@@ -162,7 +173,13 @@ export class Timeline extends Lane {
     const tile = this.tiles.get(per, Math.floor(column / COLUMNS));
     const place = column % COLUMNS;
     if (!tile || place >= tile.kinds.length) return null;
-    return { per, first: column * per, kind: this.kindOf(tile, place), bytes: tile.bytes[place], frame: tile.frames[place] };
+    return {
+      per,
+      first: column * per,
+      kind: this.kindOf(tile, place),
+      bytes: tile.bytes[place],
+      frame: tile.frames[place],
+    };
   }
 
   /** The kind of a column of a tile: a worse one if the check found damage inside its packets. */

@@ -1,14 +1,18 @@
 // Frames as times, and what a person types for a frame.
 
-/** The time of a frame: hours, minutes, seconds and thousandths. `times` has the milliseconds of each frame, if the rate varies. */
+/** The time of a frame: hours, minutes, seconds and thousandths. `times` has the milliseconds of each frame, if the
+ * rate varies. */
 export function timeText(frame, rate, times = null) {
   const milliseconds = times?.[frame] ?? Math.round((frame / rate) * 1000);
   const seconds = Math.floor(milliseconds / 1000);
-  const parts = [Math.floor(seconds / 3600), Math.floor(seconds / 60) % 60, seconds % 60].map((part) => String(part).padStart(2, "0"));
+  const parts = [Math.floor(seconds / 3600), Math.floor(seconds / 60) % 60, seconds % 60].map((part) =>
+    String(part).padStart(2, "0"),
+  );
   return `${parts.join(":")}.${String(milliseconds % 1000).padStart(3, "0")}`;
 }
 
-/** The frame that a text means: a number, a step from the current frame with its sign, or a time. Null if it means none. */
+/** The frame that a text means: a number, a step from the current frame with its sign, or a time. Null if it means
+ * none. */
 export function frameOf(text, current, rate, times = null) {
   const word = text.trim().replace(/^−/, "-");
   if (/^\d{1,15}$/.test(word)) return Number(word);

@@ -16,8 +16,11 @@ function capital(text) {
 /** A sentence on two frames of one size; `other` is what the second one is called. */
 export function comparison({ psnr, differing, samples }, other = "before the edits") {
   if (!differing) return `same as ${other}, sample for sample`;
-  const values = ["y", "u", "v"].map((name) => `${name.toUpperCase()} ${Number.isFinite(psnr[name]) ? psnr[name].toFixed(2) : "∞"}`);
-  return `${differing.toLocaleString("en")} of ${samples.toLocaleString("en")} samples differ from ${other}, PSNR ${values.join("  ")} dB`;
+  const values = ["y", "u", "v"].map((name) =>
+    `${name.toUpperCase()} ${Number.isFinite(psnr[name]) ? psnr[name].toFixed(2) : "∞"}`,
+  );
+  return `${differing.toLocaleString("en")} of ${samples.toLocaleString("en")} samples differ from ${other}, PSNR ` +
+    `${values.join("  ")} dB`;
 }
 
 export class Viewer {
@@ -109,7 +112,10 @@ export class Viewer {
     const select = find("against");
     const { names } = this.model.session;
     if (select.options.length === names.length + 1) return;
-    select.replaceChildren(new Option("before the edits", "before"), ...names.map((name, number) => new Option(`source ${number}: ${name}, as it was opened`, number)));
+    select.replaceChildren(
+      new Option("before the edits", "before"),
+      ...names.map((name, number) => new Option(`source ${number}: ${name}, as it was opened`, number)),
+    );
     select.value = this.against;
   }
 
@@ -150,7 +156,10 @@ export class Viewer {
       find("picture-text").textContent = "";
       return;
     }
-    const [now, before] = await Promise.all([this.nowOf(frame, aside), this.needsBefore || this.preview ? this.beforeOf(frame, aside) : null]);
+    const [now, before] = await Promise.all([
+      this.nowOf(frame, aside),
+      this.needsBefore || this.preview ? this.beforeOf(frame, aside) : null,
+    ]);
     if (this.model.isPlaying || (this.isStale && look !== this.model.look)) return;
     if (now.frame) {
       this.picture.show(now.frame, this.needsBefore ? (before?.frame ?? null) : null);
@@ -169,10 +178,16 @@ export class Viewer {
   /** Says on the picture which packet it is of, if no frame shows that, and why it is not compared. */
   note(before, aside) {
     const box = find("stage-note");
-    const isMissing = this.needsBefore && before && (!before.frame || (this.picture.now && !this.picture.isPaired && this.picture.view !== "pair"));
+    const isMissing =
+      this.needsBefore &&
+      before &&
+      (!before.frame || (this.picture.now && !this.picture.isPaired && this.picture.view !== "pair"));
     const parts = [];
     if (aside) parts.push(`${this.nameOf(aside)}: no frame shows it, so this is its own picture, without the script`);
-    if (isMissing) parts.push(before.frame ? "Not compared: the sizes differ" : `Not compared. ${capital(this.other)}: ${before.text}`);
+    if (isMissing)
+      parts.push(
+        before.frame ? "Not compared: the sizes differ" : `Not compared. ${capital(this.other)}: ${before.text}`,
+      );
     box.hidden = !parts.length;
     box.textContent = parts.join(". ");
   }
@@ -215,8 +230,10 @@ export class Viewer {
       const number = aside ? aside.own : frame;
       if (!before.frame) parts.push(`${this.other}: ${before.text}`);
       else if (!now.frame) parts.push(`${this.other}: frame ${before.number}`);
-      else if (this.picture.isPaired) parts.push(`${before.number === number ? "" : `frame ${before.number} ${this.other}: `}${comparison(compared(now.frame, before.frame), this.other)}`);
-      else parts.push(`${this.other} ${before.frame.width}x${before.frame.height}: the sizes differ`);
+      else if (this.picture.isPaired) {
+        const of = before.number === number ? "" : `frame ${before.number} ${this.other}: `;
+        parts.push(of + comparison(compared(now.frame, before.frame), this.other));
+      } else parts.push(`${this.other} ${before.frame.width}x${before.frame.height}: the sizes differ`);
       find("before-caption").textContent = before.frame ? `${this.other}, frame ${before.number}` : this.other;
     }
     find("picture-text").textContent = parts.join("  ·  ");
@@ -232,7 +249,8 @@ export class Viewer {
       this.preview = {
         lines,
         picture: async (frame) => (await engine.frames([frame], { lines, revision }))[0],
-        packet: async ({ source, packet }) => (await engine.frames([packet], { of: { packets: source }, lines, revision }))[0],
+        packet: async ({ source, packet }) =>
+          (await engine.frames([packet], { of: { packets: source }, lines, revision }))[0],
       };
     }
     return this.show();
@@ -248,7 +266,9 @@ export class Viewer {
         return error.reply || error.message;
       }
     };
-    const origin = this.against === "before" ? await this.model.origin(frame) : { source: Number(this.against), before: frame };
+    const origin = this.against === "before"
+      ? await this.model.origin(frame)
+      : { source: Number(this.against), before: frame };
     const then = origin.before === null ? null : picture([origin.before], { before: origin.source });
     return differ(...(await Promise.all([picture([frame]), then])));
   }
@@ -273,7 +293,12 @@ export class Viewer {
         }
         if (this.search.signal.aborted) throw new DOMException("it was stopped", "AbortError");
         if (this.model.revision !== revision) throw new Error("the stream was changed, so the search ended");
-        if (frame % SHOWN_EVERY === 0) this.status.progress(`compared up to frame ${frame}`, Math.abs(frame - start), step > 0 ? frames - start : start);
+        if (frame % SHOWN_EVERY === 0)
+          this.status.progress(
+            `compared up to frame ${frame}`,
+            Math.abs(frame - start),
+            step > 0 ? frames - start : start,
+          );
       }
       this.status.say(`no frame ${step > 0 ? "after" : "before"} frame ${start} differs from ${other}`);
     } catch (error) {
@@ -288,12 +313,17 @@ export class Viewer {
 /** Whether two pictures, or the refusals in their place, are others. */
 function differ(one, other) {
   if (!one?.samples || !other?.samples) return one !== other;
-  return one.width !== other.width || one.height !== other.height || one.samples.some((value, place) => value !== other.samples[place]);
+  return one.width !== other.width ||
+    one.height !== other.height ||
+    one.samples.some((value, place) => value !== other.samples[place]);
 }
 
 function refusalOf(error) {
   if (error instanceof Refusal && error.reply) {
-    return { text: error.reason ? `${error.reply.replace(/^refused /, "")}: ${error.reason}` : error.reply, title: "This frame is refused" };
+    return {
+      text: error.reason ? `${error.reply.replace(/^refused /, "")}: ${error.reason}` : error.reply,
+      title: "This frame is refused",
+    };
   }
   return { text: error.message, title: "There is no picture" };
 }

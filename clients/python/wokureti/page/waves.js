@@ -1,4 +1,5 @@
-// The sound of the frames that are shown, drawn below their small pictures. A file is decoded once, a minute at a time, and only its peaks are kept.
+// The sound of the frames that are shown, drawn below their small pictures. A file is decoded once, a minute at a time,
+// and only its peaks are kept.
 
 import { engine } from "./engine.js";
 import { columnsOf, loudest, numbered, peaksOf, piecesOf, timesOf } from "./peaks.js";
@@ -7,7 +8,8 @@ import { packetsOf } from "./thumbs.js";
 // Pixels of the picture in a lane, and in one that is low.
 const TALL = 26;
 const LOW = 14;
-// Milliseconds for which nothing changes before sound is fetched, and before the times of frames are asked again after an edit of packets.
+// Milliseconds for which nothing changes before sound is fetched, and before the times of frames are asked again after
+// an edit of packets.
 const QUIET = 500;
 const RENEW = 5000;
 // The rate at which files are decoded: that of Opus.
@@ -21,8 +23,8 @@ export class Waves {
     for (const name of ["session", "frame", "packet"]) model.addEventListener(name, () => this.later());
   }
 
-  /** Nothing is known of another stream. Of each source the peaks of its pieces, by their numbers, or null if it has no sound that this browser decodes; and the runs of
-   * its frames, with what tells the packets that they are of. */
+  /** Nothing is known of another stream. Of each source the peaks of its pieces, by their numbers, or null if it has no
+   * sound that this browser decodes; and the runs of its frames, with what tells the packets that they are of. */
   begin(instance) {
     Object.assign(this, { instance, files: new Map(), runs: new Map(), isLoose: false });
   }
@@ -34,7 +36,9 @@ export class Waves {
 
   /** The pixels that the picture takes of a lane of this height. */
   tall(height) {
-    const isSeen = this.model.session.source_frames.some((_, source) => this.has(source) && (this.files.has(source) || engine.isOver === "server"));
+    const isSeen = this.model.session.source_frames.some((_, source) =>
+      this.has(source) && (this.files.has(source) || engine.isOver === "server"),
+    );
     document.body.classList.toggle("has-waves", isSeen);
     return !isSeen ? 0 : height < 100 ? LOW : TALL;
   }
@@ -71,7 +75,9 @@ export class Waves {
     for (const { shot, left, right } of seen) {
       const runs = this.runs.get(shot.source)?.runs ?? [];
       const scale = (right - left) / shot.count;
-      const [one, other] = [Math.max(0, -left), Math.min(right, programme.window.width) - left].map((pixel) => shot.first + pixel / scale);
+      const [one, other] = [Math.max(0, -left), Math.min(right, programme.window.width) - left].map(
+        (pixel) => shot.first + pixel / scale,
+      );
       for (const times of runs.length ? timesOf(runs, one, other) : []) {
         const { of } = times;
         const piece = this.has(of) ? piecesOf(times).find((number) => !this.files.get(of)?.has(number)) : undefined;
@@ -86,7 +92,11 @@ export class Waves {
     this.isBusy = true;
     const { instance } = this;
     try {
-      for (let next; (next = this.next()) && instance === this.instance && !this.model.isPlaying; this.programme.redraw()) {
+      for (
+        let next;
+        (next = this.next()) && instance === this.instance && !this.model.isPlaying;
+        this.programme.redraw()
+      ) {
         // The small pictures come first.
         if (this.thumbs.isWanting) break;
         await (next.piece === undefined ? this.learn(next.source) : this.fetch(next.source, next.piece, instance));
@@ -128,7 +138,9 @@ export class Waves {
     const { programme, files } = this;
     let columns = 0;
     context.fillStyle = programme.theme.wave;
-    for (const { x, level, times } of tall ? columnsOf(programme.blocks, programme.window.width, (source) => this.runs.get(source)?.runs) : []) {
+    for (const { x, level, times } of tall
+      ? columnsOf(programme.blocks, programme.window.width, (source) => this.runs.get(source)?.runs)
+      : []) {
       let [low, high] = [0, 0];
       for (const { of, from, end } of times) {
         const found = files.get(of) ? loudest(files.get(of), from, end) : [0, 0];
@@ -147,5 +159,9 @@ export class Waves {
 /** The peaks of a piece. */
 async function decoded({ bytes, begins }) {
   const buffer = await new OfflineAudioContext(1, 1, RATE).decodeAudioData(bytes);
-  return peaksOf(Array.from({ length: buffer.numberOfChannels }, (_, channel) => buffer.getChannelData(channel)), buffer.sampleRate, begins);
+  return peaksOf(
+    Array.from({ length: buffer.numberOfChannels }, (_, channel) => buffer.getChannelData(channel)),
+    buffer.sampleRate,
+    begins,
+  );
 }

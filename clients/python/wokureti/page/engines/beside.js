@@ -1,5 +1,5 @@
-// Sessions beside that of the page, in a worker of their own: files as they were opened, edits that are not made, exports. Nothing here changes the session of the
-// page, its list, or what redo makes again.
+// Sessions beside that of the page, in a worker of their own: files as they were opened, edits that are not made,
+// exports. Nothing here changes the session of the page, its list, or what redo makes again.
 
 import { answer } from "./checking.js";
 import { ivfOf, psnrOf } from "./coding.js";
@@ -41,7 +41,8 @@ export class Beside {
     return list.map((number) => session.frame(number));
   }
 
-  /** The picture of a packet of a source: that of the frame that shows it, or of the next one, or else of the last one. */
+  /** The picture of a packet of a source: that of the frame that shows it, or of the next one, or else of the last
+   * one. */
   packet(lines, source, packet) {
     const session = this.after(lines);
     for (let first = packet; ; first += PAGE) {
@@ -85,7 +86,8 @@ export class Beside {
     this.packets = new Session(this.module, [ivfOf(head, packets.map((_, place) => place), packets)], MOST_STATES);
   }
 
-  /** The PSNR of some of these packets against the frames after edits, of which the first packet is frame `first`; up to the first one that has fewer decibels. */
+  /** The PSNR of some of these packets against the frames after edits, of which the first packet is frame `first`; up
+   * to the first one that has fewer decibels. */
   measure(lines, first, from, count, least) {
     const session = this.after(lines);
     const found = [];
@@ -96,7 +98,8 @@ export class Beside {
     return found;
   }
 
-  /** The frames that are shown as an IVF file, of which coded packets replace some: they are a source more, and the script has the parts of all. */
+  /** The frames that are shown as an IVF file, of which coded packets replace some: they are a source more, and the
+   * script has the parts of all. */
   exportCoded(lines, { head, stamps, script }, packets) {
     // What follows says how long the last one is shown; no script has it.
     const coded = ivfOf(head, stamps, [...packets, new Uint8Array(0)]);

@@ -1,6 +1,10 @@
-// The calls of wokureti.h over the library in WebAssembly. Addresses have 32 bits and are numbers here; sizes have 64 bits and are BigInts.
+// The calls of wokureti.h over the library in WebAssembly. Addresses have 32 bits and are numbers here; sizes have 64
+// bits and are BigInts.
 
-const FAULTS = ["", "Header", "Magic", "FourCc", "HeaderLength", "TooMany", "NoMemory", "DocType", "NoTracks", "NoVideo", "Encoded", "Scale"];
+const FAULTS = [
+  "", "Header", "Magic", "FourCc", "HeaderLength", "TooMany", "NoMemory", "DocType", "NoTracks", "NoVideo", "Encoded",
+  "Scale",
+];
 // What a person can do about each of them.
 const REASONS = {
   Header: "it is shorter than the header of its kind, or empty",
@@ -33,7 +37,14 @@ export class Refused extends Error {
 
 /** The memory is full. With `isUnsure` the line that was asked may have been made. */
 export function full(isUnsure = false) {
-  return Object.assign(new Refused(507, { error: "There is not memory enough for this. Nothing is lost: the edits are kept. Close other tabs, or open the file with `wokureti open`." }), { isUnsure });
+  return Object.assign(
+    new Refused(507, {
+      error:
+        "There is not memory enough for this. Nothing is lost: the edits are kept. Close other tabs, or open the " +
+        "file with `wokureti open`.",
+    }),
+    { isUnsure },
+  );
 }
 
 /** Bytes of a file, or of an array. */
@@ -42,7 +53,9 @@ export function bytesOf(source, first, end) {
   try {
     return new Uint8Array(new FileReaderSync().readAsArrayBuffer(source.slice(first, end)));
   } catch (error) {
-    throw new Refused(409, { error: `${source.name || "the file"} cannot be read: ${error.message} The edits are kept: open the file again` });
+    throw new Refused(409, {
+      error: `${source.name || "the file"} cannot be read: ${error.message} The edits are kept: open the file again`,
+    });
   }
 }
 
@@ -98,8 +111,9 @@ export class Calls {
     });
   }
 
-  /** Opens a session over IVF and WebM files. The one before it ends. The pictures of the cached states take at most `most` bytes, four for each. `look` is
-   * called with the bytes of each file, as long as they are in the memory, and `told` with how many bytes were read. */
+  /** Opens a session over IVF and WebM files. The one before it ends. The pictures of the cached states take at most
+   * `most` bytes, four for each. `look` is called with the bytes of each file, as long as they are in the memory, and
+   * `told` with how many bytes were read. */
   open(sources, most, look = (place, bytes) => {}, told = (count) => {}) {
     const ends = [];
     for (const source of sources) ends.push((ends.at(-1) ?? 0) + sizeOfSource(source));
@@ -113,12 +127,19 @@ export class Calls {
         look(place, () => this.bytes(first, sizeOfSource(source)));
       });
       const list = new Uint8Array(BigUint64Array.from(ends, BigInt).buffer);
-      return this.with(list, (where) => this.calls.wk_open_bytes(this.handle, at, size, where, BigInt(sources.length), BigInt(most), 0, 0n, this.fault));
+      return this.with(list, (where) =>
+        this.calls.wk_open_bytes(this.handle, at, size, where, BigInt(sources.length), BigInt(most), 0, 0n, this.fault),
+      );
     });
     const view = this.view(this.fault, 16);
     const cause = FAULTS[view.getUint32(8, true)];
     if (status === FILE && cause === "NoMemory") throw full();
-    if (status === FILE) throw new Refused(409, { error: `${sources[Number(view.getBigUint64(0, true))].name || "the file"} is not opened, ${cause}: ${REASONS[cause]}` });
+    if (status === FILE)
+      throw new Refused(409, {
+        error:
+          `${sources[Number(view.getBigUint64(0, true))].name || "the file"} is not opened, ${cause}: ` +
+          `${REASONS[cause]}`,
+      });
     if (status) throw full();
   }
 
@@ -137,7 +158,8 @@ export class Calls {
     return this.withRoom(size, (at) => {
       this.calls.wk_text(this.handle, at, BigInt(size), this.length);
       const found = [];
-      for (let first = 0; first < size; first += SLICE) found.push(this.bytes(at + first, Math.min(SLICE, size - first)).slice());
+      for (let first = 0; first < size; first += SLICE)
+        found.push(this.bytes(at + first, Math.min(SLICE, size - first)).slice());
       return found;
     });
   }
@@ -155,7 +177,11 @@ export class Calls {
 
   /** The reply to a request line, without its last newline. */
   request(line) {
-    this.checked(this.with(new TextEncoder().encode(line), (at, size) => this.calls.wk_request(this.handle, at, size, this.length)));
+    this.checked(
+      this.with(new TextEncoder().encode(line), (at, size) =>
+        this.calls.wk_request(this.handle, at, size, this.length),
+      ),
+    );
     try {
       return this.text().replace(/\n$/, "");
     } catch (error) {
@@ -185,7 +211,8 @@ export class Calls {
   /** The size of a frame. */
   size(n) {
     const status = this.checked(this.calls.wk_frame(this.handle, BigInt(n), 0, 0n, 0, 0n, 0, 0n, this.shown));
-    if (status === ROOM) return [this.view(this.shown, 40).getUint32(16, true), this.view(this.shown, 40).getUint32(20, true)];
+    if (status === ROOM)
+      return [this.view(this.shown, 40).getUint32(16, true), this.view(this.shown, 40).getUint32(20, true)];
     const line = `frame ${n}`;
     throw Object.assign(this.refused(line, this.request(line)), { isOfOtherSize: status === SIZE_DIFFERS });
   }
@@ -205,14 +232,26 @@ export class Calls {
     this.view(this.shown, 40).setBigUint64(8, BigInt(across), true);
     const y = this.samples.at;
     const [cb, cr] = [y + luma, y + luma + chroma];
-    const status = this.calls.wk_frame(this.handle, BigInt(n), y, BigInt(luma), cb, BigInt(chroma), cr, BigInt(chroma), this.shown);
+    const status = this.calls.wk_frame(
+      this.handle,
+      BigInt(n),
+      y,
+      BigInt(luma),
+      cb,
+      BigInt(chroma),
+      cr,
+      BigInt(chroma),
+      this.shown,
+    );
     if (status) throw new Refused(500, { error: `frame ${n} was served, and then not (${status})` });
     return { width, height, samples: this.bytes(y, size).slice() };
   }
 
-  /** The packets of a source as an IVF file, in pieces. With `pads` players that use libvpx show the packets that repeat a picture too. */
+  /** The packets of a source as an IVF file, in pieces. With `pads` players that use libvpx show the packets that
+   * repeat a picture too. */
   save(source, pads, restamps) {
-    const status = this.checked(this.calls.wk_save_source(this.handle, BigInt(source), pads ? 1 : 0, restamps ? 1 : 0, this.length));
+    const status =
+      this.checked(this.calls.wk_save_source(this.handle, BigInt(source), pads ? 1 : 0, restamps ? 1 : 0, this.length));
     if (status) throw new Refused(404, { error: "there is no such source" });
     return this.pieces();
   }
@@ -222,10 +261,22 @@ export class Calls {
     return this.withRoom(32, (at) => {
       const status = this.checked(this.calls.wk_export(this.handle, 1, this.length, at));
       if (!status) return this.pieces();
-      const [frame, node, source, packet] = [0, 8, 16, 24].map((place) => Number(this.view(at + place, 8).getBigUint64(0, true)));
-      if (status === CHANGED) throw new Refused(409, { error: `frame ${frame} is changed by node ${node}: without coding again it cannot be kept` });
-      if (status === PACKET) throw new Refused(409, { error: `frame ${frame} is refused: source ${source} packet ${packet}. Repair it, or leave the frame out` });
-      throw new Refused(409, { error: status === 35 ? "there would be more than 1,048,576 packets, or more than 1 GiB: export the script in parts" : `frame ${frame} cannot be exported (${status})` });
+      const [frame, node, source, packet] = [0, 8, 16, 24].map((place) =>
+        Number(this.view(at + place, 8).getBigUint64(0, true)),
+      );
+      if (status === CHANGED)
+        throw new Refused(409, {
+          error: `frame ${frame} is changed by node ${node}: without coding again it cannot be kept`,
+        });
+      if (status === PACKET)
+        throw new Refused(409, {
+          error: `frame ${frame} is refused: source ${source} packet ${packet}. Repair it, or leave the frame out`,
+        });
+      throw new Refused(409, {
+        error: status === 35
+          ? "there would be more than 1,048,576 packets, or more than 1 GiB: export the script in parts"
+          : `frame ${frame} cannot be exported (${status})`,
+      });
     });
   }
 }

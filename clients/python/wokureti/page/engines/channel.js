@@ -1,4 +1,5 @@
-// A worker that answers one call at a time. Calls wait here, so that one that nobody wants any more is never made, and those that nobody waits for come last.
+// A worker that answers one call at a time. Calls wait here, so that one that nobody wants any more is never made, and
+// those that nobody waits for come last.
 
 import { Refusal, Unreachable } from "../engine.js";
 
@@ -11,7 +12,13 @@ export class Channel {
     this.now = null;
     this.count = 0;
     this.worker.onmessage = ({ data }) => (data.event ? heard(data) : this.answered(data));
-    this.worker.onerror = (event) => this.end(new Unreachable(`The engine of this page ended: ${event.message}. The edits are kept: load the page again, and open the file.`));
+    this.worker.onerror = (event) =>
+      this.end(
+        new Unreachable(
+          `The engine of this page ended: ${event.message}. The edits are kept: load the page again, and open the ` +
+            "file.",
+        ),
+      );
   }
 
   call(name, given = [], { low = false, signal = undefined } = {}) {

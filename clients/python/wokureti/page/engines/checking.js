@@ -32,7 +32,9 @@ export function atHeader({ isIvf, claimed, count, head }, isWhole, size) {
 
 /** Those at the end of a file, if the packets are all of its whole records. */
 export function atEnd({ cut, count }, isWhole) {
-  return isWhole && cut ? [finding("damage", "cut_record", { record: count, byte: cut.byte, claimed: cut.claimed, left: cut.left })] : [];
+  return isWhole && cut
+    ? [finding("damage", "cut_record", { record: count, byte: cut.byte, claimed: cut.claimed, left: cut.left })]
+    : [];
 }
 
 export class Check {
@@ -80,9 +82,22 @@ export class Check {
   /** What is known of it, with findings from one on. */
   members(first, most) {
     const findings = this.findings.slice(first, first + most);
-    const groups = findings.map(({ packet }) => (packet === null ? null : Math.max(0, this.timeline.keyBefore(packet))));
+    const groups = findings.map(({ packet }) =>
+      (packet === null ? null : Math.max(0, this.timeline.keyBefore(packet))),
+    );
     const isRest = first + findings.length < this.findings.length;
     const { number, damage, notes, done } = this;
-    return { check: number, from: first, findings, groups, damage, notes, done, packets: this.timeline.count, over: this.isOver && !isRest, failed: this.failed };
+    return {
+      check: number,
+      from: first,
+      findings,
+      groups,
+      damage,
+      notes,
+      done,
+      packets: this.timeline.count,
+      over: this.isOver && !isRest,
+      failed: this.failed,
+    };
   }
 }

@@ -14,25 +14,34 @@ export function runsOf(numbers) {
   return runs;
 }
 
-/** What inserts remembered packets: the lines, which begin with the source if that is not the current one, the title of the step, and what is told of it. */
+/** What inserts remembered packets: the lines, which begin with the source if that is not the current one, the title of
+ * the step, and what is told of it. */
 export function pasteOf(streams, current, { numbers, source, at, move }, insertion) {
-  if (numbers.reduce((sum, [, count]) => sum + count, 0) > MOST_PACKETS) throw new Error(`at most ${MOST_PACKETS} packets are inserted at a time`);
+  if (numbers.reduce((sum, [, count]) => sum + count, 0) > MOST_PACKETS)
+    throw new Error(`at most ${MOST_PACKETS} packets are inserted at a time`);
   const board = new Clipboard(streams, numbers, source, at, insertion);
   const { lines, first } = move ? board.moves() : board.copies();
   const { deleted } = board;
   const count = board.numbers.length;
   const title = `${move ? "Move" : "Copy"} ${count} packets to ${first}`;
-  return { lines: source === current || !lines.length ? lines : [`use ${source}`, ...lines], title, told: { first, count, deleted, made: lines.length } };
+  return {
+    lines: source === current || !lines.length ? lines : [`use ${source}`, ...lines],
+    title,
+    told: { first, count, deleted, made: lines.length },
+  };
 }
 
-/** Makes the lines that insert remembered packets before packet `at` of a source. `insertion(number, at)` is the line for one that was deleted since. */
+/** Makes the lines that insert remembered packets before packet `at` of a source. `insertion(number, at)` is the line
+ * for one that was deleted since. */
 export class Clipboard {
   constructor(streams, runs, source, at, insertion) {
     Object.assign(this, { source, at, insertion });
     this.numbers = runs.flatMap(([first, count]) => Array.from({ length: count }, (_, turn) => first + turn));
     const wanted = new Set(this.numbers);
     this.places = new Map();
-    streams.forEach((stream, other) => stream.forEach((number, index) => wanted.has(number) && this.places.set(number, [other, index])));
+    streams.forEach((stream, other) => stream.forEach((number, index) =>
+      wanted.has(number) && this.places.set(number, [other, index]),
+    ));
   }
 
   get deleted() {
@@ -53,22 +62,28 @@ export class Clipboard {
   /** The packets are taken away from where they are. */
   moves() {
     const places = [...this.places.values()];
-    const others = [...new Set(places.map(([source]) => source))].filter((source) => source !== this.source).sort((one, other) => one - other);
+    const others = [...new Set(places.map(([source]) => source))]
+      .filter((source) => source !== this.source)
+      .sort((one, other) => one - other);
     if (!others.length) return this.movesInside();
     const { lines, first } = this.copies();
     for (const source of others) {
-      const indexes = places.filter(([other]) => other === source).map(([, index]) => index).sort((one, other) => other - one);
+      const indexes = places.filter(([other]) => other === source)
+        .map(([, index]) => index)
+        .sort((one, other) => other - one);
       lines.push(`use ${source}`, ...indexes.map((index) => `delete ${index}`));
     }
     return { lines: [...lines, `use ${this.source}`], first };
   }
 
-  /** The same of packets of one source. If they were moved since, they stay in the order in which they are now, those that were deleted at the end. */
+  /** The same of packets of one source. If they were moved since, they stay in the order in which they are now, those
+   * that were deleted at the end. */
   movesInside() {
     const place = (number) => this.places.get(number)?.[1] ?? Infinity;
     const numbers = [...this.numbers];
     const here = numbers.filter((number) => this.places.has(number)).map(place);
-    if (here.some((index, turn) => turn && index < here[turn - 1])) numbers.sort((one, other) => place(one) - place(other) || 0);
+    if (here.some((index, turn) => turn && index < here[turn - 1]))
+      numbers.sort((one, other) => place(one) - place(other) || 0);
     const taken = new Set(here);
     let { at } = this;
     while (taken.has(at - 1)) at--;

@@ -1,4 +1,5 @@
-// What an export codes again, as the Python client has it (tools/coding.py): frames that the script changes, and leads; the script over the sources and the coded frames.
+// What an export codes again, as the Python client has it (tools/coding.py): frames that the script changes, and leads;
+// the script over the sources and the coded frames.
 
 import { objectsOf } from "../details.js";
 import { baseOf } from "./rates.js";
@@ -12,9 +13,16 @@ const BEST = 99;
 export function runsOf(answered, frames) {
   const found = [];
   for (let first = 0; first < frames; first += PAGE) {
-    for (const { source, source_frame: frame, changed } of objectsOf(answered(`origins ${first} ${Math.min(PAGE, frames - first)}`))) {
+    for (const { source, source_frame: frame, changed } of objectsOf(
+      answered(`origins ${first} ${Math.min(PAGE, frames - first)}`),
+    )) {
       const last = found.at(-1);
-      if (last && last.source === source && last.first + last.count === frame && String(last.changed) === String(changed)) last.count++;
+      if (
+        last &&
+        last.source === source &&
+        last.first + last.count === frame &&
+        String(last.changed) === String(changed)
+      ) last.count++;
       else found.push({ count: 1, source, first: frame, changed });
     }
   }
@@ -37,7 +45,8 @@ function marked(first, end, leads, isChanged) {
   return found;
 }
 
-/** The pieces of the frames: how many, from which on, and whether they are coded, or come from a source, from one of its frames on. */
+/** The pieces of the frames: how many, from which on, and whether they are coded, or come from a source, from one of
+ * its frames on. */
 export function piecesOf(runs, leads) {
   const pieces = [];
   let first = 0;
@@ -45,7 +54,10 @@ export function piecesOf(runs, leads) {
     for (const [start, end, isCoded] of marked(first, first + run.count, leads, run.changed.length > 0)) {
       const piece = { first: start, count: end - start, isCoded, source: run.source, start: run.first + start - first };
       const last = pieces.at(-1);
-      const goesOn = last && last.isCoded === isCoded && (isCoded || (last.source === piece.source && last.start + last.count === piece.start));
+      const goesOn =
+        last &&
+        last.isCoded === isCoded &&
+        (isCoded || (last.source === piece.source && last.start + last.count === piece.start));
       if (goesOn) last.count += piece.count;
       else pieces.push(piece);
     }
@@ -54,12 +66,14 @@ export function piecesOf(runs, leads) {
   return pieces;
 }
 
-/** Parts that begin between key packets: an exact cut has hidden packets before them, or their frames up to the next key packet are coded again. */
+/** Parts that begin between key packets: an exact cut has hidden packets before them, or their frames up to the next
+ * key packet are coded again. */
 export function leadsOf(facts, runs) {
   const found = [];
   let [first, before] = [0, null];
   for (const run of runs) {
-    const goesOn = before && before.source === run.source && before.first + before.count === run.first && !before.changed.length;
+    const goesOn =
+      before && before.source === run.source && before.first + before.count === run.first && !before.changed.length;
     if (!run.changed.length && !goesOn) {
       const lead = leadOf(facts, run, first);
       if (lead) found.push(lead);
@@ -80,13 +94,24 @@ function leadOf({ contents, timeline }, run, first) {
   const sum = (from, end) => own.sizes.slice(from, end).reduce((all, size) => all + size, 0);
   const [rate, scale] = baseOf(contents.files[run.source].head);
   let ticks = 0;
-  for (let at = begin; at < place; at++) if (own.frames[at + 1] > own.frames[at]) ticks += contents.duration(own.stream[at], run.source);
-  return { first, end: first + count, packets: place - begin, bytes: sum(begin, place), length: Math.floor((ticks * scale * 1e9) / rate), coded_bytes: sum(place, after) };
+  for (let at = begin; at < place; at++)
+    if (own.frames[at + 1] > own.frames[at]) ticks += contents.duration(own.stream[at], run.source);
+  return {
+    first,
+    end: first + count,
+    packets: place - begin,
+    bytes: sum(begin, place),
+    length: Math.floor((ticks * scale * 1e9) / rate),
+    coded_bytes: sum(place, after),
+  };
 }
 
 /** The script of the pieces, of which source `coded` has those that are coded. */
 export function scriptOf(pieces, coded) {
-  const sources = [...new Set([...pieces.filter(({ isCoded }) => !isCoded).map(({ source }) => source), coded])].sort((one, other) => one - other);
+  const sources = [...new Set([
+    ...pieces.filter(({ isCoded }) => !isCoded).map(({ source }) => source),
+    coded,
+  ])].sort((one, other) => one - other);
   const named = sources.filter((source) => source);
   const node = (source) => (source ? named.indexOf(source) + 1 : 0);
   let place = 0;
@@ -98,14 +123,18 @@ export function scriptOf(pieces, coded) {
   return [...named.map((source) => `source ${source}`), `parts ${parts.join(" ")}`].join("; ");
 }
 
-/** The time stamps of the coded frames in the time base of source 0, and the end of the last one. Sums are rounded, and not each. */
+/** The time stamps of the coded frames in the time base of source 0, and the end of the last one. Sums are rounded, and
+ * not each. */
 export function stampsOf({ contents, timeline }, runs, pieces) {
   const [toRate, toScale] = baseOf(contents.files[0].head);
   const durations = [];
   for (const { source, first, count } of runs) {
     const own = timeline(source);
     const [rate, scale] = baseOf(contents.files[source].head);
-    for (let at = 0; at < count; at++) durations.push((contents.duration(own.stream[own.packetOf(first + at)], source) * scale * toRate) / (rate * toScale));
+    for (let at = 0; at < count; at++)
+      durations.push(
+        (contents.duration(own.stream[own.packetOf(first + at)], source) * scale * toRate) / (rate * toScale),
+      );
   }
   const stamps = [0];
   let due = 0;

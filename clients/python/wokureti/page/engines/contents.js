@@ -1,5 +1,5 @@
-// Which packets there are: each has a number, those of the files first, then each one that an edit made. A stream is a list of numbers, so an edit moves
-// numbers, and a number says which packet is meant, wherever that is now.
+// Which packets there are: each has a number, those of the files first, then each one that an edit made. A stream is a
+// list of numbers, so an edit moves numbers, and a number says which packet is meant, wherever that is now.
 
 import { objectsOf } from "../details.js";
 import { wordsOf } from "./lines.js";
@@ -45,7 +45,12 @@ export class Index {
   }
 
   readHead(view) {
-    this.head = { width: view.getUint16(12, true), height: view.getUint16(14, true), rate: view.getUint32(16, true), scale: view.getUint32(20, true) };
+    this.head = {
+      width: view.getUint16(12, true),
+      height: view.getUint16(14, true),
+      rate: view.getUint32(16, true),
+      scale: view.getUint32(20, true),
+    };
   }
 }
 
@@ -60,7 +65,8 @@ function hashOf(data) {
   return (one >>> 0) * 2 ** 21 + ((other >>> 0) & 0x1fffff);
 }
 
-/** The packets of an IVF file; `got` is called with the bytes of each after its size, as the digest of a list has them. */
+/** The packets of an IVF file; `got` is called with the bytes of each after its size, as the digest of a list has
+ * them. */
 export function readIvf(bytes, got) {
   const view = new DataView(bytes.buffer, bytes.byteOffset, bytes.byteLength);
   const index = new Index();
@@ -77,7 +83,12 @@ export function readIvf(bytes, got) {
     got(data);
     at += 12 + size;
   }
-  if (at < bytes.length) index.cut = { byte: at, claimed: at + 4 <= bytes.length ? view.getUint32(at, true) : null, left: bytes.length - at };
+  if (at < bytes.length)
+    index.cut = {
+      byte: at,
+      claimed: at + 4 <= bytes.length ? view.getUint32(at, true) : null,
+      left: bytes.length - at,
+    };
   return index;
 }
 
@@ -103,7 +114,8 @@ export class Packets {
     if (!this.shown[source]) {
       const { count } = this.files[source];
       const found = new Uint32Array(count + 1);
-      for (let place = 0; place < count; place++) found[place + 1] = found[place] + (this.tags[this.bases[source] + place] & SHOWN ? 1 : 0);
+      for (let place = 0; place < count; place++)
+        found[place + 1] = found[place] + (this.tags[this.bases[source] + place] & SHOWN ? 1 : 0);
       this.shown[source] = found;
     }
     return this.shown[source];
@@ -115,11 +127,15 @@ export class Contents extends Packets {
   constructor(files, ask) {
     super(files);
     this.ask = ask;
-    [this.sizes, this.stamps, this.tags, this.hashes] = ["sizes", "stamps", "tags", "hashes"].map((name) => files.flatMap((file) => file[name]));
+    [this.sizes, this.stamps, this.tags, this.hashes] = ["sizes", "stamps", "tags", "hashes"].map((name) =>
+      files.flatMap(
+      (file) => file[name],
+    ));
     // The sizes of the pictures of key packets, by their numbers.
     this.pictures = new Map();
-    // The packets that edits made: the one whose time each has, or null; the source that it was made in; and whether it was forged. A number is that of one packet
-    // for ever: edits that are made again make the packets that they made before.
+    // The packets that edits made: the one whose time each has, or null; the source that it was made in; and whether it
+    // was forged. A number is that of one packet for ever: edits that are made again make the packets that they made
+    // before.
     this.made = [];
     this.begin();
   }
@@ -127,7 +143,9 @@ export class Contents extends Packets {
   /** The packets are those of the files again. */
   begin() {
     this.current = 0;
-    this.streams = this.files.map(({ count }, source) => Array.from({ length: count }, (_, place) => this.bases[source] + place));
+    this.streams = this.files.map(({ count }, source) => Array.from({ length: count }, (_, place) =>
+      this.bases[source] + place,
+    ));
   }
 
   isForged(number) {
@@ -161,15 +179,19 @@ export class Contents extends Packets {
     return [of, one - this.bases[of]];
   }
 
-  /** How long a packet is shown, in the units of time of a source: as in its file; one that has no time the median step of the source that it was made in. */
+  /** How long a packet is shown, in the units of time of a source: as in its file; one that has no time the median step
+   * of the source that it was made in. */
   duration(number, source) {
     const [of, place] = this.timed(number);
     const ticks = place === null ? this.files[of].step : this.files[of].durations[place];
     const [[rate, scale], [toRate, toScale]] = [of, source].map((one) => baseOf(this.files[one].head));
-    return rate === toRate && scale === toScale ? ticks : Math.max(1, Math.floor((ticks * scale * toRate) / (rate * toScale)));
+    return rate === toRate && scale === toScale
+      ? ticks
+      : Math.max(1, Math.floor((ticks * scale * toRate) / (rate * toScale)));
   }
 
-  /** Makes accepted edits, whose packets have the numbers from `first` on. Packets that are deleted one after the other go together. */
+  /** Makes accepted edits, whose packets have the numbers from `first` on. Packets that are deleted one after the other
+   * go together. */
   apply(lines, first) {
     this.next = first;
     for (let at = 0; at < lines.length; ) {
@@ -195,7 +217,8 @@ export class Contents extends Packets {
 
   isEdited(source) {
     const stream = this.streams[source];
-    return stream.length !== this.files[source].count || stream.some((number, place) => number !== this.bases[source] + place);
+    return stream.length !== this.files[source].count ||
+      stream.some((number, place) => number !== this.bases[source] + place);
   }
 
   /** Asks for the facts of packets that are not known. */
@@ -218,14 +241,16 @@ export class Contents extends Packets {
       const number = this.streams[source][first + turn];
       this.sizes[number] = facts.bytes;
       this.stamps[number] = facts.stamp;
-      this.tags[number] = (facts.kind === "key" ? KEY : 0) | (facts.show === "shown" ? SHOWN : 0) | (facts.bytes ? 0 : EMPTY);
+      this.tags[number] =
+        (facts.kind === "key" ? KEY : 0) | (facts.show === "shown" ? SHOWN : 0) | (facts.bytes ? 0 : EMPTY);
       if (facts.size) this.pictures.set(number, facts.size);
     });
     return found;
   }
 }
 
-/** The causes against packets, as `list` reports them: 0 if a packet is decoded, 1 if an earlier one is refused, else 2. Whole once all were listed. */
+/** The causes against packets, as `list` reports them: 0 if a packet is decoded, 1 if an earlier one is refused, else
+ * 2. Whole once all were listed. */
 export class Causes {
   constructor(contents) {
     this.contents = contents;
@@ -275,11 +300,14 @@ export class Causes {
     });
   }
 
-  /** A packet that was there, and has the cause that it had, leaves those after it as they were: what decoding refuses depends on the packets from the last key
-   * packet on, and on these only by whether one of them is refused. */
+  /** A packet that was there, and has the cause that it had, leaves those after it as they were: what decoding refuses
+   * depends on the packets from the last key packet on, and on these only by whether one of them is refused. */
   causesNow(source, old, stream, first) {
     let same = 0;
-    while (same < Math.min(stream.length, old.stream.length) - first && stream[stream.length - 1 - same] === old.stream[old.stream.length - 1 - same]) same++;
+    while (
+      same < Math.min(stream.length, old.stream.length) - first &&
+      stream[stream.length - 1 - same] === old.stream[old.stream.length - 1 - same]
+    ) same++;
     const rest = stream.length - same;
     const shift = old.stream.length - stream.length;
     const causes = old.causes.slice(0, first);

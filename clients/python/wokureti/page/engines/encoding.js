@@ -1,6 +1,7 @@
 // Frames as packets of VP8, by the browser's VideoEncoder.
 
-// The codec; frames that the encoder has at a time, at most; bits a second of a sample for the first try, and bits a second at most.
+// The codec; frames that the encoder has at a time, at most; bits a second of a sample for the first try, and bits a
+// second at most.
 const CODEC = "vp8";
 const MOST_QUEUE = 8;
 const FIRST = 1;
@@ -10,7 +11,9 @@ const TRIES = 3;
 // How long is waited for the encoder.
 const PAUSE = 5;
 
-export const NO_ENCODER = "This browser has no VideoEncoder for VP8, which Chromium 94 and Firefox 130 have. Open the page there, or the file with `wokureti open`, or run `wokureti export --code-changed`";
+export const NO_ENCODER =
+  "This browser has no VideoEncoder for VP8, which Chromium 94 and Firefox 130 have. Open the page there, or the " +
+  "file with `wokureti open`, or run `wokureti export --code-changed`";
 
 function configOf(width, height, bitrate, framerate) {
   return { codec: CODEC, width, height, bitrate, framerate, bitrateMode: "variable", latencyMode: "quality" };
@@ -19,7 +22,9 @@ function configOf(width, height, bitrate, framerate) {
 /** Whether the browser codes frames of this size. */
 export async function canEncode(width, height) {
   if (typeof VideoEncoder === "undefined") return false;
-  return VideoEncoder.isConfigSupported(configOf(width, height, 1e6, 30)).then(({ supported }) => supported, () => false);
+  return VideoEncoder
+    .isConfigSupported(configOf(width, height, 1e6, 30))
+    .then(({ supported }) => supported, () => false);
 }
 
 export function check(signal) {
@@ -44,10 +49,17 @@ function videoFrame(frame, timestamp) {
   const { width, height, samples } = frame;
   const [wide, high] = [width + (width & 1), height + (height & 1)];
   const planes = wide === width && high === height ? samples : evened(frame, wide, high);
-  return new VideoFrame(planes, { format: "I420", codedWidth: wide, codedHeight: high, visibleRect: { x: 0, y: 0, width, height }, timestamp });
+  return new VideoFrame(planes, {
+    format: "I420",
+    codedWidth: wide,
+    codedHeight: high,
+    visibleRect: { x: 0, y: 0, width, height },
+    timestamp,
+  });
 }
 
-/** The packets of so many frames, of which `frames(from)` has some from one on; a key packet first. `got` hears how many were coded. */
+/** The packets of so many frames, of which `frames(from)` has some from one on; a key packet first. `got` hears how
+ * many were coded. */
 async function packetsOf(frames, count, { bitrate, framerate, signal, got }) {
   const packets = [];
   let failed = null;
@@ -66,7 +78,8 @@ async function packetsOf(frames, count, { bitrate, framerate, signal, got }) {
         check(signal);
         if (!size) encoder.configure(configOf(frame.width, frame.height, bitrate, framerate));
         size ??= frame;
-        if (frame.width !== size.width || frame.height !== size.height) throw new Error("frames that are coded together have one size");
+        if (frame.width !== size.width || frame.height !== size.height)
+          throw new Error("frames that are coded together have one size");
         while (encoder.encodeQueueSize > MOST_QUEUE && !failed) await new Promise((done) => setTimeout(done, PAUSE));
         if (failed) throw failed;
         const given = videoFrame(frame, Math.round((at * 1e6) / framerate));
@@ -84,19 +97,24 @@ async function packetsOf(frames, count, { bitrate, framerate, signal, got }) {
     if (encoder.state !== "closed") encoder.close();
   }
   const isShown = (packet) => packet.length > 2 && packet[0] & 16;
-  if (packets.length !== count || !packets.every(isShown) || packets[0][0] & 1) throw new Error(`The browser made ${packets.length} packets of ${count} frames`);
+  if (packets.length !== count || !packets.every(isShown) || packets[0][0] & 1)
+    throw new Error(`The browser made ${packets.length} packets of ${count} frames`);
   return packets;
 }
 
-/**
- * Codes frames with as few bits as are found by which each has at least so many decibels. `frames(from)` has some of the `count` frames, `measure(packets, least)` the PSNR of
- * each up to the first one that has less. `told(turn, done)` hears how far it is.
- */
+/** Codes frames with as few bits as are found by which each has at least so many decibels. `frames(from)` has some of
+ * the `count` frames, `measure(packets, least)` the PSNR of each up to the first one that has less. `told(turn, done)`
+ * hears how far it is. */
 export async function encoded(frames, count, measure, { least, framerate, samples, signal, told }) {
   let turn = 0;
   const attempt = async (bitrate) => {
     turn++;
-    const packets = await packetsOf(frames, count, { bitrate: Math.round(bitrate), framerate, signal, got: (done) => told(turn, done / 2) });
+    const packets = await packetsOf(frames, count, {
+      bitrate: Math.round(bitrate),
+      framerate,
+      signal,
+      got: (done) => told(turn, done / 2),
+    });
     const psnr = await measure(packets, least, (done) => told(turn, (count + done) / 2));
     return { packets, psnr, isEnough: psnr.length === count && Math.min(...psnr) >= least };
   };
@@ -108,7 +126,11 @@ export async function encoded(frames, count, measure, { least, framerate, sample
       break;
     }
     worst = Math.min(...found.psnr);
-    if (high >= MOST) throw new Error(`The browser codes these frames with ${worst.toFixed(1)} dB at least, and not with ${least}: ask for less, or run \`wokureti export --code-changed\`. Firefox scales frames of an odd width or height`);
+    if (high >= MOST)
+      throw new Error(
+        `The browser codes these frames with ${worst.toFixed(1)} dB at least, and not with ${least}: ask for less, ` +
+          `or run \`wokureti export --code-changed\`. Firefox scales frames of an odd width or height`,
+      );
     [low, high] = [high, high * 4];
   }
   for (let tries = 0; tries < TRIES; tries++) {

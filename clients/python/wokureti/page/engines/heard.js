@@ -7,7 +7,8 @@ import { SHOWN } from "./tags.js";
 const NEAR = 5;
 const ROUNDED = 1.1;
 
-/** For each shown packet of a source the file whose sound it has, -1 for a packet that an edit made, and when that begins there and how long it is, in milliseconds. */
+/** For each shown packet of a source the file whose sound it has, -1 for a packet that an edit made, and when that
+ * begins there and how long it is, in milliseconds. */
 function spansOf(contents, source) {
   const { files } = contents;
   const ticks = files.map(({ head }) => baseOf(head)).map(([rate, scale]) => (1000 * scale) / rate);
@@ -21,7 +22,8 @@ function spansOf(contents, source) {
   return found;
 }
 
-/** Spans, where packets that edits made keep what is there if the packets around them leave it room, and are silent else. */
+/** Spans, where packets that edits made keep what is there if the packets around them leave it room, and are silent
+ * else. */
 function filled(spans) {
   const found = [];
   for (let at = 0; at < spans.length; ) {
@@ -43,24 +45,38 @@ function filled(spans) {
   return found;
 }
 
-/** Runs of frames that last about as long as each other: their number, the source whose file has their sound, or null, when that begins there, and how long all are. */
+/** Runs of frames that last about as long as each other: their number, the source whose file has their sound, or null,
+ * when that begins there, and how long all are. */
 export function runsOf(contents, source) {
   const runs = [];
   let run = null;
   for (const { of, start, length } of filled(spansOf(contents, source))) {
-    if (!run || run.of !== of || (of !== null && Math.abs(start - run.end) > NEAR) || !grown(run, of === null ? run.end + length : start + length)) {
+    if (
+      !run ||
+      run.of !== of ||
+      (of !== null && Math.abs(start - run.end) > NEAR) ||
+      !grown(run, of === null ? run.end + length : start + length)
+    ) {
       run = { of, start, count: 0, end: start, least: 0, most: Infinity };
       grown(run, start + length);
       runs.push(run);
     }
   }
-  return runs.map(({ of, start, count, end, least, most }) => [count, of, start, Math.min(Math.max((end - start) / count, least), most) * count]);
+  return runs.map(({ of, start, count, end, least, most }) => [
+    count,
+    of,
+    start,
+    Math.min(Math.max((end - start) / count, least), most) * count,
+  ]);
 }
 
 /** Adds a frame that ends then to a run, if all its frames are near their times. */
 function grown(run, end) {
   const count = run.count + 1;
-  const [least, most] = [Math.max(run.least, (end - run.start - NEAR) / count), Math.min(run.most, (end - run.start + NEAR) / count)];
+  const [least, most] = [
+    Math.max(run.least, (end - run.start - NEAR) / count),
+    Math.min(run.most, (end - run.start + NEAR) / count),
+  ];
   if (least > most) return false;
   Object.assign(run, { count, end, least, most });
   return true;

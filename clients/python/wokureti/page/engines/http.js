@@ -12,7 +12,8 @@ export function nameIn(disposition) {
   return found ? found[1] : "exported";
 }
 
-/** Sends a request. A refusal is an answer with a header of its own, since a browser reports other statuses as errors of the page. */
+/** Sends a request. A refusal is an answer with a header of its own, since a browser reports other statuses as errors
+ * of the page. */
 async function sent(path, options) {
   try {
     const url = new URL(path, BASE);
@@ -38,7 +39,10 @@ function get(path, what = "", signal = undefined) {
 }
 
 function post(path, body, what, signal) {
-  return waited(what, sent(path, { method: "POST", headers: { "Content-Type": "application/json" }, body: JSON.stringify(body), signal }));
+  return waited(
+    what,
+    sent(path, { method: "POST", headers: { "Content-Type": "application/json" }, body: JSON.stringify(body), signal }),
+  );
 }
 
 /** The JSON object of a question with members. */
@@ -56,7 +60,8 @@ const mirror = new Mirror();
 let begin;
 const begun = new Promise((resolve) => (begin = resolve));
 
-/** Takes a state that was answered to who knew the packets of a name. If others came meanwhile, it is asked for anew. */
+/** Takes a state that was answered to who knew the packets of a name. If others came meanwhile, it is asked for
+ * anew. */
 async function taken({ told, ...session }, known, waits = "") {
   if (!mirror.take(/** @type {any} */ (session), told ?? { base: known })) return state(waits);
   begin();
@@ -81,7 +86,11 @@ async function changed(members, page, what) {
 }
 
 function ask(lines, { revision = undefined, title = "", page = null } = {}) {
-  return changed(typeof lines === "string" ? { line: lines, revision } : { lines, revision, ...(title && { title }) }, page, "edit");
+  return changed(
+    typeof lines === "string" ? { line: lines, revision } : { lines, revision, ...(title && { title }) },
+    page,
+    "edit",
+  );
 }
 
 async function look(what, query) {
@@ -108,14 +117,24 @@ export function parseFrames(bytes, count) {
   const [width, height] = [Number(found[1]), Number(found[2])];
   const size = 6 + sizeOf(width, height);
   if (bytes.length !== end + 1 + count * size) throw new Error("frames were cut off");
-  return Array.from({ length: count }, (_, place) => ({ width, height, samples: bytes.subarray(end + 1 + place * size + 6, end + 1 + (place + 1) * size) }));
+  return Array.from({ length: count }, (_, place) => ({
+    width,
+    height,
+    samples: bytes.subarray(end + 1 + place * size + 6, end + 1 + (place + 1) * size),
+  }));
 }
 
 /** The request for frames, and what is waited for. */
 function requestOf(list, { of = undefined, lines = undefined, revision = undefined }) {
   const [first] = list;
   if (!of && !lines && list.length === 1) return { path: `frames/${first}.y4m`, what: `frame ${first}` };
-  const what = lines ? "preview" : of?.packets !== undefined ? `packet ${first} of source ${of.packets}` : of ? `frame ${first} before the edits` : `frame ${first}`;
+  const what = lines
+    ? "preview"
+    : of?.packets !== undefined
+    ? `packet ${first} of source ${of.packets}`
+    : of
+    ? `frame ${first} before the edits`
+    : `frame ${first}`;
   return { path: "frames", body: { frames: list, ...of, ...(lines && { lines, revision, ...named() }) }, what };
 }
 
@@ -128,7 +147,8 @@ async function frames(list, given = {}) {
   return parseFrames(bytes, list.length).map((frame) => ({ ...frame, revision }));
 }
 
-/** The frames that are shown as a file: its bytes, its name, and what it has. `got` hears how many bytes of all are here; `how` says what is coded again. */
+/** The frames that are shown as a file: its bytes, its name, and what it has. `got` hears how many bytes of all are
+ * here; `how` says what is coded again. */
 async function exported({ name = "", signal = undefined, got = (done, total) => {}, how = null }) {
   const coded = how ? `&${new URLSearchParams({ code: 1, ...how })}` : "";
   const answer = await get(`file/export?name=${name}${coded}`, "", signal);
@@ -142,7 +162,11 @@ async function exported({ name = "", signal = undefined, got = (done, total) => 
     done += value.length;
     got(done, total);
   }
-  return { file: new Blob(pieces), name: nameIn(answer.headers.get("Content-Disposition")), said: answer.headers.get("X-Exported") };
+  return {
+    file: new Blob(pieces),
+    name: nameIn(answer.headers.get("Content-Disposition")),
+    said: answer.headers.get("X-Exported"),
+  };
 }
 
 async function file(kind, given = {}) {
@@ -167,7 +191,9 @@ async function repairs({ finding = null }, how) {
 }
 
 function task(kind, query = {}, how = {}) {
-  return kind === "repairs" ? repairs(query, how) : made(kind, kind === "check" ? { ...query, ...named() } : query, how);
+  return kind === "repairs"
+    ? repairs(query, how)
+    : made(kind, kind === "check" ? { ...query, ...named() } : query, how);
 }
 
 async function progress(name) {
@@ -180,8 +206,8 @@ async function same(name, size, sha256) {
   return (await asked("streams", { name, size, sha256 })).files;
 }
 
-/** Calls `heard` with the name of each event of the server, and how many changes there were by then, and `found` with what a check found, as long as the
- * page is visible. */
+/** Calls `heard` with the name of each event of the server, and how many changes there were by then, and `found` with
+ * what a check found, as long as the page is visible. */
 function listen(heard, found) {
   let source = null;
   const start = () => {
@@ -225,10 +251,15 @@ use({
   state,
   save: (source, page) => changed({ line: "save", source }, page, "the packets to be saved"),
   link: (kind, number) => LINKS[kind](number),
-  sound: ({ sounds, revision, instance }) => (sounds ? String(new URL(`file/sound.webm?revision=${revision}&instance=${instance}`, BASE)) : null),
+  sound: ({ sounds, revision, instance }) =>
+    (sounds ? String(new URL(`file/sound.webm?revision=${revision}&instance=${instance}`, BASE)) : null),
   hasWave: ({ waves }, source) => waves[source],
-  wave: async (source, piece, instance) => ({ bytes: await (await get(`file/wave.webm?source=${source}&piece=${piece}&instance=${instance}`)).arrayBuffer(), begins: 0 }),
+  wave: async (source, piece, instance) => ({
+    bytes: await (await get(`file/wave.webm?source=${source}&piece=${piece}&instance=${instance}`)).arrayBuffer(),
+    begins: 0,
+  }),
   files: async () => (await asked("streams")).files,
   add: async (path) => (await post("streams", { file: path, as: "source" }, OPENING)).json(),
-  page: async (path) => (await (await post("streams", { file: path, as: "page" }, "the page to be opened")).json()).address,
+  page: async (path) =>
+    (await (await post("streams", { file: path, as: "page" }, "the page to be opened")).json()).address,
 });

@@ -1,4 +1,5 @@
-// Lists of edits in the browser's store, by the digest of their stream. All pages from the disk share it, so what is read is checked as anybody's list.
+// Lists of edits in the browser's store, by the digest of their stream. All pages from the disk share it, so what is
+// read is checked as anybody's list.
 
 const [NAME, STORE] = ["wokureti", "lists"];
 
@@ -47,7 +48,8 @@ export async function recent(most) {
     .map(({ title, edits, time }) => ({ name: title, edits, when: time }));
 }
 
-/** Keeps a text under a name: it is on the disk when this returns. `title` is what the stream is called, and `edits` their number. */
+/** Keeps a text under a name: it is on the disk when this returns. `title` is what the stream is called, and `edits`
+ * their number. */
 export async function write(name, text, title = null, edits = 0) {
   const base = await opened();
   const made = base.transaction(STORE, "readwrite", { durability: "strict" });

@@ -1,4 +1,5 @@
-// The list of edits as a text, as the Python client keeps it: request lines, and comments that say which stream it is of, and what is one step.
+// The list of edits as a text, as the Python client keeps it: request lines, and comments that say which stream it is
+// of, and what is one step.
 
 import { isEdit, plain } from "./lines.js";
 
@@ -16,7 +17,11 @@ export function titled(title) {
 
 /** The text of the edits of files: `steps` have lines and a title. */
 export function textOf(steps, files) {
-  const lines = files.map(({ count, bytes, digest, name }, source) => (source ? `# source ${source}: ${count} packets, ${bytes} bytes, sha256 ${digest}, ${JSON.stringify(name)}` : `# wokureti: edits of ${count} packets, ${bytes} bytes, sha256 ${digest}`));
+  const lines = files.map(({ count, bytes, digest, name }, source) =>
+    (source
+      ? `# source ${source}: ${count} packets, ${bytes} bytes, sha256 ${digest}, ${JSON.stringify(name)}`
+      : `# wokureti: edits of ${count} packets, ${bytes} bytes, sha256 ${digest}`),
+  );
   for (const { title, lines: edits } of steps) {
     if (edits.length > 1) lines.push(`# step ${edits.length} ${title}`.trimEnd());
     lines.push(...edits);
@@ -24,13 +29,15 @@ export function textOf(steps, files) {
   return `${lines.join("\n")}\n`;
 }
 
-/** The steps of a text, and the other streams that it names. It may be anybody's, so whatever is no list of edits of this file is refused. */
+/** The steps of a text, and the other streams that it names. It may be anybody's, so whatever is no list of edits of
+ * this file is refused. */
 export function stepsOf(text, file) {
   if (typeof text !== "string" || text.length > MOST_TEXT) throw new Error("it is no text of a list");
   const lines = text.split("\n");
   if (lines.pop() !== "") throw new Error("its last line is cut off");
   const found = FIRST.exec(lines[0] ?? "");
-  if (!found || Number(found[1]) !== file.count || Number(found[2]) !== file.bytes || found[3] !== file.digest) throw new Error("it is of another stream");
+  if (!found || Number(found[1]) !== file.count || Number(found[2]) !== file.bytes || found[3] !== file.digest)
+    throw new Error("it is of another stream");
   const steps = [];
   const others = [];
   let [left, title, count, isOpen] = [0, "", 0, false];
@@ -38,7 +45,14 @@ export function stepsOf(text, file) {
     if (line.startsWith("#") || !line.trim()) {
       const [step, source] = [STEP.exec(line), SOURCE.exec(line)];
       if (step) [left, title] = [Number(step[1]), titled(step[2] ?? "")];
-      if (source) others.push({ source: Number(source[1]), count: Number(source[2]), bytes: Number(source[3]), digest: source[4], name: source[5] });
+      if (source)
+        others.push({
+          source: Number(source[1]),
+          count: Number(source[2]),
+          bytes: Number(source[3]),
+          digest: source[4],
+          name: source[5],
+        });
       continue;
     }
     if (!isEdit(line) || ++count > MOST_EDITS) throw new Error(`line ${place + 2} is no edit`);

@@ -1,4 +1,5 @@
-// What the timeline shows, and where a frame comes from: answered from the packets and the script alone, for each engine.
+// What the timeline shows, and where a frame comes from: answered from the packets and the script alone, for each
+// engine.
 
 import { joined, shotsOf, unfaded } from "../shots.js";
 import { pasteOf, runsOf } from "./clipboard.js";
@@ -10,8 +11,9 @@ const MOST_ENTRIES = 4096;
 const COLUMNS = 1024;
 const MOST_PLACES = 3;
 
-/** A stream at a revision. Each kind of it has its `contents`, `revision`, `scriptText`, `frameCount` and `current` source, the causes against the packets of a source
- * (`causesOf`), and which packets of source 0 are `damaged` inside. */
+/** A stream at a revision. Each kind of it has its `contents`, `revision`, `scriptText`, `frameCount` and `current`
+ * source, the causes against the packets of a source (`causesOf`), and which packets of source 0 are `damaged`
+ * inside. */
 export class Looks {
   /** The packets or the script are others now. */
   lookAgain() {
@@ -37,7 +39,10 @@ export class Looks {
     const { streams } = this.contents;
     const source = Math.min(asked, streams.length - 1);
     const packet = Math.max(0, Math.min(wanted, streams[source].length - 1));
-    return { place: this.place({ source, packet }), tiles: tiles.map(([per, number]) => this.tile({ source, first: number * COLUMNS * per, per, count: COLUMNS })) };
+    return {
+      place: this.place({ source, packet }),
+      tiles: tiles.map(([per, number]) => this.tile({ source, first: number * COLUMNS * per, per, count: COLUMNS })),
+    };
   }
 
   tile({ source, first, per, count }) {
@@ -45,14 +50,29 @@ export class Looks {
     if (source === 0) timeline.damage(this.damaged());
     const start = Math.min(first, timeline.count);
     const columns = Math.min(count, MOST_ENTRIES);
-    const keys = timeline.keysOf(start, per, columns).map((packet) => [packet, timeline.stream[packet], timeline.ownFrame(packet)]);
-    return { revision: this.revision, contents: this.contents.name, source, first, per, packets: timeline.count, ...timeline.tile(start, per, columns), keys };
+    const keys = timeline.keysOf(start, per, columns).map((packet) => [
+      packet,
+      timeline.stream[packet],
+      timeline.ownFrame(packet),
+    ]);
+    return {
+      revision: this.revision,
+      contents: this.contents.name,
+      source,
+      first,
+      per,
+      packets: timeline.count,
+      ...timeline.tile(start, per, columns),
+      keys,
+    };
   }
 
   place({ source, packet }) {
     const found = { revision: this.revision, source, packet, frame: this.served().frameOf(source, packet) };
     const timeline = this.timeline(source);
-    return packet < timeline.count ? { ...found, own: timeline.ownFrame(packet), before: this.before(source, packet) } : found;
+    return packet < timeline.count
+      ? { ...found, own: timeline.ownFrame(packet), before: this.before(source, packet) }
+      : found;
   }
 
   /** The frame that the file of a source shows at a packet, or null. */
@@ -90,10 +110,15 @@ export class Looks {
   }
 
   numbers({ source, first, count }) {
-    return { revision: this.revision, contents: this.contents.name, numbers: runsOf(this.contents.streams[source].slice(first, first + count)) };
+    return {
+      revision: this.revision,
+      contents: this.contents.name,
+      numbers: runsOf(this.contents.streams[source].slice(first, first + count)),
+    };
   }
 
-  /** What inserts remembered packets: the lines, their title, and what is told of them. `insertion(number, at)` is the line for one that is in no stream any more. */
+  /** What inserts remembered packets: the lines, their title, and what is told of them. `insertion(number, at)` is the
+   * line for one that is in no stream any more. */
   pasted(given, insertion) {
     return pasteOf(this.contents.streams, this.current, given, insertion);
   }

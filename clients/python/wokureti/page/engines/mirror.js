@@ -55,7 +55,8 @@ class Told extends Packets {
     return this.durations[number];
   }
 
-  /** The numbers of packets of which repairs near one need more than is told: those near it, the first ones, and all of other sources. */
+  /** The numbers of packets of which repairs near one need more than is told: those near it, the first ones, and all of
+   * other sources. */
   unknown(packet) {
     const [stream, ...others] = this.streams;
     const at = packet ?? stream.length;
@@ -66,7 +67,11 @@ class Told extends Packets {
 
   know(numbers, { stamps, hashes, durations, step }) {
     numbers.forEach((number, place) => {
-      [this.stamps[number], this.hashes[number], this.durations[number]] = [stamps[place], hashes[place], durations[place]];
+      [this.stamps[number], this.hashes[number], this.durations[number]] = [
+        stamps[place],
+        hashes[place],
+        durations[place],
+      ];
     });
     this.files[0].step = step;
   }
@@ -80,17 +85,27 @@ export class Mirror extends Looks {
     [this.instance, this.changes, this.revision] = ["", 0, 0];
     this.contents = null;
     this.timelines = [];
-    // Which packets a check found to be damaged inside, the last revision that it is of, and its packets, once they are here.
+    // Which packets a check found to be damaged inside, the last revision that it is of, and its packets, once they are
+    // here.
     this.found = { check: null, revision: 0, stream: null, inside: [] };
   }
 
-  /** Takes a state of the session, unless a newer one is here, and what is told of the packets since those of the name `base`, or all of them if that is null. Whether these
-   * are the ones that are here: else `known` says what is. */
+  /** Takes a state of the session, unless a newer one is here, and what is told of the packets since those of the name
+   * `base`, or all of them if that is null. Whether these are the ones that are here: else `known` says what is. */
   take({ instance, changes, revision, script, frames, source, names }, told) {
     if (instance === this.instance && changes < this.changes) return true;
     if (told.base !== null && told.base !== this.known) return false;
     if (told.sources) this.tell(told);
-    Object.assign(this, { instance, changes, revision, scriptText: script, frameCount: frames, current: source, names, runs: null });
+    Object.assign(this, {
+      instance,
+      changes,
+      revision,
+      scriptText: script,
+      frameCount: frames,
+      current: source,
+      names,
+      runs: null,
+    });
     this.bind();
     return true;
   }
@@ -127,7 +142,9 @@ export class Mirror extends Looks {
   /** The repairs of a finding. The server has the bytes of a packet by its number. */
   repairs(finding) {
     const { streams } = this.contents;
-    return new Repairs(this.contents, this.timeline(0), this.names, (packet, source) => `#${streams[source][packet]}`).of(finding);
+    return new Repairs(this.contents, this.timeline(0), this.names, (packet, source) =>
+      `#${streams[source][packet]}`,
+    ).of(finding);
   }
 
   causesOf(source) {

@@ -56,7 +56,8 @@ function foundRate(file) {
   if (step === 1 && isRate) return [rate, scale];
   const span = shown.at(-1) - shown[0];
   const far = steps.reduce((most, one) => Math.max(most, Math.abs(one - step)), 0);
-  if (!(step >= LEAST_ROUNDED && steps.length === shown.length - 1 && far > 0 && far <= 1)) return reduced(rate, scale * step);
+  if (!(step >= LEAST_ROUNDED && steps.length === shown.length - 1 && far > 0 && far <= 1))
+    return reduced(rate, scale * step);
   // The whole span is rounded to a tick too.
   const found = (rate * steps.length) / (scale * span);
   const away = ([one, other]) => Math.abs(one / other - found);
@@ -66,7 +67,8 @@ function foundRate(file) {
   return near.reduce((best, one) => (one[1] < best[1] || (one[1] === best[1] && away(one) < away(best)) ? one : best));
 }
 
-/** The duration of each packet of a file: from its time stamp to that of the next shown packet; the median step where that is 0, or goes back, or there is none. */
+/** The duration of each packet of a file: from its time stamp to that of the next shown packet; the median step where
+ * that is 0, or goes back, or there is none. */
 export function durationsOf(file) {
   const { stamps, tags } = file;
   const step = stepOf(file);

@@ -1,4 +1,5 @@
-// A session of the library, with the edits that were made: it is opened again where edits are taken back, and where a frame has another size.
+// A session of the library, with the edits that were made: it is opened again where edits are taken back, and where a
+// frame has another size.
 
 import { Calls, Refused } from "./calls.js";
 import { firstWord, plain, wordsOf } from "./lines.js";
@@ -33,7 +34,8 @@ export class Session {
     this.isLost = true;
   }
 
-  /** Opens a session again that was lost, with its edits: in the memory that it has, or in another one. If neither does, the next call tries again. */
+  /** Opens a session again that was lost, with its edits: in the memory that it has, or in another one. If neither
+   * does, the next call tries again. */
   whole() {
     if (!this.isLost) return;
     const { lines } = this;

@@ -1,4 +1,5 @@
-// SHA-256 (FIPS 180-4) of bytes that come in parts: the browser's own takes all at once, and pages from some addresses have none.
+// SHA-256 (FIPS 180-4) of bytes that come in parts: the browser's own takes all at once, and pages from some addresses
+// have none.
 
 const ROUND = Uint32Array.from(primes(64), (prime) => part(Math.cbrt(prime)));
 const START = Uint32Array.from(primes(8), (prime) => part(Math.sqrt(prime)));
@@ -46,11 +47,23 @@ export class Sha256 {
     for (let at = 16; at < 64; at++) {
       const one = words[at - 15];
       const two = words[at - 2];
-      words[at] = words[at - 16] + (turned(one, 7) ^ turned(one, 18) ^ (one >>> 3)) + words[at - 7] + (turned(two, 17) ^ turned(two, 19) ^ (two >>> 10));
+      words[at] =
+        words[at - 16] +
+        (turned(one, 7) ^ turned(one, 18) ^ (one >>> 3)) +
+        words[at - 7] +
+        (turned(two, 17) ^ turned(two, 19) ^ (two >>> 10));
     }
-    let a = state[0] | 0, b = state[1] | 0, c = state[2] | 0, d = state[3] | 0, e = state[4] | 0, f = state[5] | 0, g = state[6] | 0, h = state[7] | 0;
+    let a = state[0] | 0,
+      b = state[1] | 0,
+      c = state[2] | 0,
+      d = state[3] | 0,
+      e = state[4] | 0,
+      f = state[5] | 0,
+      g = state[6] | 0,
+      h = state[7] | 0;
     for (let at = 0; at < 64; at++) {
-      const one = (h + (turned(e, 6) ^ turned(e, 11) ^ turned(e, 25)) + ((e & f) ^ (~e & g)) + ROUND[at] + words[at]) | 0;
+      const one =
+        (h + (turned(e, 6) ^ turned(e, 11) ^ turned(e, 25)) + ((e & f) ^ (~e & g)) + ROUND[at] + words[at]) | 0;
       const two = ((turned(a, 2) ^ turned(a, 13) ^ turned(a, 22)) + ((a & b) ^ (a & c) ^ (b & c))) | 0;
       h = g;
       g = f;

@@ -15,7 +15,8 @@ import { Repairs } from "./repairs.js";
 import { Session } from "./session.js";
 import { Sha256 } from "./sha256.js";
 
-// Bytes of the pictures of cached states; edits and notices that are told, at most; characters of an edit; checks that are remembered.
+// Bytes of the pictures of cached states; edits and notices that are told, at most; characters of an edit; checks that
+// are remembered.
 const MOST_STATES = 1 << 29;
 const MOST_EDITS = 500;
 const MOST_LINE = 200;
@@ -27,8 +28,8 @@ const MOST_ENTRIES = 4096;
 // Nodes that may change samples.
 const CHANGING = /(?:^|; ?)(?:crop|fade) /;
 
-/** Reads what is known of the files while they are opened. A WebM file is read as the session has it. `report` is called with the part that is done: each byte is
- * read twice. */
+/** Reads what is known of the files while they are opened. A WebM file is read as the session has it. `report` is
+ * called with the part that is done: each byte is read twice. */
 function indexes(module, sources, report) {
   const found = [];
   const total = 2 * sources.reduce((sum, source) => sum + sizeOfSource(source), 0);
@@ -102,7 +103,8 @@ export class Stream extends Looks {
     this.causes = new Causes(this.contents);
   }
 
-  /** Makes the edits of a list. It may be anybody's: what is no list of this stream is not taken, and said. Returns whether it was taken. */
+  /** Makes the edits of a list. It may be anybody's: what is no list of this stream is not taken, and said. Returns
+   * whether it was taken. */
   take(text) {
     this.waits = null;
     let isTaken = true;
@@ -111,7 +113,11 @@ export class Stream extends Looks {
       const missing = others.filter(({ source, digest }) => this.files[source]?.digest !== digest);
       if (missing.length) {
         this.waits = text;
-        this.notice(`The edits of ${this.files[0].name} are kept, and need ${missing.map(({ source, name }) => `${name} as source ${source}`).join(" and ")}: open that too, and they are made.`);
+        this.notice(
+          `The edits of ${this.files[0].name} are kept, and need ` +
+            `${missing.map(({ source, name }) => `${name} as source ${source}`).join(" and ")}: open that too, and ` +
+            "they are made.",
+        );
         return { isTaken: false };
       }
       for (const { title, lines } of steps) this.makeStep(lines, title);
@@ -120,7 +126,10 @@ export class Stream extends Looks {
       this.session.follow([]);
       this.contents.begin();
       isTaken = false;
-      this.notice(`The list of edits that this browser keeps for ${this.files[0].name} is not taken: ${error.message}. It stays in the browser's store, and the stream is shown without edits.`);
+      this.notice(
+        `The list of edits that this browser keeps for ${this.files[0].name} is not taken: ${error.message}. It ` +
+          "stays in the browser's store, and the stream is shown without edits.",
+      );
     }
     this.changed();
     return { isTaken };
@@ -132,7 +141,14 @@ export class Stream extends Looks {
     if (sources.length === 8) throw new Refused(409, { error: "a session has at most 8 streams" });
     try {
       const opened = indexes(this.module, [...sources, source], report);
-      Object.assign(this, { session: opened.session, files: opened.found, sources: [...sources, source], steps: [], undone: [], saves: [...saves, { stream: null, file: null }] });
+      Object.assign(this, {
+        session: opened.session,
+        files: opened.found,
+        sources: [...sources, source],
+        steps: [],
+        undone: [],
+        saves: [...saves, { stream: null, file: null }],
+      });
       this.readAgain();
       for (const step of steps) this.makeStep(step.lines, step.title);
       this.undone = undone;
@@ -140,7 +156,18 @@ export class Stream extends Looks {
       if (this.waits) this.take(this.waits);
       return { source: this.sources.length - 1, ...this.told() };
     } catch (error) {
-      Object.assign(this, { session, files, sources, steps, undone, contents, causes, saves, revision, isBehind: true });
+      Object.assign(this, {
+        session,
+        files,
+        sources,
+        steps,
+        undone,
+        contents,
+        causes,
+        saves,
+        revision,
+        isBehind: true,
+      });
       throw error;
     }
   }
@@ -153,7 +180,12 @@ export class Stream extends Looks {
     try {
       return make();
     } catch (error) {
-      if (this.revision !== revision || this.steps.length !== steps.length || this.undone.length !== undone.length || session.lines.length !== count) {
+      if (
+        this.revision !== revision ||
+        this.steps.length !== steps.length ||
+        this.undone.length !== undone.length ||
+        session.lines.length !== count
+      ) {
         Object.assign(this, { steps, undone, revision, isBehind: true });
         session.lose(steps.flatMap(({ lines }) => lines));
         this.applyAgain();
@@ -162,7 +194,8 @@ export class Stream extends Looks {
     }
   }
 
-  /** After a change that was refused in the middle: the session has its edits again, and what is known of the stream is of them. */
+  /** After a change that was refused in the middle: the session has its edits again, and what is known of the stream is
+   * of them. */
   whole() {
     this.session.whole();
     if (this.isBehind) this.know();
@@ -239,8 +272,12 @@ export class Stream extends Looks {
 
   /** Edits as one step, or the text `undo` or `redo`. If the stream is of another revision, nothing is done. */
   ask(lines, { revision = undefined, title = "", page = null } = {}) {
-    if (revision !== undefined && revision !== this.revision) throw new Refused(412, { error: "the stream was changed" });
-    return this.change(() => ({ reply: lines === "undo" || lines === "redo" ? this[lines]() : this.step(lines, title), ...this.told(page) }));
+    if (revision !== undefined && revision !== this.revision)
+      throw new Refused(412, { error: "the stream was changed" });
+    return this.change(() => ({
+      reply: lines === "undo" || lines === "redo" ? this[lines]() : this.step(lines, title),
+      ...this.told(page),
+    }));
   }
 
   /** Makes edits as one step, after which nothing can be made again. Returns the reply to the last one. */
@@ -260,7 +297,8 @@ export class Stream extends Looks {
   /** Inserts remembered packets as one step. */
   paste({ contents, revision, page, ...given }) {
     if (revision !== this.revision) throw new Refused(412, { error: "the stream was changed" });
-    if (contents !== this.contents.name) throw new Refused(409, { error: "the packets that were copied are gone, since the stream was opened again" });
+    if (contents !== this.contents.name)
+      throw new Refused(409, { error: "the packets that were copied are gone, since the stream was opened again" });
     const { lines, title, told } = this.pasted(given, (number, place) => this.insertion(number, place));
     return this.change(() => {
       if (lines.length) this.step(lines, title);
@@ -268,7 +306,8 @@ export class Stream extends Looks {
     });
   }
 
-  /** The line that inserts a packet that is in no stream any more: another session, with the edits up to the one after which it was there, has its bytes. */
+  /** The line that inserts a packet that is in no stream any more: another session, with the edits up to the one after
+   * which it was there, has its bytes. */
   insertion(number, at) {
     const contents = new Contents(this.files, () => "");
     const isThere = () => contents.streams.findIndex((stream) => stream.includes(number));
@@ -316,7 +355,9 @@ export class Stream extends Looks {
   changing() {
     if (!CHANGING.test(this.scriptText)) return null;
     for (let first = 0; first < this.frameCount; first += MOST_ENTRIES) {
-      const node = objectsOf(this.session.calls.answered(`origins ${first} ${MOST_ENTRIES}`)).find(({ changed }) => changed.length)?.changed[0];
+      const node = objectsOf(this.session.calls.answered(`origins ${first} ${MOST_ENTRIES}`)).find(({ changed }) =>
+        changed.length,
+      )?.changed[0];
       if (node) return [node, nodesOf(this.scriptText)[node - 1]];
     }
     return null;
@@ -326,7 +367,8 @@ export class Stream extends Looks {
     return this.saves.map(({ stream, file }, source) => {
       const now = this.contents.streams[source];
       const edited = this.contents.isEdited(source);
-      const isSame = stream !== null && stream.length === now.length && stream.every((number, place) => number === now[place]);
+      const isSame =
+        stream !== null && stream.length === now.length && stream.every((number, place) => number === now[place]);
       return { edited, saved: isSame || !edited, file: isSame ? file : null, next: `${this.stem(source)}-edited.ivf` };
     });
   }
@@ -337,14 +379,21 @@ export class Stream extends Looks {
 
   /** The edits, the last ones, line by line. */
   edits() {
-    const lines = this.steps.flatMap((step, place) => step.lines.map((line, turn) => ({ line: line.slice(0, MOST_LINE), step: place, title: turn ? "" : step.title })));
+    const lines = this.steps.flatMap((step, place) => step.lines.map((line, turn) => ({
+      line: line.slice(0, MOST_LINE),
+      step: place,
+      title: turn ? "" : step.title,
+    })));
     const told = lines.slice(-MOST_EDITS);
     return {
       edits_before: lines.length - told.length,
       edits: told.map(({ line }) => line),
       steps: told.map(({ step }) => step),
       titles: Object.fromEntries(told.map(({ title }, place) => [place, title]).filter(([, title]) => title)),
-      undone: [...this.undone].reverse().flatMap((step) => step.lines.map((line) => line.slice(0, MOST_LINE))).slice(0, MOST_EDITS),
+      undone: [...this.undone]
+        .reverse()
+        .flatMap((step) => step.lines.map((line) => line.slice(0, MOST_LINE)))
+        .slice(0, MOST_EDITS),
     };
   }
 
@@ -397,10 +446,14 @@ export class Stream extends Looks {
     return list.map((number) => ({ ...this.session.frame(number), revision: this.revision }));
   }
 
-  /** What shows a packet by itself, without the script: edits, and a frame after them; the frame is null if other edits follow. */
+  /** What shows a packet by itself, without the script: edits, and a frame after them; the frame is null if other edits
+   * follow. */
   aside(source, packet, lines) {
     const edits = [...this.session.lines, ...(lines ?? [])].filter((line) => !line.startsWith("script"));
-    return { lines: source ? [...edits, `script source ${source}`] : edits, frame: lines ? null : this.timeline(source).ownFrame(packet) };
+    return {
+      lines: source ? [...edits, `script source ${source}`] : edits,
+      frame: lines ? null : this.timeline(source).ownFrame(packet),
+    };
   }
 
   // Files
@@ -439,10 +492,13 @@ export class Stream extends Looks {
 
   isOfNow({ timeline }) {
     const now = this.contents.streams[0];
-    return timeline.contents === this.contents && timeline.stream.length === now.length && timeline.stream.every((number, place) => number === now[place]);
+    return timeline.contents === this.contents &&
+      timeline.stream.length === now.length &&
+      timeline.stream.every((number, place) => number === now[place]);
   }
 
-  /** The check of the current packets, begun now if it is another one than that of the check before. After undo nothing is checked again. */
+  /** The check of the current packets, begun now if it is another one than that of the check before. After undo nothing
+   * is checked again. */
   checked() {
     if (this.begun && this.begun === this.check) return this.check;
     const known = [this.check, ...this.checks].find((one) => one && !one.failed && this.isOfNow(one));
@@ -458,7 +514,13 @@ export class Stream extends Looks {
     const isWhole = file.isIvf && !this.contents.isEdited(0);
     const key = timeline.stream.find((number) => this.contents.tags[number] & 1 && this.contents.pictures.has(number));
     const header = atHeader(file, isWhole, key === undefined ? null : this.contents.pictures.get(key));
-    return new Check(++this.checkNumber, timeline, (line, source) => this.session.ask(line, source), header, atEnd(file, isWhole));
+    return new Check(
+      ++this.checkNumber,
+      timeline,
+      (line, source) => this.session.ask(line, source),
+      header,
+      atEnd(file, isWhole),
+    );
   }
 }
 

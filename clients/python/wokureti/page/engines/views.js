@@ -51,7 +51,8 @@ export class Timeline {
         this.edited[place] = 1;
         continue;
       }
-      // After packets that edits made, a packet of the file is marked only if it neither follows the one before them, nor has its number.
+      // After packets that edits made, a packet of the file is marked only if it neither follows the one before them,
+      // nor has its number.
       this.edited[place] = number - before === 1 || number - before === place - last ? 0 : 1;
       [before, last] = [number, place];
     }
@@ -89,7 +90,8 @@ export class Timeline {
     return found;
   }
 
-  /** The last key packet before columns, and those in them: all, or if a column has several packets the last one of every 16 columns. */
+  /** The last key packet before columns, and those in them: all, or if a column has several packets the last one of
+   * every 16 columns. */
   keysOf(first, per, count) {
     const end = Math.min(this.count, first + per * count);
     const places = [first ? this.keys.lastIndexOf(1, first - 1) : -1];
@@ -150,7 +152,8 @@ export class Runs {
     const timeline = this.timelines(source);
     const shown = timeline.frames[Math.min(packet, timeline.count)];
     for (const [place, shot] of this.shots.entries()) {
-      if (shot.source === source && shot.first <= shown && shown < shot.first + shot.count) return this.ends[place] - shot.count + shown - shot.first;
+      if (shot.source === source && shot.first <= shown && shown < shot.first + shot.count)
+        return this.ends[place] - shot.count + shown - shot.first;
     }
     return null;
   }
@@ -180,7 +183,8 @@ export class Runs {
   }
 }
 
-/** The index that a packet had in its file, or that of the packet that was there in the place of one that an edit made; null if there is none. */
+/** The index that a packet had in its file, or that of the packet that was there in the place of one that an edit made;
+ * null if there is none. */
 export function original(contents, source, packet) {
   const stream = contents.streams[source];
   const base = contents.bases[source];

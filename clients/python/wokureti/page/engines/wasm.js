@@ -1,5 +1,5 @@
-// The engine in the browser: the library in WebAssembly, in a worker. A second worker has files as they were opened, previews and exports; it is there as long as
-// it is asked.
+// The engine in the browser: the library in WebAssembly, in a worker. A second worker has files as they were opened,
+// previews and exports; it is there as long as it is asked.
 
 import { toColour } from "../colours.js";
 import { find } from "../elements.js";
@@ -18,7 +18,8 @@ const IDLE = 60000;
 // Frames that are coded together, and decibels that each has at least if nothing is said.
 const TOGETHER = 8;
 const USUAL = 45;
-// Bytes of a file above which the page says that it is large: its packets are in the memory, and while it is opened twice.
+// Bytes of a file above which the page says that it is large: its packets are in the memory, and while it is opened
+// twice.
 const LARGE = 1 << 29;
 // Lists of edits that are offered before a file is open.
 const MOST_RECENT = 10;
@@ -51,7 +52,10 @@ async function compiled() {
   try {
     return await WebAssembly.compile(await bytes);
   } catch (error) {
-    throw new Error(`The engine does not start: ${error.message}. It needs WebAssembly with vectors, as Chromium 91, Firefox 113 and Safari 16.4 have it.`);
+    throw new Error(
+      `The engine does not start: ${error.message}. It needs WebAssembly with vectors, as Chromium 91, Firefox 113 ` +
+        "and Safari 16.4 have it.",
+    );
   }
 }
 
@@ -89,7 +93,10 @@ async function lock(digest) {
   if (!navigator.locks) return;
   await new Promise((resolve) => {
     const held = navigator.locks.request(`wokureti ${digest}`, { ifAvailable: true }, (found) => {
-      if (!found) own.only = "This stream is open in another tab, which edits it: this one only looks. Close the other one, and open the file again.";
+      if (!found)
+        own.only =
+          "This stream is open in another tab, which edits it: this one only looks. Close the other one, and open " +
+          "the file again.";
       resolve();
       return found ? new Promise((done) => (own.release = () => (done(), held))) : null;
     });
@@ -117,7 +124,8 @@ async function open(sources) {
     Object.assign(own, { main: fresh, sources, about, sounds: new Map() });
     const text = await kept.read(about.digest).catch(() => null);
     // A list that is not taken stays, under another name.
-    if (text !== null && !(await fresh.call("take", [text])).isTaken) await kept.write(`${about.digest} ${Date.now()}`, text).catch(() => {});
+    if (text !== null && !(await fresh.call("take", [text])).isTaken)
+      await kept.write(`${about.digest} ${Date.now()}`, text).catch(() => {});
   } catch (error) {
     if (own.main !== fresh) fresh.end();
     throw error;
@@ -136,7 +144,11 @@ async function open(sources) {
 function warnOf(files) {
   const size = files.reduce((sum, file) => sum + file.size, 0);
   if (size <= LARGE) return null;
-  return notice(`${(size / 2 ** 30).toFixed(2)} GiB are read into the memory, and twice as much is needed while that goes on. If this tab ends, open the file with \`wokureti open\`.`, { id: "large", stays: true });
+  return notice(
+    `${(size / 2 ** 30).toFixed(2)} GiB are read into the memory, and twice as much is needed while that goes on. ` +
+      `If this tab ends, open the file with \`wokureti open\`.`,
+    { id: "large", stays: true },
+  );
 }
 
 /** Opens files that were dropped or chosen, if none is open. */
@@ -155,7 +167,9 @@ async function take(files) {
 
 async function add(file) {
   const warning = warnOf([file]);
-  const { about, ...found } = await waited(OPENING, own.main.call("add", [file])).finally(() => (reading(null), warning?.remove()));
+  const { about, ...found } = await waited(OPENING, own.main.call("add", [file])).finally(() =>
+    (reading(null), warning?.remove()),
+  );
   leave();
   own.sources = [...own.sources, file];
   own.about = about;
@@ -171,7 +185,10 @@ async function keep({ text, ...found }) {
   } catch (error) {
     found.session.unwritten = found.session.edits.length;
     await own.main.call("unwritten", [found.session.unwritten]);
-    notice(`This browser does not keep the edits: ${error.message}. Save before you close this tab.`, { isBad: true, id: "kept" });
+    notice(
+      `This browser does not keep the edits: ${error.message}. Save before you close this tab.`,
+      { isBad: true, id: "kept" },
+    );
   }
   own.session = found.session;
   return found;
@@ -190,7 +207,8 @@ async function edited(name, given) {
 // Pictures
 
 async function linesAfter(lines, revision) {
-  if (revision !== undefined && revision !== own.session.revision) throw new Refusal(412, { error: "the stream was changed" });
+  if (revision !== undefined && revision !== own.session.revision)
+    throw new Refusal(412, { error: "the stream was changed" });
   return [...(await own.main.call("lines")), ...lines];
 }
 
@@ -220,7 +238,10 @@ async function costs(signal) {
 }
 
 async function findingsAfter({ lines = [], packet = 0, revision = undefined }, signal) {
-  return { revision, findings: await (await beside()).call("beside.findings", [await linesAfter(lines, revision), packet], { signal }) };
+  return {
+    revision,
+    findings: await (await beside()).call("beside.findings", [await linesAfter(lines, revision), packet], { signal }),
+  };
 }
 
 async function task(kind, query = {}, { waits = "", signal = undefined } = {}) {
@@ -283,7 +304,8 @@ function saidOf(pieces) {
   const seconds = stamps.length > 1 ? ((2 * stamps.at(-1) - stamps.at(-2)) * scale) / rate : scale / rate;
   const many = (number) => number.toLocaleString("en");
   const without = count - stamps.length;
-  return `${seconds.toFixed(3)} s, ${many(stamps.length)} frames, in ${many(count)} packets, ${without ? `${many(without)} of them hidden: ${many(hidden)} bytes` : "none of them hidden"}`;
+  return `${seconds.toFixed(3)} s, ${many(stamps.length)} frames, in ${many(count)} packets, ` +
+    `${without ? `${many(without)} of them hidden: ${many(hidden)} bytes` : "none of them hidden"}`;
 }
 
 /** The frames of a piece that is coded, as packets, and the PSNR of each. */
@@ -292,7 +314,10 @@ async function codedPiece({ lines, head }, { first, count }, { psnr, signal }) {
     check(signal);
     return (await beside()).call(`beside.${name}`, given, { signal });
   };
-  const frames = (from) => ask("frames", [lines, Array.from({ length: Math.min(TOGETHER, count - from) }, (_, at) => first + from + at)]);
+  const frames = (from) => ask("frames", [
+    lines,
+    Array.from({ length: Math.min(TOGETHER, count - from) }, (_, at) => first + from + at),
+  ]);
   const measure = async (packets, least, got) => {
     await ask("coded", [head, packets]);
     const found = [];
@@ -304,21 +329,32 @@ async function codedPiece({ lines, head }, { first, count }, { psnr, signal }) {
     return found;
   };
   const since = performance.now();
-  const what = (turn) => `coding ${count.toLocaleString("en")} frames from frame ${first.toLocaleString("en")} on, try ${turn}`;
-  const told = (turn, done) => (own.exporting = { what: what(turn), done, total: count, seconds: (performance.now() - since) / 1000 });
+  const what = (turn) =>
+    `coding ${count.toLocaleString("en")} frames from frame ${first.toLocaleString("en")} on, try ${turn}`;
+  const told = (turn, done) =>
+    (own.exporting = { what: what(turn), done, total: count, seconds: (performance.now() - since) / 1000 });
   const [{ samples }] = await ask("frames", [lines, [first]]);
   const [rate, scale] = baseOf(head);
-  return encoded(frames, count, measure, { least: psnr, framerate: Math.min(120, Math.max(1, rate / scale)), samples: samples.length, signal, told });
+  return encoded(frames, count, measure, {
+    least: psnr,
+    framerate: Math.min(120, Math.max(1, rate / scale)),
+    samples: samples.length,
+    signal,
+    told,
+  });
 }
 
-/** The frames that are shown, of which those that the script changes are coded again, and those of leads if that is wanted. */
+/** The frames that are shown, of which those that the script changes are coded again, and those of leads if that is
+ * wanted. */
 async function coded(how, signal) {
   const psnr = Number(how.psnr ?? USUAL);
   if (!(psnr >= 20 && psnr <= 60)) throw new Refusal(400, { error: "the decibels are 20 to 60" });
   const plan = await own.main.call("plan", [how.lead === "coded"]);
-  if (plan.isFull) throw new Refusal(409, { error: "8 streams are read, and the coded frames are one more: join some first" });
+  if (plan.isFull)
+    throw new Refusal(409, { error: "8 streams are read, and the coded frames are one more: join some first" });
   const found = [];
-  for (const piece of plan.pieces.filter(({ isCoded }) => isCoded)) found.push(await codedPiece(plan, piece, { psnr, signal }));
+  for (const piece of plan.pieces.filter(({ isCoded }) => isCoded))
+    found.push(await codedPiece(plan, piece, { psnr, signal }));
   own.exporting = null;
   const packets = found.flatMap((one) => one.packets);
   const decibels = found.flatMap((one) => one.psnr);
@@ -326,8 +362,15 @@ async function coded(how, signal) {
   const many = (number) => number.toLocaleString("en");
   const size = packets.reduce((sum, { length }) => sum + length, 0);
   const mean = decibels.reduce((sum, one) => sum + one, 0) / decibels.length;
-  const quality = `PSNR ${decibels.reduce((least, one) => Math.min(least, one)).toFixed(1)} dB at least and ${mean.toFixed(1)} dB in the mean`;
-  return { pieces, said: `${saidOf(pieces)}; ${many(packets.length)} of ${many(plan.frames)} frames are coded again, in ${many(size)} bytes, ${quality}; all others stay as they are` };
+  const quality =
+    `PSNR ${decibels.reduce((least, one) => Math.min(least, one)).toFixed(1)} dB at least and ${mean.toFixed(1)} dB ` +
+    "in the mean";
+  return {
+    pieces,
+    said:
+      `${saidOf(pieces)}; ${many(packets.length)} of ${many(plan.frames)} frames are coded again, in ${many(size)} ` +
+      `bytes, ${quality}; all others stay as they are`,
+  };
 }
 
 async function exported({ signal = undefined, how = null }) {
@@ -351,7 +394,10 @@ async function exported({ signal = undefined, how = null }) {
 async function file(kind, given = {}) {
   checkOpen();
   if (kind === "export") return exported(given);
-  return { file: new Blob([await own.main.call("cuts")], { type: "text/csv" }), name: `${own.about.name.replace(/\.[^.]*$/, "")}-cuts.csv` };
+  return {
+    file: new Blob([await own.main.call("cuts")], { type: "text/csv" }),
+    name: `${own.about.name.replace(/\.[^.]*$/, "")}-cuts.csv`,
+  };
 }
 
 /** The sound of a file, of which only the pictures are in the worker. */
@@ -366,7 +412,9 @@ async function pngOf(number) {
   const [frame] = await frames([number]);
   const canvas = document.createElement("canvas");
   [canvas.width, canvas.height] = [frame.width, frame.height];
-  canvas.getContext("2d").putImageData(new ImageData(new Uint8ClampedArray(toColour(frame).buffer), frame.width, frame.height), 0, 0);
+  canvas
+    .getContext("2d")
+    .putImageData(new ImageData(new Uint8ClampedArray(toColour(frame).buffer), frame.width, frame.height), 0, 0);
   return new Promise((resolve) => canvas.toBlob(resolve, "image/png"));
 }
 
@@ -412,7 +460,11 @@ use({
   sound: () => null,
   hasWave: (session, source) => source < own.sources.length,
   wave,
-  progress: async () => ({ doing: null, opening: own.opening === null ? null : { what: "reading", done: own.opening, total: 1 }, exporting: own.exporting ?? undefined }),
+  progress: async () => ({
+    doing: null,
+    opening: own.opening === null ? null : { what: "reading", done: own.opening, total: 1 },
+    exporting: own.exporting ?? undefined,
+  }),
   changed(heard, found) {
     Object.assign(own, { heard, found });
   },

@@ -1,4 +1,5 @@
-// The sound of a WebM or Matroska file, a minute at a time: the packets of its first track of sound as they are, as files that the browser decodes.
+// The sound of a WebM or Matroska file, a minute at a time: the packets of its first track of sound as they are, as
+// files that the browser decodes.
 
 // Names of elements.
 const [EBML, SEGMENT, INFO, TRACKS, CLUSTER] = [0x1a45dfa3, 0x18538067, 0x1549a966, 0x1654ae6b, 0x1f43b675];
@@ -10,7 +11,8 @@ const WINDOW = 1 << 22;
 const HEAD = 12;
 const MOST_KEPT = 1 << 20;
 
-/** The number at a place, with its marker if it is a name; and how many bytes it has. Null if there is none. A size of all ones is Infinity. */
+/** The number at a place, with its marker if it is a name; and how many bytes it has. Null if there is none. A size of
+ * all ones is Infinity. */
 function numberAt(bytes, at, isName) {
   const length = Math.clz32(bytes[at]) - 23;
   if (at >= bytes.length || length > (isName ? 4 : 8) || at + length > bytes.length) return null;
@@ -54,13 +56,15 @@ class Reader {
   }
 }
 
-/** What is known of the sound of a file: how it begins, and of each of its blocks the time in milliseconds, and where it is. */
+/** What is known of the sound of a file: how it begins, and of each of its blocks the time in milliseconds, and where
+ * it is. */
 export class WebmSound {
   constructor(file) {
     Object.assign(this, { file, scale: USUAL, entry: null, number: 0, blocks: [] });
   }
 
-  /** Reads the file. One flat walk: of the elements that have others only segments and clusters are gone into. What follows damage is not read. */
+  /** Reads the file. One flat walk: of the elements that have others only segments and clusters are gone into. What
+   * follows damage is not read. */
   async read() {
     const reader = new Reader(this.file);
     let time = 0;
@@ -77,8 +81,10 @@ export class WebmSound {
       const end = start + size[0];
       if (end > this.file.size) break;
       if (name[0] === TIME) time = valueOf(await reader.at(start, size[0]));
-      else if (name[0] === SIMPLE || name[0] === GROUP) this.note(place, end, time, await reader.at(start, Math.min(size[0], 64)), name[0] === GROUP);
-      else if ([EBML, INFO, TRACKS].includes(name[0]) && end - place <= MOST_KEPT) this.keep(name[0], (await reader.at(place, end - place)).slice(), start - place);
+      else if (name[0] === SIMPLE || name[0] === GROUP)
+        this.note(place, end, time, await reader.at(start, Math.min(size[0], 64)), name[0] === GROUP);
+      else if ([EBML, INFO, TRACKS].includes(name[0]) && end - place <= MOST_KEPT)
+        this.keep(name[0], (await reader.at(place, end - place)).slice(), start - place);
       if (this.isMute) break;
       place = end;
     }
@@ -92,9 +98,12 @@ export class WebmSound {
       for (const [inner, value] of within(content)) if (inner === SCALE) this.scale = valueOf(value);
     } else if (!this.entry) {
       const entries = [...within(content)].filter(([inner]) => inner === ENTRY);
-      const entry = entries.find(([, inside]) => [...within(inside)].some(([inner, value]) => inner === KIND && valueOf(value) === SOUND));
+      const entry = entries.find(([, inside]) => [...within(inside)].some(([inner, value]) =>
+        inner === KIND && valueOf(value) === SOUND,
+      ));
       this.isMute = !entry;
-      if (entry) [this.entry, this.number] = [entry[2], valueOf([...within(entry[1])].find(([inner]) => inner === NUMBER)[1])];
+      if (entry)
+        [this.entry, this.number] = [entry[2], valueOf([...within(entry[1])].find(([inner]) => inner === NUMBER)[1])];
     }
   }
 
@@ -117,7 +126,8 @@ export class WebmSound {
     return this.entry !== null && this.head !== undefined;
   }
 
-  /** A file with the blocks from one millisecond to another, without bytes if there is none, and the millisecond after the first one at which its sound begins. */
+  /** A file with the blocks from one millisecond to another, without bytes if there is none, and the millisecond after
+   * the first one at which its sound begins. */
   async piece(from, end) {
     const blocks = this.blocks.filter(([time]) => time >= from && time < end);
     if (!blocks.length) return { bytes: new ArrayBuffer(0), begins: 0 };
@@ -130,11 +140,15 @@ export class WebmSound {
     for (let at = 0; at < blocks.length; ) {
       const time = blocks[at][3];
       const inside = [];
-      for (; at < blocks.length && blocks[at][3] === time; at++) inside.push(bytes.subarray(blocks[at][1] - first, blocks[at][2] - first));
+      for (; at < blocks.length && blocks[at][3] === time; at++)
+        inside.push(bytes.subarray(blocks[at][1] - first, blocks[at][2] - first));
       clusters.push(element(CLUSTER, element(TIME, numberOf(time - base)), ...inside));
     }
     const parts = [element(INFO, element(SCALE, numberOf(this.scale))), element(TRACKS, this.entry), ...clusters];
-    return { bytes: await new Blob([this.head, element(SEGMENT, ...parts)]).arrayBuffer(), begins: blocks[0][0] - from };
+    return {
+      bytes: await new Blob([this.head, element(SEGMENT, ...parts)]).arrayBuffer(),
+      begins: blocks[0][0] - from,
+    };
   }
 }
 

@@ -1,5 +1,5 @@
-// What a worker runs: a stream that is edited, or the sessions beside it. It answers calls one after the other; between them the headers are listed and the
-// packets checked, in pieces, since a worker that is in a call hears nothing.
+// What a worker runs: a stream that is edited, or the sessions beside it. It answers calls one after the other; between
+// them the headers are listed and the packets checked, in pieces, since a worker that is in a call hears nothing.
 
 import { Beside } from "./beside.js";
 import { Refused, full } from "./calls.js";
@@ -62,7 +62,8 @@ const calls = {
 };
 // What is answered also while the session cannot be opened again: the list of edits above all.
 const ALWAYS = new Set(["start", "open", "begin", "lines", "text", "unwritten"]);
-for (const name of ["before", "frames", "packet", "findings", "export", "coded", "measure", "exportCoded"]) calls[`beside.${name}`] = (...given) => beside[name](...given);
+for (const name of ["before", "frames", "packet", "findings", "export", "coded", "measure", "exportCoded"])
+  calls[`beside.${name}`] = (...given) => beside[name](...given);
 
 /** Goes on with what nobody waits for. */
 function goOn() {
@@ -114,7 +115,12 @@ function reported(error) {
     } catch {
       // The next call tries again.
     }
-    return { status: 503, members: { error: `The engine ended at this request (${error.message}). It was started again, and all edits are there.` } };
+    return {
+      status: 503,
+      members: {
+        error: `The engine ended at this request (${error.message}). It was started again, and all edits are there.`,
+      },
+    };
   }
   if (error instanceof RangeError) return { status: 507, members: full().members };
   return { status: 409, members: { error: error.message || String(error) } };
