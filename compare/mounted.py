@@ -4,10 +4,10 @@ Shotcut and Kdenlive, those of them that are here.
 
     compare/mounted.py [--reads N] [--seed S] [--shots FOLDER]
 
-It needs python3-fusepy and fuse3. Each program reads the frames of clip.y4m, and seeks in it. melt converts its
-samples: its frames are compared with those that it makes of a file on the disk with the same bytes. The files are read
-at random places and compared with what the programs write; edits are made while they are read; the mount and vp8serve
-are killed. README.md says more.
+It needs python3-pyfuse3 or python3-fusepy, and fuse3. Each program reads the frames of clip.y4m, and seeks in it. melt
+converts its samples: its frames are compared with those that it makes of a file on the disk with the same bytes. The
+files are read at random places and compared with what the programs write; edits are made while they are read; the mount
+and vp8serve are killed. README.md says more.
 """
 
 import argparse
@@ -325,7 +325,7 @@ def main():
     words.add_argument("--seed", type=int, default=1)
     words.add_argument("--shots", metavar="FOLDER", help="pictures of the programs with windows")
     given = words.parse_args()
-    mount.fuse_module()
+    mount.mounter()
     os.environ["PYTHONPATH"] = str(TOP / "clients/python")
     if given.shots:
         os.makedirs(given.shots, exist_ok=True)

@@ -181,7 +181,7 @@ def frames_of(stream, numbers, *lines_before):
 
 def start_python(*words, **options):
     """A process of Python, which finds the client."""
-    env = dict(os.environ, PYTHONPATH=str(TOP / "clients/python"), **options.pop("env", {}))
+    env = {**os.environ, "PYTHONPATH": str(TOP / "clients/python"), **options.pop("env", {})}
     return subprocess.Popen([sys.executable, *map(str, words)], env=env, **options)
 
 

@@ -2,6 +2,7 @@
 
 import contextlib
 import errno
+import importlib.util
 import json
 import os
 import random
@@ -37,16 +38,16 @@ from wokureti.page.opened import Opened
 SCENES = DATA / "scene-cuts.ivf"
 
 
-def can_mount():
-    """Why no folder can be mounted here, or None."""
-    try:
-        mount.fuse_module()
-    except ValueError as error:
-        return str(error)
+def can_mount(*modules):
+    """Why no folder can be mounted here by one of these modules, or None."""
+    if not any(importlib.util.find_spec(module) for module in modules):
+        return f"{' and '.join(modules)} are not here" if len(modules) > 1 else f"{modules[0]} is not here"
     return None if os.access("/dev/fuse", os.R_OK | os.W_OK) else "/dev/fuse cannot be opened"
 
 
-WHY = can_mount()
+WHY = can_mount("pyfuse3")
+# fusepy, if pyfuse3 is not there.
+WHY_NOT_FUSEPY = can_mount("fusepy", "fuse")
 
 
 def is_mounted(folder):
@@ -207,8 +208,8 @@ class Files(Case):
             self.assertEqual(samples_of_png(text), (width, height, data))
 
     def test_what_is_over_waits_for_nothing(self):
-        module = mock.Mock(FuseOSError=lambda number: OSError(number, "over"))
-        operations = mount.Operations(self.opened(), module)
+        leave = mock.Mock()
+        operations = mount.Operations(self.opened(), leave)
         self.assertEqual(operations("getattr", "/")["st_nlink"], 2)
         held, let = threading.Event(), threading.Event()
         self.addCleanup(let.set)
@@ -223,14 +224,15 @@ class Files(Case):
         operations.is_over = True
         with self.within(2), self.assertRaises(OSError) as caught:
             operations("getattr", "/clip.y4m")
-        self.assertEqual((caught.exception.errno, module.fuse_exit.call_count), (errno.ENODEV, 1))
+        self.assertEqual((caught.exception.errno, leave.call_count), (errno.ENODEV, 1))
         for operation in ("init", "destroy"):
             operations(operation, "/")
-        self.assertEqual(module.fuse_exit.call_count, 1)
+        self.assertEqual(leave.call_count, 1)
 
     def test_without_fuse(self):
         room = self.folder()
-        (room / "fusepy.py").write_text("raise ImportError")
+        for name in ("fusepy.py", "pyfuse3.py"):
+            (room / name).write_text("raise ImportError")
         (room / "fuse.py").write_text("# python3-fuse, which is another module\n")
         env = {**os.environ, "PYTHONPATH": f"{room}:{mount.__file__.rsplit('/', 3)[0]}"}
         done = subprocess.run(
@@ -242,19 +244,33 @@ class Files(Case):
             check=False,
         )
         self.assertEqual((done.returncode, done.stdout), (2, ""))
-        self.assertIn("install python3-fusepy and fuse3", done.stderr)
+        self.assertIn("install python3-pyfuse3 and fuse3", done.stderr)
 
 
 @unittest.skipIf(WHY, WHY)
 class Mounted(Case):
+    """The folder as pyfuse3 mounts it."""
+
     LIMIT = 60
+    # Modules that the command does not find.
+    HIDDEN = ()
+
+    def start(self, stream, folder, *words):
+        """A process that mounts a folder."""
+        room = self.folder()
+        for name in self.HIDDEN:
+            (room / f"{name}.py").write_text("raise ImportError")
+        env = {"PYTHONPATH": f"{room}:{mount.__file__.rsplit('/', 3)[0]}"}
+        streams = {"stdout": subprocess.PIPE, "stderr": subprocess.PIPE}
+        process = start("mount", stream, folder, *words, text=True, env=env, **streams)
+        self.addCleanup(self.end, process, folder)
+        return process
 
     def mounted(self, stream, *words):
         """A folder with the stream, its process, and what it printed first."""
         folder = self.folder() / "a folder"
         folder.mkdir()
-        process = start("mount", stream, folder, *words, stdout=subprocess.PIPE, stderr=subprocess.PIPE, text=True)
-        self.addCleanup(self.end, process, folder)
+        process = self.start(stream, folder, *words)
         limit = time.monotonic() + 20 * SLOW
         while not is_mounted(folder):
             self.assertIsNone(process.poll(), process.stderr.read() if process.poll() is not None else "")
@@ -339,8 +355,7 @@ class Mounted(Case):
         for turn in range(18):
             folder = self.folder() / "a folder"
             folder.mkdir()
-            process = start("mount", SMALL, folder, stdout=subprocess.PIPE, stderr=subprocess.PIPE, text=True)
-            self.addCleanup(self.end, process, folder)
+            process = self.start(SMALL, folder)
             process.stdout.readline()
             # libfuse mounts some milliseconds later.
             time.sleep(turn // 3 * 0.004)
@@ -371,10 +386,9 @@ class Mounted(Case):
         folder.mkdir()
         ignored = signal.signal(signal.SIGHUP, signal.SIG_IGN)
         try:
-            process = start("mount", SMALL, folder, stdout=subprocess.PIPE, stderr=subprocess.PIPE, text=True)
+            process = self.start(SMALL, folder)
         finally:
             signal.signal(signal.SIGHUP, ignored)
-        self.addCleanup(self.end, process, folder)
         process.stdout.readline()
         process.send_signal(signal.SIGHUP)
         with self.assertRaises(subprocess.TimeoutExpired):
@@ -406,6 +420,47 @@ class Mounted(Case):
     def test_the_page_is_there_too(self):
         folder, process = self.mounted(SMALL, "--serve")
         self.assertRegex(process.stdout.readline(), r"^http://127\.0\.0\.1:[0-9]+/[A-Za-z0-9_-]+/page/\n$")
+
+    def test_what_a_folder_has(self):
+        """All names once, also of more pictures than one answer of the system holds, and no file is made for them."""
+        folder, _ = self.mounted(write_packets(self.folder() / "in.ivf", packets_of(SMALL)[:1] * 3000))
+        names = ["clip.ivf", "clip.webm", "clip.y4m", "edits.txt", "findings.txt", "frames", "packets.jsonl"]
+        self.assertEqual(sorted(os.listdir(folder)), names)
+        self.assertEqual(sorted(os.listdir(folder / "frames")), [f"{number:06}.png" for number in range(3000)])
+        self.assertEqual([path.name for path in sorted(folder.iterdir()) if path.is_dir()], ["frames"])
+
+    def test_two_programs_read_it(self):
+        """A frame that is decoded holds up no other file."""
+        folder, _ = self.mounted(SCENES)
+        whole, found = whole_text(SCENES), []
+        threads = [threading.Thread(target=lambda: found.append((folder / "clip.y4m").read_bytes())) for _ in range(4)]
+        for thread in threads:
+            thread.start()
+        for thread in threads:
+            thread.join(30 * SLOW)
+        self.assertEqual(found, [whole] * 4)
+
+    def test_a_folder_does_not_change(self):
+        folder, _ = self.mounted(SMALL)
+        for change in (
+            lambda: (folder / "new").mkdir(),
+            lambda: (folder / "clip.ivf").unlink(),
+            lambda: (folder / "clip.ivf").rename(folder / "other.ivf"),
+            lambda: (folder / "link").symlink_to("clip.ivf"),
+            lambda: os.link(folder / "clip.ivf", folder / "link"),
+            lambda: (folder / "clip.ivf").chmod(0o600),
+        ):
+            with self.assertRaises(OSError) as caught:
+                change()
+            self.assertEqual(caught.exception.errno, errno.EROFS)
+        os.utime(folder / "edits.txt")
+
+
+@unittest.skipIf(WHY_NOT_FUSEPY, WHY_NOT_FUSEPY)
+class MountedByFusepy(Mounted):
+    """The same as fusepy mounts it, where pyfuse3 is not there."""
+
+    HIDDEN = ("pyfuse3",)
 
 
 if __name__ == "__main__":

@@ -12,7 +12,7 @@ import subprocess
 import sys
 import threading
 from types import ModuleType
-from typing import Callable, Optional, Union
+from typing import Callable, Optional, Protocol, Union
 
 from .. import system
 from ..errors import Changed, Ended, Failed, Lost, Unreadable
@@ -45,13 +45,66 @@ DONE = (
 REFUSED = ("chmod", "chown", "create", "mkdir", "unlink", "rmdir", "rename", "symlink", "link", "mknod")
 
 
-def fuse_module() -> ModuleType:
-    """The module fusepy, which Debian calls so and PyPI calls fuse."""
+class Mounter(Protocol):
+    """What mounts a folder."""
+
+    def mount(self, operations: Operations, folder: str, others: bool) -> None:
+        """Mounts the folder until it is unmounted; with `others` other users may read it. `RuntimeError` if it cannot
+        be mounted.
+        """
+
+    def leave(self) -> None:
+        """Unmounts the folder in an operation."""
+
+    def end(self, folder: str) -> None:
+        """Makes it unmount the folder, from another thread. It is called until that is done."""
+
+
+class ByFusepy:
+    """A folder that fusepy mounts, with libfuse 2. It unmounts only in an operation."""
+
+    def __init__(self, module: ModuleType) -> None:
+        self.module = module
+
+    def mount(self, operations: Operations, folder: str, others: bool) -> None:
+        options = {"allow_other": True} if others else {}
+        try:
+            self.module.FUSE(
+                operations,
+                folder,
+                foreground=True,
+                direct_io=True,
+                attr_timeout=0,
+                entry_timeout=0,
+                auto_unmount=True,
+                fsname="wokureti",
+                **options,
+            )
+        except RuntimeError as error:
+            raise RuntimeError(f"libfuse gave status {error}") from None
+
+    def leave(self) -> None:
+        self.module.fuse_exit()
+
+    def end(self, folder: str) -> None:
+        with contextlib.suppress(OSError):
+            os.stat(folder)
+
+
+def mounter() -> Mounter:
+    """What mounts a folder here: pyfuse3 on Linux if it is there, else fusepy, which Debian calls so and PyPI calls
+    fuse.
+    """
     if system.IS_WINDOWS:
         raise Failed(
             "mount needs FUSE, which Windows does not have: `wokureti serve` has the same frames for programs that open"
             " an address"
         )
+    if not system.IS_MACOS:
+        with contextlib.suppress(ImportError, OSError):
+            from .inodes import ByPyfuse3
+
+            return ByPyfuse3()
     for name in ("fusepy", "fuse"):
         try:
             found = __import__(name)
@@ -59,13 +112,17 @@ def fuse_module() -> ModuleType:
             continue
         # python3-fuse, another module, has the second name too.
         if hasattr(found, "FuseOSError"):
-            return found
+            return ByFusepy(found)
     what = (
         "macFUSE and fusepy (pip install fusepy)"
         if system.IS_MACOS
-        else "python3-fusepy and fuse3 (or pip install fusepy)"
+        else "python3-pyfuse3 and fuse3 (or pip install fusepy)"
     )
     raise Failed(f"to mount a folder, install {what}, or use `wokureti serve`")
+
+
+def failure(number: int) -> OSError:
+    return OSError(number, os.strerror(number))
 
 
 class Open:
@@ -76,11 +133,11 @@ class Open:
 
 
 class Operations:
-    """What the system asks of the folder. Paths begin with `/`."""
+    """What the system asks of the folder. Paths begin with `/`. `leave` unmounts it in an operation."""
 
-    def __init__(self, folder: Folder, module: ModuleType) -> None:
-        self.folder, self.fail, self.unmount = folder, module.FuseOSError, module.fuse_exit
-        # Set when the folder is to be unmounted: the next operation does that, since libfuse takes it only from one.
+    def __init__(self, folder: Folder, leave: Callable[[], object]) -> None:
+        self.folder, self.leave = folder, leave
+        # Set when the folder is to be unmounted: the next operation does that, since libfuse 2 takes it only from one.
         self.is_over = False
         self.opened: dict[int, Open] = {}
         self.count, self.counting = 0, threading.Lock()
@@ -90,22 +147,26 @@ class Operations:
     def __call__(self, operation: str, *given: object) -> object:
         """Does an operation. Errors are those of the system."""
         if self.is_over and operation not in ("init", "destroy"):
-            self.unmount()
-            raise self.fail(errno.ENODEV)
-        if operation in REFUSED:
-            raise self.fail(errno.EROFS)
-        if operation not in DONE:
-            raise self.fail(errno.ENOSYS)
+            self.leave()
+            raise failure(errno.ENODEV)
+        if operation not in (*DONE, *REFUSED):
+            raise failure(errno.ENOSYS)
         try:
             return getattr(self, operation)(*given)
         except KeyError:
-            raise self.fail(errno.ENOENT) from None
+            raise failure(errno.ENOENT) from None
         except Changed:
-            raise self.fail(errno.ESTALE) from None
+            raise failure(errno.ESTALE) from None
         except ValueError:
-            raise self.fail(errno.EINVAL) from None
+            raise failure(errno.EINVAL) from None
         except (Unreadable, Lost, Ended, MemoryError):
-            raise self.fail(errno.EIO) from None
+            raise failure(errno.EIO) from None
+
+    def refuse(self, *given: object) -> None:
+        """Nothing is made, renamed or removed. fusepy asks for no operation that is not here."""
+        raise failure(errno.EROFS)
+
+    chmod = chown = create = mkdir = unlink = rmdir = rename = symlink = link = mknod = refuse
 
     def init(self, path: str) -> None:
         """The folder is there."""
@@ -146,7 +207,7 @@ class Operations:
     def open(self, path: str, flags: int) -> int:
         writes = bool(flags & WRITES)
         if writes and path[1:] != EDITS:
-            raise self.fail(errno.EACCES)
+            raise failure(errno.EACCES)
         revision, file = self.folder.open(path[1:])
         found = Open(revision, file, bytearray(file.read(0, file.size)) if writes else None)
         if writes and (self.is_cut or flags & os.O_TRUNC):
@@ -165,7 +226,7 @@ class Operations:
     def write(self, path: str, data: bytes, start: int, handle: int) -> int:
         text = self.opened[handle].text
         if text is None:
-            raise self.fail(errno.EBADF)
+            raise failure(errno.EBADF)
         text.extend(bytes(max(0, start - len(text))))
         text[start : start + len(data)] = data
         self.opened[handle].is_changed = True
@@ -173,7 +234,7 @@ class Operations:
 
     def truncate(self, path: str, length: int, handle: Optional[int] = None) -> None:
         if path[1:] != EDITS:
-            raise self.fail(errno.EACCES)
+            raise failure(errno.EACCES)
         with self.counting:
             # A file that is opened to be written anew is cut right after or before that, by its name.
             writers = (
@@ -184,7 +245,7 @@ class Operations:
         self.is_cut = not writers and length == 0
         for found in writers:
             if found.text is None:
-                raise self.fail(errno.EBADF)
+                raise failure(errno.EBADF)
             found.text = found.text[:length] + bytes(max(0, length - len(found.text)))
             found.is_changed = True
 
@@ -229,15 +290,16 @@ class Mount:
     right before that ends the process.
     """
 
-    def __init__(self, operations: Operations, mounts: Callable[[Operations], object]) -> None:
-        self.operations, self.mounts, self.gone = operations, mounts, threading.Event()
+    def __init__(self, by: Mounter, operations: Operations, folder: str, others: bool) -> None:
+        self.by, self.operations, self.folder, self.others = by, operations, folder, others
+        self.gone = threading.Event()
         self.error: Optional[BaseException] = None
         self.thread = threading.Thread(target=self.work, daemon=True)
 
     def work(self) -> None:
         try:
             if not self.operations.is_over:
-                self.mounts(self.operations)
+                self.by.mount(self.operations, self.folder, self.others)
         except BaseException as error:
             self.error = error
         finally:
@@ -251,39 +313,24 @@ class Mount:
         if self.error is not None:
             raise self.error
 
-    def end(self, folder: str) -> None:
+    def end(self) -> None:
         """Unmounts the folder, also if it is just being mounted."""
         self.operations.is_over = True
         while self.thread.ident is not None and not self.gone.wait(OFTEN):
-            with contextlib.suppress(OSError):
-                os.stat(folder)
+            self.by.end(self.folder)
 
 
 def run(live: Live, folder: str, others: bool = False, server: Optional[Server] = None) -> int:
     """Mounts the folder until it is unmounted or the process is interrupted. `server` serves the same session
     meanwhile.
     """
-    module = fuse_module()
+    by = mounter()
     clear(folder)
     if not os.path.isdir(folder):
         raise ValueError(f"{folder} is not a folder: make it first")
     if os.listdir(folder):
         raise ValueError(f"{folder} is not empty: mount in an empty folder")
-    options = {"allow_other": True} if others else {}
-    mount = Mount(
-        Operations(Folder(live), module),
-        lambda operations: module.FUSE(
-            operations,
-            folder,
-            foreground=True,
-            direct_io=True,
-            attr_timeout=0,
-            entry_timeout=0,
-            auto_unmount=True,
-            fsname="wokureti",
-            **options,
-        ),
-    )
+    mount = Mount(by, Operations(Folder(live), by.leave), folder, others)
     try:
         if server is not None:
             threading.Thread(target=server.serve, daemon=True).start()
@@ -293,9 +340,9 @@ def run(live: Live, folder: str, others: bool = False, server: Optional[Server] 
     except KeyboardInterrupt:
         pass
     except RuntimeError as error:
-        raise ValueError(f"{folder} could not be mounted: libfuse gave status {error}") from None
+        raise ValueError(f"{folder} could not be mounted: {error}") from None
     finally:
-        mount.end(folder)
+        mount.end()
         if server is not None:
             server.end()
             server.routes.close()
