@@ -3,11 +3,17 @@
 original's; next to what ffmpeg and mkvmerge make of the same files.
 
     compare/repairs.py [STREAMS [SEED]]
+    compare/repairs.py --webm [FILES [SEED]]
+
+With --webm it damages WebM and Matroska files instead, as webm.py does, and counts the packets of the video and of the
+sound that `wokureti repair` searches: the right ones have the bytes and the time of one of the whole file. CLIENT names
+the folder of another client to count too.
 
 It needs Debian's ffmpeg, vpx-tools and mkvtoolnix, and the built programs. README.md says more.
 """
 
 import collections
+import os
 import pathlib
 import random
 import subprocess
@@ -15,12 +21,14 @@ import sys
 import tempfile
 
 TOP = pathlib.Path(__file__).resolve().parent.parent
-sys.path.insert(0, str(TOP / "clients/python"))
+sys.path.insert(0, os.environ.get("CLIENT") or str(TOP / "clients/python"))
 
 import results  # noqa: E402
+import webm as webm_files  # noqa: E402
 from wokureti.base import programs  # noqa: E402
-from wokureti.errors import NotIvf  # noqa: E402
-from wokureti.media import ivf  # noqa: E402
+from wokureti.errors import Failed, NotIvf  # noqa: E402
+from wokureti.media import containers, ivf, webm  # noqa: E402
+from wokureti.session import convert  # noqa: E402
 from wokureti.tools import repair  # noqa: E402
 
 FRAMES = 200
@@ -222,7 +230,100 @@ def score(out, packets, frames):
     return recovered, sum(bool(hashes & shown.get(stamp, set())) for stamp, hashes in frames.items())
 
 
+# Files that are damaged: of ffmpeg with two codecs of sound, of a live stream, with many clusters, of mkvmerge with laced
+# sound and without. A time that is rounded twice may be so many nanoseconds away.
+WEBM, NEAR = ("plain.webm", "vorbis.webm", "live.webm", "clusters.webm", "laced.mkv", "merged.webm"), 2_000_000
+
+
+def whole(path, room):
+    """The packets of the video of a whole file, and of its sound: bytes, and the nanoseconds of their times."""
+    with open(path, "rb") as file:
+        head = webm.facts_of(file.fileno()).head
+    index = webm.read_index(programs.find("vp8list"), str(path), (), str(path))
+    data, pictures = path.read_bytes(), collections.defaultdict(list)
+    for start, size, stamp in zip(index.starts, index.sizes, index.stamps):
+        pictures[data[start : start + size]].append(stamp * 10**9 * head.scale // head.rate)
+    return pictures, sound_of(containers.read_sounds(path, str(room / "whole")))
+
+
+def sound_of(tracks):
+    found = collections.defaultdict(list)
+    for track in tracks:
+        for data, time in zip(track.packets(range(len(track.sizes))), track.times):
+            found[data].append(time)
+    return found
+
+
+def searched(path, folder):
+    """The packets of the video and the sound of a damaged file, as `wokureti repair` begins with them."""
+    out, found = convert.searched(str(path), str(folder))
+    head, packets = (found[0], [one[:2] for one in found[1]]) if found else ivf.read_packets(out)
+    pictures = collections.defaultdict(list)
+    for stamp, data in packets:
+        pictures[bytes(data)].append(stamp * 10**9 * head.scale // head.rate)
+    media = containers.media_of(out)
+    return pictures, sound_of(media.sounds if media is not None else ())
+
+
+def right(found, wanted):
+    """How many of the packets that were found are in the whole file, and how many are not."""
+    count = 0
+    for data, times in found.items():
+        left = list(wanted.get(data, ()))
+        for time in times:
+            near = next((one for one in left if abs(one - time) <= NEAR), None)
+            if near is not None:
+                left.remove(near)
+                count += 1
+    return count, sum(map(len, found.values())) - count
+
+
+def of_webm(count, seed):
+    """The total of damaged WebM files."""
+    choose, totals = random.Random(seed), {name: collections.Counter() for name in WEBM}
+    with tempfile.TemporaryDirectory() as folder:
+        room = pathlib.Path(folder)
+        webm_files.make(room)
+        files = [(name, (room / name).read_bytes(), whole(room / name, room)) for name in WEBM]
+        convert.say = lambda text: None
+        for turn in range(count):
+            name, data, (pictures, sound) = files[turn % len(files)]
+            total = totals[name]
+            total.update(
+                {"files": 1, "pictures": sum(map(len, pictures.values())), "sound": sum(map(len, sound.values()))}
+            )
+            with tempfile.TemporaryDirectory(dir=folder) as inside:
+                path = pathlib.Path(inside, f"damaged{pathlib.Path(name).suffix}")
+                path.write_bytes(webm_files.damaged(data, choose))
+                try:
+                    found = searched(path, inside)
+                except (NotIvf, Failed, OSError):
+                    found = {}, {}
+            scores = right(found[0], pictures), right(found[1], sound)
+            total.update(dict(zip(("right", "wrong"), scores[0])))
+            total.update(dict(zip(("sound right", "sound wrong"), scores[1])))
+            total["nothing"] += not scores[0][0]
+            if "EACH" in os.environ:
+                print(turn, name, *scores[0], *scores[1], flush=True)
+    totals["all"] = sum(totals.values(), collections.Counter())
+    print(
+        "| file | files | without a packet | packets of the video: there were, right, wrong | of the sound |\n|---|---|---|---|---|"
+    )
+    for name, total in totals.items():
+        cells = [f"{total[kind]:,}" for kind in ("pictures", "right", "wrong", "sound", "sound right", "sound wrong")]
+        print(f"| {name} | {total['files']} | {total['nothing']} | {', '.join(cells[:3])} | {', '.join(cells[3:])} |")
+    total = totals["all"]
+    results.total(
+        f"{count} damaged files, of {total['nothing']} nothing; packets of the video right {total['right']:,}, wrong"
+        f" {total['wrong']:,}; of the sound right {total['sound right']:,}, wrong {total['sound wrong']:,}"
+    )
+    return 0
+
+
 def main():
+    words = [word for word in sys.argv[1:] if word != "--webm"]
+    if len(words) < len(sys.argv) - 1:
+        return of_webm(int(words[0]) if words else 504, int(words[1]) if len(words) > 1 else 1)
     count = int(sys.argv[1]) if len(sys.argv) > 1 else 500
     choose = random.Random(int(sys.argv[2]) if len(sys.argv) > 2 else 1)
     sums = {kind: collections.Counter() for kind in KINDS}

@@ -18,7 +18,7 @@ from . import __version__, system
 from .errors import Ended, Failed, Lost, NoKeyFrame, NoSecond, NotIvf, Refused, sentence
 from .base import checks, files, programs, rooms, versions
 from .base.progress import Reading, of_program, say
-from .media import containers, excerpts, ivf, muxing, sounds, webm
+from .media import containers, elements, excerpts, ivf, muxing, sounds, webm
 from .calls import recordings
 from .session import convert, named
 from .tools import cat
@@ -811,7 +811,7 @@ def run_lister(given: argparse.Namespace, words: Sequence[str]) -> int:
                 done.wait()
         damage = containers.damage_of(path)
         if isinstance(webm.media_of(path), webm.Around):
-            damage = webm.damage_of(programs.find("vp8serve"), path, (), containers.name_of(path))
+            damage = elements.damage_of(programs.find("vp8list"), path, containers.name_of(path))
             convert.say_damage(damage)
         return max(done.returncode, int(bool(damage)))
 

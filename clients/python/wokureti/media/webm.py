@@ -1,28 +1,32 @@
 """WebM and Matroska files that the programs read where they are: what their beginning says of the video, where its
-packets are, by vp8list, and what is damaged. ffmpeg reads their sound and their tags, when these are needed first."""
+packets are, by vp8list. ffmpeg reads their sound and their tags, when these are needed first."""
 
 from __future__ import annotations
 
 import fractions
 import functools
 import math
-import mmap
 import os
-import re
 import subprocess
 import tempfile
 import threading
-from typing import IO, NamedTuple, Optional, Protocol, Sequence, Tuple, Union
+from array import array
+from typing import IO, Iterator, NamedTuple, Optional, Protocol, Sequence, Tuple, Union
 
 from .. import system
 from ..base import checks, programs
 from ..base.checks import AnyBytes, AnyPath
 from ..base.progress import Reading, Watch, of_program
-from . import blocks, containers, ivf
+from . import containers, ivf
 from .ivf import Rate
 
 MARK = b"\x1a\x45\xdf\xa3"
 EBML, ENCODINGS, DURATION = 0x1A45DFA3, 0x6D80, 0x23E383
+SEGMENT, INFO, SCALE, TRACKS, ENTRY, CLUSTER = 0x18538067, 0x1549A966, 0x2AD7B1, 0x1654AE6B, 0xAE, 0x1F43B675
+# Elements that may be before the first cluster.
+AT_FIRST = (EBML, SEGMENT, INFO, TRACKS, 0x114D9B74, 0x1254C367, 0x1C53BB6B, 0x1941A469, 0x1043A770, 0xEC, 0xBF)
+# Nanoseconds of the unit of time of most files; bytes of the number and the length of an element, at most.
+MS, LONGEST = 10**6, 16
 DOC_TYPE, NUMBER, KIND, CODEC, VIDEO, WIDTH, HEIGHT = 0x4282, 0xD7, 0x83, 0x86, 0xE0, 0xB0, 0xBA
 SOUND = b"\2"
 # Bytes of an element at the beginning that is looked into, and of a list of packets that are read together, at most.
@@ -35,12 +39,14 @@ TAGS = {
     for kind in (b"-", b"key", b"inter")
     for show in (b"shown", b"hidden")
 }
-SPARE = re.compile(r"^spare (\d+)$", re.MULTILINE)
 # The indexes of the last files, by what tells one file from another: a session that is started again has the same ones.
 MOST_KNOWN = 16
 Signature = Tuple[int, int, int, int]
 known: dict[Signature, ivf.Index] = {}
 knowing = threading.Lock()
+
+
+Data = Union[bytes, bytearray, memoryview]
 
 
 class Facts(NamedTuple):
@@ -95,18 +101,11 @@ def facts_of(descriptor: int) -> Optional[Facts]:
     whole.
     """
     parts = parts_of(descriptor)
-    if (
-        blocks.string(first(parts.get(EBML, b"")).get(DOC_TYPE, b"")) not in (b"webm", b"matroska")
-        or blocks.TRACKS not in parts
-    ):
+    if string(first(parts.get(EBML, b"")).get(DOC_TYPE, b"")) not in (b"webm", b"matroska") or TRACKS not in parts:
         return None
-    entries = [
-        first(text)
-        for name, text in blocks.children(parts[blocks.TRACKS], 0, len(parts[blocks.TRACKS]))
-        if name == blocks.ENTRY
-    ]
-    video = next((entry for entry in entries if blocks.string(entry.get(CODEC, b"")) == b"V_VP8"), None)
-    scale = value_of(first(parts.get(blocks.INFO, b"")).get(blocks.SCALE), blocks.MS)
+    entries = [first(text) for name, text in children(parts[TRACKS]) if name == ENTRY]
+    video = next((entry for entry in entries if string(entry.get(CODEC, b"")) == b"V_VP8"), None)
+    scale = value_of(first(parts.get(INFO, b"")).get(SCALE), MS)
     if video is None or ENCODINGS in video or not 0 < scale < 1 << 32:
         return None
     sides, common = first(video.get(VIDEO, b"")), math.gcd(containers.NANO, scale)
@@ -120,28 +119,59 @@ def parts_of(descriptor: int) -> dict[int, bytes]:
     place, size = 0, os.fstat(descriptor).st_size
     found: dict[int, bytes] = {}
     while place < size:
-        text = system.pread(descriptor, blocks.LONGEST, place)
-        number = blocks.number_at(text, 0, True)
-        length = None if number is None else blocks.number_at(text, number[1], False)
-        if number is None or length is None or number[0] == blocks.CLUSTER or number[0] not in blocks.KNOWN:
+        text = system.pread(descriptor, LONGEST, place)
+        number = number_at(text, 0, True)
+        length = None if number is None else number_at(text, number[1], False)
+        if number is None or length is None or number[0] not in AT_FIRST:
             break
         start = place + length[1]
-        if number[0] == blocks.SEGMENT:
+        if number[0] == SEGMENT:
             place = start
             continue
         place = start + length[0]
         if place > size:
             break
-        if number[0] in (EBML, blocks.INFO, blocks.TRACKS) and length[0] <= MOST_PART:
+        if number[0] in (EBML, INFO, TRACKS) and length[0] <= MOST_PART:
             found.setdefault(number[0], system.pread_all(descriptor, length[0], start))
     return found
 
 
-def first(text: AnyBytes) -> dict[int, bytes]:
+def number_at(data: Data, place: int, keeps_mark: bool) -> Optional[tuple[int, int]]:
+    """A number of variable length (RFC 8794, section 4), and the place after it; None if there is none."""
+    if place >= len(data) or not data[place]:
+        return None
+    count = 9 - data[place].bit_length()
+    end = place + count
+    if end > len(data):
+        return None
+    value = int.from_bytes(data[place:end], "big")
+    return (value if keeps_mark else value & (1 << 7 * count) - 1), end
+
+
+def children(text: Data) -> Iterator[tuple[Optional[int], Data]]:
+    """The elements in an element: the number and the content of each; None at bytes that are none."""
+    start = 0
+    while start < len(text):
+        number = number_at(text, start, True)
+        size = number and number_at(text, number[1], False)
+        if number is None or size is None or size[1] + size[0] > len(text):
+            yield None, b""
+            return
+        start = size[1] + size[0]
+        yield number[0], text[size[1] : start]
+
+
+def string(content: Data) -> bytes:
+    """The value of a string, which a byte of 0 may end."""
+    return bytes(content).partition(b"\0")[0]
+
+
+def first(text: Data) -> dict[int, bytes]:
     """The elements in an element, by their names: the first one of each."""
     found: dict[int, bytes] = {}
-    for name, content in blocks.children(text, 0, len(text)):
-        found.setdefault(name, bytes(content))
+    for name, content in children(text):
+        if name is not None:
+            found.setdefault(name, bytes(content))
     return found
 
 
@@ -196,69 +226,6 @@ def parsed(file: IO[bytes]) -> ivf.Index:
     for place in [place for place, length in enumerate(index.sizes) if not length]:
         index.tags[place] |= ivf.NO_BYTES
     return index
-
-
-def blocks_of(path: AnyPath, data: AnyBytes) -> Optional[list[blocks.Block]]:
-    """The packets of a file with these bytes, as `blocks.Block` has them, as vp8list reads them; None if it does not,
-    or if their times cannot be right. In a damaged file it finds more of them than `blocks.find`, unless the beginning
-    is damaged: then it reads nothing."""
-    if not is_read(path):
-        return None
-    with open(path, "rb") as file:
-        facts = facts_of(file.fileno())
-    if facts is None:
-        return None
-    head = facts.head
-    try:
-        index = read_index(programs.find("vp8list"), checks.path(path), (), containers.name_of(path))
-    except OSError:
-        return None
-    times = [stamp * head.scale * 1000 // head.rate for stamp in index.stamps]
-    if any(after > before + blocks.MOST_LEAP for before, after in zip(times, times[1:])) or times[:1] > [
-        blocks.MOST_START
-    ]:
-        # The time of a cluster is damaged, which the search does without.
-        return None
-    return [
-        blocks.Block(0, time, start, data[start : start + size])
-        for start, size, time in zip(index.starts, index.sizes, times)
-    ]
-
-
-# Damage
-
-
-def damage_of(program: str, path: str, shared: Sequence[int], name: str, watch: Watch = containers.NOBODY) -> list[str]:
-    """Sentences about the damage of a file. Whether bytes of it are skipped vp8serve says, if elements do not lead from
-    one to the next.
-    """
-    with open(path, "rb") as file, mmap.mmap(file.fileno(), 0, access=mmap.ACCESS_READ) as data:
-        found, size = blocks.damage(data, watch), len(data)
-    if found is None:
-        return []
-    spare = spare_of(program, path, shared)
-    if found.is_cut:
-        return [f"{name} ends in the middle, after {size:,} bytes: the packets that followed are missing"]
-    return (
-        [f"{name} is damaged at byte {found.place:,}: {spare:,} bytes are skipped, and packets may be missing"]
-        if spare
-        else []
-    )
-
-
-def spare_of(program: str, path: str, shared: Sequence[int]) -> int:
-    """The number of bytes that vp8serve skips."""
-    done = subprocess.run(
-        [program, path],
-        stdin=subprocess.DEVNULL,
-        stdout=subprocess.DEVNULL,
-        stderr=subprocess.PIPE,
-        pass_fds=shared,
-        timeout=containers.MOST_TIME,
-        check=False,
-    )
-    found = SPARE.search(done.stderr.decode(errors="replace"))
-    return int(found.group(1)) if found else 0
 
 
 # What else there is

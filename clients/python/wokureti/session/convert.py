@@ -4,6 +4,7 @@ time stamps.
 
 from __future__ import annotations
 
+import bisect
 import contextlib
 import mmap
 import os
@@ -13,10 +14,10 @@ from typing import ContextManager, NamedTuple, Optional, Sequence, Union
 
 from .. import system
 from ..errors import Failed, NotIvf
-from ..base import checks
+from ..base import checks, programs
 from ..base.checks import AnyPath
 from ..base.progress import Copied, Stages, Watch, say
-from ..media import blocks, containers, ends, ivf, looks, salvage, webm
+from ..media import containers, elements, ends, ivf, looks, salvage, webm
 from ..calls import captures, recordings
 
 # A file of network packets, in which a stream of RTP is.
@@ -153,23 +154,49 @@ def searched(
         head = file.read(12)
         if head[:4] == b"DKIF" or (kind_of(head) or "WebM or Matroska") != "WebM or Matroska":
             return as_ivf(given, folder, watch=watch), None
+        is_matroska = kind_of(head) is not None
+        failed: Optional[Failed] = None
+        if is_matroska and elements.damage(file, watch=watch or containers.NOBODY) is None:
+            try:
+                return taken_out(given, folder, name, "WebM or Matroska", False, watch), None
+            except Failed as error:
+                failed = error
         file.seek(0)
         data = file.read()
-    found = blocks.find(data, watch or containers.NOBODY)
-    is_matroska = kind_of(head) is not None or blocks.video_track(found) is not None
-    if not is_matroska or not (found.gaps or blocks.damage(data)):
-        return (taken_out(given, folder, name, "WebM or Matroska", False, watch) if is_matroska else given), None
-    if not found.gaps:
-        # It ends between two blocks, and before its end.
-        found.gaps.append((len(data), len(data), len(found.blocks)))
-    out = new_name(folder, "ivf")
-    sought = blocks.as_file(found, given, out, webm.blocks_of(given, data))
-    lost = "" if found.tracks else "; what it says of its tracks is lost"
+    found = elements.find(data, watch or containers.NOBODY)
+    if found is not None:
+        return whole_of(found, data, given, folder, name)
+    if is_matroska:
+        raise failed or NotIvf("no packet of VP8 was found in it")
+    return given, None
+
+
+def whole_of(found: elements.Found, data: bytes, given: AnyPath, folder: str, name: str) -> tuple[str, Searched]:
+    """The packets of a damaged file, as `searched` has them."""
+    ending = os.path.splitext(os.fsdecode(given))[1]
+    made, out = f"{new_name(folder, 'whole')}{ending}", new_name(folder, "ivf")
+    found.write(data, made)
+    try:
+        read(made, out, name, "WebM or Matroska", containers.NOBODY)
+    except Failed:
+        # What it says of its sound is damaged.
+        found.without_sound().write(data, made)
+        read(made, out, name, "WebM or Matroska", containers.NOBODY)
+    with open(out, "rb") as file:
+        head = ivf.read_index(file.fileno())[0]._replace(width=found.size[0], height=found.size[1])
+    packets = [
+        salvage.Found(row.stamp, data[row.place : row.place + row.size], row.place)
+        for row in found.rows
+        if row.track == found.video
+    ]
+    places = [packet.place for packet in packets]
+    gaps = [salvage.Gap(start, end, bisect.bisect_left(places, start)) for start, end in found.damage.gaps]
+    lost = "" if found.has_tracks else "; what it says of its tracks is lost"
     say(
         f"{name} is a damaged WebM or Matroska file: its packets were"
         f" searched{sound_text(containers.media_of(out))}{lost}"
     )
-    return out, Searched(*sought, len(data))
+    return out, Searched(head, packets, gaps, len(data))
 
 
 def taken_out(path: AnyPath, folder: str, name: str, kind: str, is_quiet: bool, watch: Optional[Watch] = None) -> str:
@@ -227,20 +254,11 @@ def damage_of(path: AnyPath, name: str, kind: str, watch: Watch = containers.NOB
     """Sentences about the damage of a file: the programs that read one go on after it, or end, and do not always say
     so.
     """
+    if kind == "WebM or Matroska":
+        return elements.damage_of(programs.find("vp8list"), os.fsdecode(path), name, watch)
     with open(path, "rb") as file, mmap.mmap(file.fileno(), 0, access=mmap.ACCESS_READ) as data:
-        size = len(data)
-        found = (
-            blocks.damage(data, watch)
-            if kind == "WebM or Matroska"
-            else blocks.Damage(size, True)
-            if ends.is_cut(kind, data)
-            else None
-        )
-    if found is None:
-        return []
-    if found.is_cut:
-        return [f"{name} ends in the middle, after {size:,} bytes: the packets that followed are missing"]
-    return [f"{name} is damaged at byte {found.place:,}: packets may be missing"]
+        size, is_cut = len(data), ends.is_cut(kind, data)
+    return [f"{name} ends in the middle, after {size:,} bytes: the packets that followed are missing"] if is_cut else []
 
 
 def sound_text(media: Optional[containers.Media]) -> str:

@@ -19,7 +19,7 @@ from ..errors import NotIvf, NotVideo
 from ..base import checks, programs, rooms
 from ..base.checks import AnyBytes, AnyPath
 from ..base.progress import Copied, Reading
-from ..media import containers, ivf, looks, times, webm
+from ..media import containers, elements, ivf, looks, times, webm
 from ..media.ivf import Rate
 from ..media.webm import AnyMedia
 from . import convert
@@ -204,7 +204,9 @@ class Input:
             return containers.damage_of(self.path)
         with self.damaging:
             if self.known_damage is None:
-                self.known_damage = webm.damage_of(self.tools[0], *self.readable(), containers.name_of(self.path))
+                self.known_damage = elements.damage_of(
+                    self.tools[1], self.readable()[0], containers.name_of(self.path)
+                )
             return self.known_damage
 
     def left(self) -> int:

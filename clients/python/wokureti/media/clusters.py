@@ -1,0 +1,128 @@
+"""The times of the blocks of a damaged WebM or Matroska file. A block has a time after that of its cluster, and either
+may be lost, or made another by damage; then the blocks continue those before."""
+
+from __future__ import annotations
+
+import bisect
+import collections
+from statistics import median_low as median
+from typing import Iterator, NamedTuple
+
+# Blocks before one among which its time is looked for, and among which each track has some.
+NEAR, MANY = 9, 1000
+
+
+class Row(NamedTuple):
+    """A block: its first byte after its head, its time in the unit of the file, the bytes that follow, its track."""
+
+    place: int
+    stamp: int
+    size: int
+    track: int
+
+
+def timed(data: bytes, rows: list[Row], breaks: list[int], most: int) -> list[Row]:
+    """The blocks of a file, which are in its order, with times that ascend in each track. After each of the bytes
+    `breaks` the time of a cluster may be lost. A time that is `most` after others is one that damage made so.
+    """
+    return ascending(with_clusters(data, rows, breaks, most), most)
+
+
+def with_clusters(data: bytes, rows: list[Row], breaks: list[int], most: int) -> list[Row]:
+    """The blocks of a file in their order, with times. The blocks of a cluster whose time is lost or wrong continue
+    those before it. After each of the bytes `breaks` the time of a cluster may be lost: then its blocks have that of
+    the cluster before, and their times begin again.
+    """
+    found: list[Row] = []
+    steps, right, left = steps_of(rows), right_ones(rows, most), collections.deque(breaks)
+    groups = list(groups_of(data, rows))
+    for number, group in enumerate(groups):
+        is_right = sum(row.place in right for row in group) * 2 >= len(group)
+        shift = 0 if is_right else after(found, steps, group)
+        # The blocks of the next cluster come later.
+        most = groups[number + 1][0].stamp - group[-1].stamp if number + 1 < len(groups) else most
+        for place, row in enumerate(group):
+            is_broken = False
+            while left and left[0] < row.place:
+                left.popleft()
+                is_broken = place > 0 and len(found) >= NEAR
+            if is_broken and row.stamp + shift < median(one.stamp for one in found[-NEAR:]):
+                more = after(found, steps, group[place:])
+                shift = more if more <= most else shift
+            found.append(row._replace(stamp=row.stamp + shift))
+    return found
+
+
+def groups_of(data: bytes, rows: list[Row]) -> Iterator[list[Row]]:
+    """The blocks of each cluster, by its time."""
+    group: list[Row] = []
+    base = 0
+    for row in rows:
+        time = int.from_bytes(data[row.place - 3 : row.place - 1], "big", signed=True)
+        # A time before 0 is 0.
+        if group and row.stamp - time != base and (row.stamp or time >= 0):
+            yield group
+            group = []
+        base = base if group else row.stamp - time
+        group.append(row)
+    yield from [group] * bool(group)
+
+
+def after(found: list[Row], steps: dict[int, int], group: list[Row]) -> int:
+    """What to add to the times of blocks so that they continue those before."""
+    last = {row.track: row.stamp for row in found[-MANY:]}
+    firsts = {row.track: row.stamp for row in reversed(group)}
+    return max(
+        [last[track] + steps[track] - stamp for track, stamp in firsts.items() if track in last] or [-group[0].stamp]
+    )
+
+
+def steps_of(rows: list[Row]) -> dict[int, int]:
+    """The usual step between the blocks of each track."""
+    steps: dict[int, list[int]] = collections.defaultdict(list)
+    last: dict[int, int] = {}
+    for row in rows:
+        steps[row.track].append(max(0, row.stamp - last.get(row.track, 0)))
+        last[row.track] = row.stamp
+    return {track: median(found) for track, found in steps.items()}
+
+
+def ascending(rows: list[Row], most: int) -> list[Row]:
+    """The blocks with times that ascend in each track: others are a step after the one before."""
+    steps, right = steps_of(rows), right_ones(rows, most)
+    found: list[Row] = []
+    last: dict[int, int] = {}
+    for row in rows:
+        stamp = row.stamp if row.place in right else last.get(row.track, -steps[row.track]) + steps[row.track]
+        last[row.track] = max(0, stamp)
+        found.append(row._replace(stamp=last[row.track]))
+    return found
+
+
+def right_ones(rows: list[Row], most: int) -> set[int]:
+    """The places of blocks whose times ascend in their track: as many as possible. Those that are `most` after a
+    quarter of them are so by damage.
+    """
+    found = set()
+    for track in {row.track for row in rows}:
+        mine = [row for row in rows if row.track == track]
+        limit = sorted(row.stamp for row in mine)[len(mine) // 4] + most
+        mine = [row for row in mine if row.stamp <= limit]
+        found |= {mine[place].place for place in longest([row.stamp for row in mine])}
+    return found
+
+
+def longest(stamps: list[int]) -> set[int]:
+    """The places of as many time stamps as possible that ascend."""
+    least: list[int] = []
+    last: list[int] = []
+    before: list[int] = []
+    for place, stamp in enumerate(stamps):
+        at = bisect.bisect_right(least, stamp)
+        before.append(last[at - 1] if at else -1)
+        least[at : at + 1], last[at : at + 1] = [stamp], [place]
+    found, place = set(), last[-1] if last else -1
+    while place >= 0:
+        found.add(place)
+        place = before[place]
+    return found
