@@ -17,9 +17,9 @@ from array import array
 from unittest import mock
 
 from support import SLOW, SMALL, Case, command, packets_of, start, write_packets
-from wokureti.errors import NoSound, NotIvf
+from wokureti.errors import NoSound
 from wokureti.base import programs, progress
-from wokureti.media import blocks, containers, ends, excerpts, ivf, matroska, muxing, opus, sounds, times, webm
+from wokureti.media import containers, ends, excerpts, ivf, matroska, muxing, opus, sounds, times, webm
 from wokureti.session import convert
 from wokureti.tools import paces
 
@@ -106,6 +106,14 @@ def media(path, folder):
     """What ffmpeg reads of a file, and the path of its packets."""
     out = os.path.join(folder, f"read-{len(os.listdir(folder))}.ivf")
     return containers.read_by_ffmpeg(path, out), out
+
+
+def starts(path):
+    """Where the blocks of the video begin."""
+    index = webm.read_index(programs.find("vp8list"), str(path), (), str(path))
+    data = path.read_bytes()
+    # The head of a block: its length has a byte or two here.
+    return [place - (6 if data[place - 6] == 0xA3 else 7) for place in index.starts]
 
 
 def sound_packets(track):
@@ -653,14 +661,12 @@ class HowFar(Case):
             looks = (
                 mock.patch.object(containers, "MANY", 1),
                 mock.patch.object(containers, "PIECE", 100),
-                mock.patch.object(blocks, "MANY", 1),
             )
             with (
                 self.subTest(name),
                 mock.patch.dict(os.environ, self.slow("ffmpeg", "mkvextract") if name != "av" else {}),
                 looks[0],
                 looks[1],
-                looks[2],
             ):
                 with (
                     mock.patch.object(containers, "read_by_core", return_value=False),
@@ -728,10 +734,9 @@ class HowFar(Case):
                 mock.patch.object(watch, "part", slow),
                 mock.patch.object(containers, "PIECE", 1000),
                 mock.patch.object(containers, "MANY", 20),
-                mock.patch.object(blocks, "MANY", 50),
             ):
                 convert.as_ivf(clip("talk.webm"), str(room), is_quiet=True, watch=watch)
-            with mock.patch.object(watch, "part", slow), mock.patch.object(blocks, "MANY", 50):
+            with mock.patch.object(watch, "part", slow), mock.patch.object(containers, "PIECE", 1000):
                 watch.stage("searching")
                 (room / "half.webm").write_bytes(clip("talk.webm").read_bytes()[:60000])
                 convert.searched(room / "half.webm", str(room), watch)
@@ -936,7 +941,7 @@ class Writing(Case):
             session.save(room / "two.webm")
         self.assertEqual((room / "one.webm").read_bytes(), (room / "two.webm").read_bytes())
         with open(room / "one.webm", "rb") as file:
-            told = webm.first(webm.parts_of(file.fileno())[blocks.INFO])
+            told = webm.first(webm.parts_of(file.fileno())[webm.INFO])
         # Muxing and writing application, SegmentUID and date.
         names = (0x4D80, 0x5741, 0x73A4, 0x4461)
         self.assertEqual([told.get(name) for name in names], [b"wokureti", b"wokureti", None, None])
@@ -977,182 +982,6 @@ class Writing(Case):
         self.assertEqual((done.returncode, "Warning" in done.stdout), (0, False))
 
 
-class Blocks(Case):
-    """Damaged files, of packets that are known."""
-
-    def file(self, kind="webm"):
-        """A file of pictures of 40 ms and sound of 20 ms, in clusters, and its blocks."""
-        pictures = [(40 * MS * turn, 1, data[0] & 1 == 0, data) for turn, data in enumerate(packets_of(SMALL) * 10)]
-        sound = [(20 * MS * turn, 2, True, bytes([0xF8]) + turn.to_bytes(60, "big")) for turn in range(240)]
-        entries = [
-            matroska.video(1, (7, 5), 40 * MS),
-            matroska.sound(2, "opus", b"OpusHead\x01\x01\x38\x01" + bytes(9), 48000, 1, 6_500_000, "fre", "Room"),
-        ]
-        parts = {matroska.INFO: matroska.info("", 0), matroska.TRACKS: matroska.element(matroska.TRACKS, *entries)}
-        out = self.folder() / "file"
-        made = sorted(pictures + sound, key=lambda block: block[0])
-        with open(out, "wb") as file:
-            matroska.write(file, kind, parts, made)
-        return out.read_bytes(), [(number, time // MS, data) for time, number, _, data in made]
-
-    def blocks_of(self, data):
-        found = blocks.find(data)
-        return [(block.track, block.time, block.data) for block in found.blocks], found
-
-    def test_a_file_that_is_whole(self):
-        data, made = self.file()
-        found, rest = self.blocks_of(data)
-        self.assertEqual((found, rest.gaps), (made, []))
-        self.assertEqual(
-            {
-                number: (entry.codec, entry.language, entry.title, entry.delay, entry.rate)
-                for number, entry in rest.tracks.items()
-            },
-            {1: ("vp8", "und", "", 0, 0 or 48000), 2: ("opus", "fre", "Room", 6_500_000, 48000)},
-        )
-
-    def test_zeroed_sectors(self):
-        dice = random.Random(7)
-        for turn in range(20):
-            data, made = self.file()
-            data = bytearray(data)
-            start = data.index(bytes.fromhex(matroska.CLUSTER))
-            hit = sorted(dice.randrange(start, len(data) - 600) for _ in range(3))
-            for at in hit:
-                data[at : at + 300] = bytes(300)
-            found, rest = self.blocks_of(bytes(data))
-            # What was hit by no sector is found, but for the block before a gap, whose end leads nowhere. Where the
-            # time of a cluster was hit, it is that of the blocks before, which may have been hit too.
-            times = {(track, data): time for track, time, data in made if track == 2}
-            sound = [block for block in found if block[0] == 2 and bytes(60) not in block[2]]
-            self.assertTrue(rest.gaps)
-            self.assertLessEqual(len(made) - len(found), 3 * 9, (turn, hit))
-            self.assertEqual(
-                [block for block in sound if abs(times[block[0], block[2]] - block[1]) > 120], [], (turn, hit)
-            )
-            self.assertEqual(
-                [
-                    data
-                    for number, _, data in found
-                    if number == 1 and bytes(20) not in data and data not in packets_of(SMALL)
-                ],
-                [],
-            )
-
-    def test_another_time_scale(self):
-        data, made = self.file()
-        place = data.index(bytes.fromhex("2ad7b188"))
-        data = data[: place + 4] + (MS // 10).to_bytes(8, "big") + data[place + 12 :]
-        self.assertEqual(self.blocks_of(data)[0], [(number, time // 10, data) for number, time, data in made])
-
-    @needs_ffmpeg
-    @unittest.skipUnless(shutil.which("mkvmerge"), "mkvmerge is not here")
-    def test_files_of_other_programs_are_whole(self):
-        room = self.folder()
-        for name in ("talk.webm", "vorbis.webm", "two.mkv"):
-            ffmpeg(
-                "-i",
-                clip(name),
-                "-map",
-                "0",
-                "-c",
-                "copy",
-                "-f",
-                "matroska",
-                "-cluster_time_limit",
-                "500",
-                "-live",
-                "1",
-                room / "live.mkv",
-            )
-            subprocess.run(["mkvmerge", "-q", "-o", room / "merged.mkv", clip(name)], check=True, timeout=20 * SLOW)
-            # Blocks with several packets: mkvmerge makes them of sound that is not in a WebM file.
-            ffmpeg("-i", clip(name), "-c:v", "copy", "-c:a", "ac3", room / "other.mkv")
-            subprocess.run(
-                ["mkvmerge", "-q", "-o", room / "laced.mkv", room / "other.mkv"], check=True, timeout=20 * SLOW
-            )
-            wanted = packets_of(media(clip(name), room)[1])
-            for path in (clip(name), room / "live.mkv", room / "merged.mkv", room / "laced.mkv"):
-                found = blocks.find(path.read_bytes())
-                track = blocks.video_track(found)
-                self.assertIsNone(blocks.damage(path.read_bytes()), path.name)
-                self.assertEqual(
-                    (found.gaps, [block.data for block in found.blocks if block.track == track]),
-                    ([], wanted),
-                    path.name,
-                )
-
-    def test_a_file_that_ends_in_the_middle_is_damaged(self):
-        data, _ = self.file()
-        self.assertIsNone(blocks.damage(data))
-        start = data.index(bytes.fromhex(matroska.CLUSTER))
-        for length in range(start + 1, len(data), 37):
-            found = blocks.damage(data[:length])
-            self.assertTrue(found is not None and found.is_cut, length)
-        for at in range(start, start + 4):
-            self.assertEqual(blocks.damage(data[:at] + b"\0" + data[at + 1 :]).is_cut, False)
-
-    def test_the_short_way_finds_the_same_damage(self):
-        """Blocks that are not in a group are read by fewer steps."""
-        dice, (whole, _) = random.Random(3), self.file()
-        starts = [place for place in range(len(whole) - 9) if blocks.simple_end(whole, place) > place]
-        self.assertGreater(len(starts), 300)
-        for turn in range(600):
-            data = bytearray(whole[: dice.randrange(200, 9000)])
-            for _ in range(dice.randrange(5)):
-                # The number, the length, the track of a block, or anything.
-                place = dice.choice((dice.choice(starts) + dice.randrange(5), dice.randrange(len(data)))) % len(data)
-                data[place] = dice.choice((0, 0x1F, 0x20, 0x40, 0x7F, 0x80, 0xFF, dice.randrange(256)))
-            found = blocks.damage(data)
-            with mock.patch.object(blocks, "simple_end", return_value=0):
-                self.assertEqual(found, blocks.damage(data), turn)
-
-    def test_half_of_a_file(self):
-        data, made = self.file()
-        found, rest = self.blocks_of(data[: len(data) // 2])
-        self.assertEqual((found, len(rest.gaps)), (made[: len(found)], 1))
-        self.assertGreater(len(found), len(made) // 2 - 3)
-
-    def test_the_beginning_is_lost(self):
-        data, made = self.file()
-        start = data.index(bytes.fromhex(matroska.CLUSTER))
-        found, rest = self.blocks_of(bytes(start + 4) + data[start + 4 :])
-        self.assertEqual((found, rest.tracks, blocks.video_track(rest)), (made, {}, 1))
-        room = self.folder()
-        head, packets, gaps = blocks.as_file(rest, "", str(room / "out.ivf"))
-        self.assertEqual(
-            (head[:2], [packet.data for packet in packets]), ((7, 5), [data for number, _, data in made if number == 1])
-        )
-        self.assertEqual([gap.after for gap in gaps], [0])
-        [track] = containers.media_of(room / "out.ivf").sounds
-        self.assertEqual(
-            (track.codec, track.channels, sound_packets(track)),
-            ("opus", 1, [data for number, _, data in made if number == 2]),
-        )
-
-    def test_numbers_that_damage_made_great(self):
-        """The time of a cluster, the rate, the channels and the delay of sound."""
-        data, made = self.file()
-        for mark, value in (
-            ("e788", b"\xff" * 8),
-            ("b588", b"\x7f\xf0" + bytes(6)),
-            ("b588", b"\x7f\xf8" + bytes(6)),
-            ("9f88", b"\xff" * 8),
-            ("56aa88", b"\xff" * 8),
-        ):
-            place = data.index(bytes.fromhex(mark)) + len(mark) // 2
-            found = blocks.find(data[:place] + value + data[place + 8 :])
-            _, packets, _ = blocks.as_file(found, "", str(self.folder() / "out.ivf"))
-            self.assertEqual(len(packets), sum(number == 1 for number, _, _ in made), mark)
-
-    def test_bytes_that_are_no_file(self):
-        for data in (b"", b"\xa3", random.Random(1).randbytes(20000), bytes(20000), b"\xa3\x84\x81\x00\x00" * 40):
-            blocks.find(data)
-        out = self.folder() / "out.ivf"
-        with self.assertRaisesRegex(NotIvf, "no packet of VP8"):
-            blocks.as_file(blocks.find(bytes(100)), "", str(out))
-
-
 @needs_ffmpeg
 class Cut(Case):
     """A file that ends in the middle is damage in each command that reads it."""
@@ -1162,7 +991,7 @@ class Cut(Case):
     def cut(self):
         """Half of a WebM file, of two kinds: it ends in a block, and between two."""
         data, room = clip("talk.webm").read_bytes(), self.folder()
-        between = next(block.place for block in blocks.find(data).blocks if block.place > len(data) // 2)
+        between = next(at for at in starts(clip("talk.webm")) if at > len(data) // 2)
         for name, length in (("inside.webm", len(data) // 2 + 1), ("between.webm", between)):
             (room / name).write_bytes(data[:length])
             yield room / name

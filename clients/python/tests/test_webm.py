@@ -14,7 +14,7 @@ from support import SLOW, SMALL, TOP, Case, command, packets_of
 from test_containers import KINDS, clip, ffmpeg, media, needs_ffmpeg, setUpModule, sound_packets  # noqa: F401
 from wokureti import Session
 from wokureti.base import programs
-from wokureti.media import blocks, containers, ivf, muxing, webm
+from wokureti.media import containers, elements, ivf, muxing, webm
 from wokureti.session import convert, exports, inputs, library
 
 sys.path.insert(0, str(TOP / "compare"))
@@ -334,7 +334,7 @@ class Damaged(Case):
     LIMIT = 120
 
     def said(self, path):
-        return webm.damage_of(SERVE, str(path), (), "in.webm")
+        return elements.damage_of(LIST, str(path), "in.webm")
 
     @needs_ffmpeg
     def test_whole_files(self):

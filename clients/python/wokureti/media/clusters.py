@@ -49,7 +49,7 @@ def with_clusters(data: bytes, rows: list[Row], breaks: list[int], most: int) ->
             if is_broken and row.stamp + shift < median(one.stamp for one in found[-NEAR:]):
                 more = after(found, steps, group[place:])
                 shift = more if more <= most else shift
-            found.append(row._replace(stamp=row.stamp + shift))
+            found.append(row._replace(stamp=row.stamp + shift) if shift else row)
     return found
 
 
@@ -93,9 +93,10 @@ def ascending(rows: list[Row], most: int) -> list[Row]:
     found: list[Row] = []
     last: dict[int, int] = {}
     for row in rows:
-        stamp = row.stamp if row.place in right else last.get(row.track, -steps[row.track]) + steps[row.track]
-        last[row.track] = max(0, stamp)
-        found.append(row._replace(stamp=last[row.track]))
+        if row.place not in right or row.stamp < 0:
+            row = row._replace(stamp=max(0, last.get(row.track, -steps[row.track]) + steps[row.track]))
+        last[row.track] = row.stamp
+        found.append(row)
     return found
 
 

@@ -138,15 +138,14 @@ def damage_in(found: Iterable[dict[str, Any]], size: int) -> Optional[Damage]:
 
 
 def damage(file: IO[bytes], lister: Optional[str] = None, watch: Watch = containers.NOBODY) -> Optional[Damage]:
-    """The damage of an open file."""
-    found = findings(lister or programs.find("vp8list"), LISTED, file, watch)
+    """The damage of an open file. An earlier vp8list knows none."""
+    lister = lister or programs.find("vp8list")
+    found = findings(lister, LISTED, file, watch) if programs.says(lister, "WebM") else ()
     return damage_in(found, file.seek(0, os.SEEK_END))
 
 
 def damage_of(lister: str, path: str, name: str, watch: Watch = containers.NOBODY) -> list[str]:
     """Sentences about the damage of a file."""
-    if not programs.says(lister, "WebM"):
-        return []
     with open(path, "rb") as file:
         found = damage(file, lister, watch)
     return [] if found is None else found.sentences(name)
@@ -187,8 +186,15 @@ class Found(NamedTuple):
 
 def find(data: bytes, watch: Watch = containers.NOBODY) -> Optional[Found]:
     """What is in a file; None if no packet of VP8 is."""
-    found = list(findings(programs.find("vp8list"), UNLISTED, io.BytesIO(data), watch))
-    flags = [(one["track"], place) for one in found for place in flags_of(data, one)]
+    lister = programs.find("vp8list")
+    if not programs.says(lister, "WebM"):
+        return None
+    found, flags = [], []
+    for one in findings(lister, UNLISTED, io.BytesIO(data), watch):
+        if one["kind"] == "unlisted_block":
+            flags += flags_of(data, one["byte"], one["track"])
+        else:
+            found.append(one)
     own = entries_of(data)
     video, size = video_of(data, own, flags)
     if video is None:
@@ -197,17 +203,17 @@ def find(data: bytes, watch: Watch = containers.NOBODY) -> Optional[Found]:
     whole, scale = bytearray(data), scale_of(data)
     for _, place in flags:
         whole[place] &= ~LACING
-    rows = sorted(row for track in entries for row in rows_of(whole, track))
+    rows = sorted(row for track in entries for row in rows_of(lister, whole, track))
     gaps = damage_in(found, len(data)) or Damage(len(data), [], None, False)
     breaks = [one["byte"] for one in found if one["kind"] in ("skipped", "cluster_without_time")]
     rows = timed(data, rows, sorted(breaks), MOST_LEAP * webm.MS // scale)
     return Found(gaps, entries, video, scale, rows, size, bool(own))
 
 
-def rows_of(data: Data, track: int) -> list[Row]:
+def rows_of(lister: str, data: Data, track: int) -> list[Row]:
     """The blocks of a track that have one packet."""
     start = beginning([entry(track, "V_VP8")])
-    with asked(programs.find("vp8list"), start, io.BytesIO(data), (), containers.NOBODY) as lines:
+    with asked(lister, start, io.BytesIO(data), (), containers.NOBODY) as lines:
         index = webm.parsed(lines)
     return [
         Row(place - len(start), stamp, size, track)
@@ -231,12 +237,11 @@ def video_of(data: bytes, own: Entries, flags: Flags) -> tuple[Optional[int], tu
     return most, keys[most][0] if most is not None else (0, 0)
 
 
-def flags_of(data: bytes, found: dict[str, Any]) -> Iterator[int]:
-    """Where the flags of a block are that is of a track which is not listed."""
-    if found["kind"] == "unlisted_block" and found["track"] < NO_TRACK:
-        length = webm.number_at(data, found["byte"] + 1, False)
-        if length is not None and data[length[1]] & KEY:
-            yield length[1] + 3
+def flags_of(data: bytes, place: int, track: int) -> Flags:
+    """The track of a block at a place, and where its flags are; nothing if its number has more than a byte."""
+    length = webm.number_at(data, place + 1, False)
+    is_short = track < NO_TRACK and length is not None and data[length[1]] & KEY
+    return [(track, length[1] + 3)] if length is not None and is_short else []
 
 
 def content_of(data: bytes, name: str) -> Iterator[bytes]:
@@ -250,9 +255,17 @@ def content_of(data: bytes, name: str) -> Iterator[bytes]:
 
 def scale_of(data: bytes) -> int:
     """The nanoseconds of the unit of time that a file names, or those of most files."""
-    found = next(content_of(data, matroska.INFO), b"")
-    scale = webm.value_of(webm.first(found).get(webm.SCALE), webm.MS)
-    return scale if 0 < scale < 1 << 32 else webm.MS
+    for text in content_of(data, matroska.INFO):
+        # A SeekHead has the name too.
+        scale = webm.value_of(webm.first(text).get(webm.SCALE), 0) if is_whole(text) else 0
+        if 0 < scale < 1 << 32:
+            return scale
+    return webm.MS
+
+
+def is_whole(text: bytes) -> bool:
+    """Whether elements are all that is in an element."""
+    return all(name is not None for name, _ in webm.children(text))
 
 
 def entries_of(data: bytes) -> Entries:
@@ -262,11 +275,7 @@ def entries_of(data: bytes) -> Entries:
         for name, content in webm.children(text):
             facts = webm.first(content) if name == webm.ENTRY else {}
             number = webm.value_of(facts.get(webm.NUMBER), 0)
-            if (
-                0 < number < NO_TRACK
-                and all(one is not None for one, _ in webm.children(content))
-                and CODEC.fullmatch(codec_of(facts))
-            ):
+            if 0 < number < NO_TRACK and CODEC.fullmatch(codec_of(facts)) and is_whole(content):
                 found.setdefault(number, (facts, bytes(content)))
         if found:
             return found

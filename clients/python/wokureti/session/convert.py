@@ -158,7 +158,10 @@ def searched(
         failed: Optional[Failed] = None
         if is_matroska and elements.damage(file, watch=watch or containers.NOBODY) is None:
             try:
-                return taken_out(given, folder, name, "WebM or Matroska", False, watch), None
+                out = taken_out(given, folder, name, "WebM or Matroska", False, watch)
+                # Of a track that has another number in the file nothing is taken out.
+                if os.path.getsize(out) > ivf.HEAD.size:
+                    return out, None
             except Failed as error:
                 failed = error
         file.seek(0)
@@ -174,27 +177,25 @@ def searched(
 def whole_of(found: elements.Found, data: bytes, given: AnyPath, folder: str, name: str) -> tuple[str, Searched]:
     """The packets of a damaged file, as `searched` has them."""
     ending = os.path.splitext(os.fsdecode(given))[1]
-    made, out = f"{new_name(folder, 'whole')}{ending}", new_name(folder, "ivf")
+    made, out, unread = f"{new_name(folder, 'whole')}{ending}", new_name(folder, "ivf"), ""
     found.write(data, made)
     try:
         read(made, out, name, "WebM or Matroska", containers.NOBODY)
     except Failed:
-        # What it says of its sound is damaged.
+        # ffmpeg reads no file that has sound without what a decoder of it begins with.
+        unread = "; its sound cannot be read"
         found.without_sound().write(data, made)
         read(made, out, name, "WebM or Matroska", containers.NOBODY)
     with open(out, "rb") as file:
         head = ivf.read_index(file.fileno())[0]._replace(width=found.size[0], height=found.size[1])
-    packets = [
-        salvage.Found(row.stamp, data[row.place : row.place + row.size], row.place)
-        for row in found.rows
-        if row.track == found.video
-    ]
+    pictures = [row for row in found.rows if row.track == found.video]
+    packets = [salvage.Found(row.stamp, data[row.place : row.place + row.size], row.place) for row in pictures]
     places = [packet.place for packet in packets]
     gaps = [salvage.Gap(start, end, bisect.bisect_left(places, start)) for start, end in found.damage.gaps]
     lost = "" if found.has_tracks else "; what it says of its tracks is lost"
     say(
         f"{name} is a damaged WebM or Matroska file: its packets were"
-        f" searched{sound_text(containers.media_of(out))}{lost}"
+        f" searched{sound_text(containers.media_of(out))}{lost}{unread}"
     )
     return out, Searched(head, packets, gaps, len(data))
 
