@@ -4,9 +4,10 @@ the defined order.
 
 The order is that of crates/state_cache/specs/Evictions.antt: a cached outcome saves as many steps as the packets that
 it is after the one cached before it in its run, times those that it is before the one after it; its age is 1 and the
-uses since it was used. The one that saves least over its age is dropped, the first among equals. The model here keeps
-each run as a list, and knows nothing of how the program does it. It prints what differs and ends with 1, or prints
-nothing and ends with 0.
+uses since it was used. The one that saves least over its age is dropped, the first among equals. With a limit in bytes
+that is one of those before the newest, which is cached then, and no more are dropped than are over the limit. The model
+here keeps each run as a list, and knows nothing of how the program does it. It prints what differs and ends with 1, or
+prints nothing and ends with 0.
 """
 
 import os
@@ -23,6 +24,8 @@ sys.path.insert(0, str(TOP / "compare"))
 from library.ivf import ivf  # noqa: E402
 
 KEY, INTER = bytes.fromhex("1000009D012A10001000"), bytes.fromhex("110000")
+# A state of 16x16 has four pictures, each with a border of 32 samples around its planes.
+STATE = 4 * (80 * 80 + 2 * 72 * 72)
 REQUESTS, LIMIT = 300, 120
 
 
@@ -42,8 +45,8 @@ class Cache:
     that is dropped.
     """
 
-    def __init__(self, keys, capacity):
-        self.keys, self.capacity = keys, capacity
+    def __init__(self, keys, capacity, has_limit):
+        self.keys, self.capacity, self.has_limit = keys, capacity, has_limit
         self.kept, self.runs, self.used = [], {}, {}
         self.uses = self.steps = 0
 
@@ -58,10 +61,10 @@ class Cache:
         after = run.cached[at + 1] if at + 1 < len(run.cached) else run.last + 1
         return (packet - before) * (after - packet)
 
-    def victim(self):
+    def victim(self, among):
         """The outcome that saves least over its age; fractions are compared by their products."""
-        least = self.kept[0]
-        for packet in self.kept[1:]:
+        least = among[0]
+        for packet in among[1:]:
             if self.saved(packet) * self.age(least) < self.saved(least) * self.age(packet):
                 least = packet
         return least
@@ -80,13 +83,15 @@ class Cache:
         self.steps += 1
         if before is not None:
             self.use(before)
-        victim = self.victim() if len(self.kept) == self.capacity else None
+        victim = self.victim(self.kept) if len(self.kept) == self.capacity and not self.has_limit else None
         run = Run(packet - 1, packet) if before is None else self.runs[before]
         run.cached = sorted([*run.cached, packet])
         run.last = max(run.last, packet)
         self.runs[packet] = run
         self.kept.append(packet)
         self.use(packet)
+        if len(self.kept) > self.capacity and self.has_limit:
+            victim = self.victim(self.kept[:-1])
         if victim is not None:
             self.drop(victim)
 
@@ -116,19 +121,21 @@ def difference(seed, capacity, folder):
     count, keys, frames = case(seed)
     stream = folder / f"{seed}.ivf"
     stream.write_bytes(ivf(16, 16, [KEY if packet in keys else INTER for packet in range(count)]))
-    cache, wanted = Cache(keys, capacity), []
-    for packet in frames:
-        cache.frame(packet)
-        wanted += [f"served {packet}", f"decoded {cache.steps}"]
     lines = "".join(f"frame {packet}\nstats\n" for packet in frames)
-    words = [os.environ["VP8SERVE"], stream, "--cache", str(capacity)]
-    done = subprocess.run(words, input=lines.encode(), capture_output=True, timeout=LIMIT, check=False)
-    got = done.stdout.decode().splitlines()
-    if (done.returncode, done.stderr) != (0, b"") or len(got) != len(wanted):
-        return f"stream {seed}, {capacity} states: status {done.returncode}, {len(got)} replies, {done.stderr!r:.200}"
-    for number, (one, other) in enumerate(zip(got, wanted)):
-        if one != other:
-            return f"stream {seed}, {capacity} states: reply {number + 1} is {one}, not {other}"
+    least = capacity * STATE
+    for words in (["--cache", str(capacity)], ["--cache-bytes", str(least)], ["--cache-bytes", str(least + STATE - 1)]):
+        cache, wanted = Cache(keys, capacity, words[0] == "--cache-bytes"), []
+        for packet in frames:
+            cache.frame(packet)
+            wanted += [f"served {packet}", f"decoded {cache.steps}"]
+        asked = [os.environ["VP8SERVE"], stream, *words]
+        done = subprocess.run(asked, input=lines.encode(), capture_output=True, timeout=LIMIT, check=False)
+        got = done.stdout.decode().splitlines()
+        if (done.returncode, done.stderr) != (0, b"") or len(got) != len(wanted):
+            return f"stream {seed}, {words}: status {done.returncode}, {len(got)} replies, {done.stderr!r:.200}"
+        for number, (one, other) in enumerate(zip(got, wanted)):
+            if one != other:
+                return f"stream {seed}, {words}: reply {number + 1} is {one}, not {other}"
     return None
 
 
