@@ -1,11 +1,12 @@
 // The program over files in memory, of which its contract says all bytes.
 ghost use Rattle.std.specs.Prelude.{◌≡◌, ℕ, List, Option, None, OnOk, Some, codes, if◌then◌else◌, nat_eq, option_map};
 ghost use Rattle.std.specs.Cmp.Lexicographic.{pointwise};
+ghost use Rattle.output_files.specs.declared.places.Kind.TheVariants.{File};
 
 use crate::expected::{CODED, NONE, ONE, OPENING, push_frame};
 use crate::runs::frame_with;
 use command_lines::NamedFiles;
-use output_files::{Kind, OneUnsaved, Place, PlacedFiles, Save, SavedFiles, SavedText, Unsaved};
+use output_files::{OneUnsaved, Place, PlacedFiles, Save, SavedFiles, SavedText, Unsaved};
 use serve_program::{parse, serve};
 use std::alloc::{AllocError, Allocator, Global};
 use std::cell::Cell;
@@ -117,7 +118,7 @@ impl<'a> NamedFiles for Memory<'a> {
 
 /// Each path names a file of its own.
 impl PlacedFiles for Memory<'_> {
-    ghost place_at = { λ _ path. Some (Some (record { device = 1; inode = 2; name = path; kind = Kind.File })) };
+    ghost place_at = { λ _ path. Some (Some (record { device = 1; inode = 2; name = path; kind = File })) };
 
     fn place_of(&self, alloc: Global, path: &str) -> Result<Option<Place>, AllocError> {
         let name = String::from_str(alloc, path)?;
