@@ -264,7 +264,7 @@ class Otherwise(Case):
                 mock.patch.object(containers, "has_ffmpeg", return_value=False),
                 mock.patch("wokureti.session.convert.say") as say,
             ):
-                self.assertEqual(convert.readable(clip(name), str(room)), clip(name))
+                self.assertEqual(convert.readable(clip(name), str(room)), str(clip(name)))
                 self.assertEqual(
                     [call.args[0] for call in say.call_args_list],
                     [f"the sound of {clip(name)} is left out: install ffmpeg for that"] if name == "talk.webm" else [],
