@@ -17,7 +17,6 @@ import re
 import subprocess
 import sys
 import tempfile
-import time
 
 TOP = pathlib.Path(__file__).resolve().parent.parent
 sys.dont_write_bytecode = True
@@ -44,6 +43,12 @@ def expect(name, got, wanted):
 def ran(*words, lines=b"", program=SERVE):
     done = subprocess.run([program, *words], input=lines, capture_output=True, timeout=LIMIT, check=False)
     return done.returncode, done.stdout, done.stderr
+
+
+def taken():
+    """The processor time of the programs that have ended, which other work on the machine makes little longer."""
+    times = os.times()
+    return times.children_user + times.children_system
 
 
 def forged():
@@ -86,9 +91,9 @@ def asked_again():
     for question in (f"check {LONG - 1} 1", f"list {LONG - 1} 1", f"header {LONG - 1}", f"macroblocks {LONG - 1}"):
         times = []
         for count in (1, 201):
-            start = time.monotonic()
+            start = taken()
             status, told, errors = ran("long.ivf", lines=f"{question}\n".encode() * count)
-            times.append(time.monotonic() - start)
+            times.append(taken() - start)
             expect(f"{count} times {question}", (status, told.count(b"lines "), errors), (0, count, b""))
         if times[1] > 10 * times[0] + 5:
             wrong.append(f"{question}: once {times[0]:.1f} s, 201 times {times[1]:.1f} s")
@@ -138,9 +143,9 @@ def exported_once(key, inter):
     times = []
     for count in (0, 3000):
         pathlib.Path("mixed.ivf").write_bytes(ivf(16, 16, [large, key] + [inter] * count))
-        start = time.monotonic()
+        start = taken()
         expect(f"export of {count} small frames", ran("mixed.ivf", "-", "-", "--export", "part.ivf"), (0, b"", b""))
-        times.append(time.monotonic() - start)
+        times.append(taken() - start)
     if times[1] > 10 * times[0] + 5:
         wrong.append(f"an export of 2 frames takes {times[0]:.1f} s, of 3,002 frames {times[1]:.1f} s")
 
