@@ -53,7 +53,7 @@ def taken():
 
 def forged():
     """A key packet of 16x16 and an inter packet that repeats its picture, both without findings."""
-    ran("-", "-", "-", "--save", "forged.ivf", lines=b"blank 0 16 16\nhold 1\n")
+    ran("-", "-", "-", "--save", "forged.ivf", "--pad", lines=b"blank 0 16 16\nhold 1\n")
     return list(packets_of(pathlib.Path("forged.ivf").read_bytes()))
 
 
