@@ -13,7 +13,7 @@ use Rattle.serve_arguments.specs.declared.words.Words.{Words}
 use Rattle.serve_program.specs.Done.{IsNotBegun, IsRunFault}
 use Rattle.serve_program.specs.Endings.{AreLiveReplied, AreLiveStopped, AreReplied, AreStopped, IsBatchEnded, IsEnded, IsLiveEnded, OfSources, RunFiles, fault_by_live}
 
-no_one_is_2 : 1 ≡ 2 → ⊥
+no_one_is_2 : ◌≡◌ {A = ℕ} 1 2 → ⊥
 no_one_is_2 is = omega (arith, is)
 
 module _ (files : RunFiles) (line : Accepted) (left left' r r' : Option (List ℕ)) where
