@@ -22,12 +22,14 @@ from . import containers, ivf, matroska, opus, webm
 from .clusters import Row, timed
 from .webm import Data
 
-# The names of a track's entry, of a block, and of one in a group; the number that is of no track of a file.
-ENTRY, BLOCK, OTHER_BLOCK, NO_TRACK = "ae", 0xA3, 0xA1, 127
+# The name of a track's entry; the number that is of no track of a file.
+ENTRY, NO_TRACK = "ae", 127
 # The bits of a block that say that it has several packets; the one of a key packet, and of a number of one byte.
 LACING, KEY = 6, 0x80
 # A track whose entry is lost has more blocks than this part of all: fewer are made so by damage.
 LEAST_PART = 50
+# The longest file that vp8list reads.
+MOST_BYTES = 1 << 30
 # The longest time in milliseconds after a quarter of the blocks: a later one was made so by damage.
 MOST_LEAP = 7 * 24 * 3600 * 1000
 # The names of a track's language and title; the nanoseconds of a frame, at most; the name of a codec.
@@ -87,23 +89,31 @@ class Damage(NamedTuple):
         return [f"{name} is damaged at byte {place:,}: {count:,} bytes are skipped, and packets may be missing"]
 
 
+@contextlib.contextmanager
+def fed(process: subprocess.Popen[bytes]) -> Iterator[IO[bytes]]:
+    """The pipe from which a program reads. It reads no more of a file that it refuses."""
+    assert process.stdin is not None
+    try:
+        with contextlib.suppress(BrokenPipeError):
+            yield process.stdin
+    finally:
+        with contextlib.suppress(BrokenPipeError):
+            process.stdin.close()
+
+
 def asked(lister: str, start: bytes, file: IO[bytes], words: Iterable[str], watch: Watch) -> IO[bytes]:
     """What vp8list prints of a file after another beginning. `watch` hears how much of it was read."""
     out, size, done = tempfile.TemporaryFile(), file.seek(0, os.SEEK_END), 0
     file.seek(0)
     with tempfile.TemporaryFile() as errors:
         with subprocess.Popen([lister, "-", *words], stdin=subprocess.PIPE, stdout=out, stderr=errors) as process:
-            assert process.stdin is not None
             with programs.ending(process):
-                # It reads no more if it refuses the file.
-                with contextlib.suppress(BrokenPipeError):
-                    process.stdin.write(start)
+                with fed(process) as pipe:
+                    pipe.write(start)
                     while piece := file.read(containers.PIECE):
-                        process.stdin.write(piece)
+                        pipe.write(piece)
                         done += len(piece)
                         watch.part(done, size)
-                with contextlib.suppress(BrokenPipeError):
-                    process.stdin.close()
                 process.wait(containers.MOST_TIME)
         if process.returncode not in (0, 1):
             errors.seek(0)
@@ -139,9 +149,9 @@ def damage_in(found: Iterable[dict[str, Any]], size: int) -> Optional[Damage]:
 
 def damage(file: IO[bytes], lister: Optional[str] = None, watch: Watch = containers.NOBODY) -> Optional[Damage]:
     """The damage of an open file. An earlier vp8list knows none."""
-    lister = lister or programs.find("vp8list")
-    found = findings(lister, LISTED, file, watch) if programs.says(lister, "WebM") else ()
-    return damage_in(found, file.seek(0, os.SEEK_END))
+    lister, size = lister or programs.find("vp8list"), file.seek(0, os.SEEK_END)
+    start = LISTED if size + len(LISTED) <= MOST_BYTES else b""
+    return damage_in(findings(lister, start, file, watch) if programs.says(lister, "WebM") else (), size)
 
 
 def damage_of(lister: str, path: str, name: str, watch: Watch = containers.NOBODY) -> list[str]:
