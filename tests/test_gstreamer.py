@@ -6,7 +6,6 @@ The library is that of the variable LIBWOKURETI, or bin/libwokureti.so.0. It pri
 prints nothing and ends with 0; a line `skipped: ..` names what could not be run.
 """
 
-import ctypes
 import hashlib
 import os
 import pathlib
@@ -69,11 +68,6 @@ def compiled(folder, more=()):
     if done.returncode != 0:
         raise SystemExit(f"the plugin does not compile: {done.stderr}")
     return folder
-
-
-def reads_webm():
-    """Whether the library reads WebM files: 0.15.0 and later."""
-    return ctypes.CDLL(str(LIBRARY)).wk_version() >= 1500
 
 
 class Room:
@@ -244,9 +238,6 @@ def rates(room):
         ("webm", None, 40, Fraction(25), 48),
         ("thirty", None, Fraction(100, 3), Fraction(30), 48),
     ):
-        if head is None and not reads_webm():
-            print(f"skipped: the rate of {name}: the library is an earlier one, which reads no WebM files")
-            continue
         path, stamps = room.folder / f"rate-{name}", [round(n * step) for n in range(count)]
         data = (packets * 50)[:count]
         path.write_bytes(
@@ -282,8 +273,6 @@ def varying(room):
         ("trim 0 5 30; crop 1 0 0 320 90; fade 2 0 9 0 256", range(5, 35)),
         ("parts 0 20 4 0 8 4", [*range(20, 24), *range(8, 12)]),
     ):
-        if script and script.startswith("parts") and not reads_webm():
-            continue
         begins = [sum(steps[number] for number in shown[:place]) * milli for place in range(len(shown))]
         # The last one lasts as long as one of the rate.
         ends = [*begins[1:], begins[-1] + 40 * milli]
@@ -475,11 +464,7 @@ def guide(folder):
     data = [data for _, data in packets] * 4
     (folder / "a.ivf").write_bytes(b"".join(ivf.pieces(head, len(data), list(enumerate(data)))))
     # The contents of a file and not its name are what is looked at.
-    (folder / "b.webm").write_bytes(
-        webm([data for _, data in packets], [40 * place for place in range(len(packets))])
-        if reads_webm()
-        else CLIP.read_bytes()
-    )
+    (folder / "b.webm").write_bytes(webm([data for _, data in packets], [40 * place for place in range(len(packets))]))
     build, use = guides.blocks("GStreamer")
     for text in ["autovideosink", "gst-play-1.0 "]:
         if text not in use:

@@ -8,7 +8,6 @@ with 0; a line `skipped: ..` names what could not be run.
 """
 
 import copy
-import ctypes
 import itertools
 import os
 import pathlib
@@ -309,11 +308,6 @@ def order():
             yield f"{name} has the number {numbers.get(name)} in vapoursynth4.h"
 
 
-def reads_webm():
-    """Whether the library reads WebM files: 0.15.0 and later."""
-    return ctypes.CDLL(str(LIBRARY)).wk_version() >= 1500
-
-
 def sizes(host, folder):
     """A frame of another size than the first one is an error, with both sizes, and the others are served."""
     clip, other = DATA / "scene-cuts.ivf", folder / "other.ivf"
@@ -346,12 +340,9 @@ def rates(host, folder):
     for step, rate in ((Fraction(100, 3), "30/1"), (40, "25/1"), (Fraction(125, 3), "24/1")):
         stamps = [round(place * step) for place in range(len(data))]
         texts = {
-            "ivf": b"".join(ivf.pieces(ivf.Head(head.width, head.height, 1000, 1), len(data), list(zip(stamps, data))))
+            "ivf": b"".join(ivf.pieces(ivf.Head(head.width, head.height, 1000, 1), len(data), list(zip(stamps, data)))),
+            "webm": webm(data, stamps),
         }
-        if reads_webm():
-            texts["webm"] = webm(data, stamps)
-        else:
-            print(f"skipped: WebM at {rate}: the library is an earlier one, which reads no WebM files")
         for name, text in texts.items():
             path = folder / f"rate.{name}"
             path.write_bytes(text)

@@ -26,7 +26,6 @@ from library.ivf import records  # noqa: E402
 from library.webm import webm  # noqa: E402
 from wokureti import Session  # noqa: E402
 from wokureti.base import programs  # noqa: E402
-from wokureti.session import library  # noqa: E402
 
 SERVE = os.environ.get("VP8SERVE") or str(TOP / "bin/vp8serve")
 LIBRARY = pathlib.Path(os.environ.get("LIBWOKURETI") or TOP / "bin/libwokureti.so.0")
@@ -207,7 +206,7 @@ def without_library():
     if not LIBRARY.is_file():
         return "the library is not built: ./build.py --library makes it"
     os.environ["LIBWOKURETI"] = str(LIBRARY)
-    return None if library.reads_webm() else "the library is an earlier one, which reads no WebM files"
+    return None
 
 
 def main():

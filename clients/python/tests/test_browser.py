@@ -199,8 +199,7 @@ class Lists(BrowserCase):
         path = self.folder() / "list.csv"
         path.write_text(text.splitlines()[1])
         BROWSER.type("#cuts-file", str(path))
-        wanted = exports.known("parts 0 7 2", programs.find("vp8serve"))
-        self.wait(f"wokureti.model.session.script === '{wanted}'")
+        self.wait("wokureti.model.session.script === 'parts 0 7 2'")
         path.write_text("soon")
         BROWSER.type("#cuts-file", str(path))
         self.wait("document.querySelector('#notices [data-id=cuts]')")

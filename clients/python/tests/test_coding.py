@@ -20,9 +20,8 @@ from support import CLIP, SLOW, Case, command, frames_of, packets_of, start
 from test_page import PageCase
 from wokureti import Session
 from wokureti.errors import Stopped
-from wokureti.base import programs
 from wokureti.media import containers, fades, ivf, opus
-from wokureti.session import convert, exports
+from wokureti.session import convert
 from wokureti.session.origins import Run
 from wokureti.tools import coding
 from wokureti.tools.coding import Piece
@@ -320,9 +319,8 @@ class Levels(Case):
     """How much of a picture fades show, by the samples that the program serves."""
 
     def test_weights_are_those_of_the_pictures(self):
-        script = exports.known(
-            "trim 0 5 30; fade 1 3 8 256 64; trim 0 0 6; fade 3 0 4 0 256; splice 2 4; parts 5 20 16 2 0 7 0 40 100",
-            programs.find("vp8serve"),
+        script = (
+            "trim 0 5 30; fade 1 3 8 256 64; trim 0 0 6; fade 3 0 4 0 256; splice 2 4; parts 5 20 16 2 0 7 0 40 100"
         )
         last = script.count(";") + 1
         script += f"; fade {last} 10 5 256 32; fade {last + 1} 12 60 256 128"

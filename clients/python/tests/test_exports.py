@@ -129,16 +129,6 @@ class Places(Case):
         ):
             with self.assertRaisesRegex(Failed, why):
                 exports.cut_script(found, parts)
-        with mock.patch.object(exports, "knows_parts", return_value=False):
-            # What a program that has no parts is given.
-            self.assertEqual(exports.known("parts 0 3 5", ""), "trim 0 3 5")
-            self.assertEqual(
-                exports.known("source 1; parts 0 0 2 1 5 7 0 0 1", ""),
-                "source 1; trim 0 0 2; trim 1 5 7; trim 0 0 1; splice 2 3; splice 5 4",
-            )
-            self.assertEqual(exports.known("trim 0 0 1", ""), "trim 0 0 1")
-            with self.assertRaisesRegex(Failed, "no script for 9 parts: install a newer vp8serve"):
-                exports.known("parts" + " 0 1 1" * 9, "")
         self.assertEqual(
             [exports.join_script(count) for count in (1, 2, 3)],
             [
@@ -504,20 +494,13 @@ class OnThePage(test_page.PageCase, EndlessCase):
             )
             revision = self.live.revision
             status, _, answer = self.post_to("/task", kind="cuts", text=body.decode())
-            self.assertIn(
-                (status, json.loads(answer)["script"]),
-                ((200, exports.known(parts, programs.find("vp8serve"))), (200, script)),
-            )
+            self.assertEqual((status, json.loads(answer)["script"]), (200, parts))
             self.assertEqual(self.live.revision, revision)
         self.step("script -")
         self.assertEqual(self.ask("/file/cuts.csv")[2].decode().count("\n"), 1)
         for text in ("soon", "1000,2000", ""):
             self.assertEqual(self.post_to("/task", kind="cuts", text=text)[0], 409, text)
-        # A program without the node `parts` has trims and splices, and too few nodes for nine parts.
-        self.assertEqual(
-            self.post_to("/task", kind="cuts", text="0,0.01\n" * 9)[0],
-            200 if exports.knows_parts(programs.find("vp8serve")) else 409,
-        )
+        self.assertEqual(self.post_to("/task", kind="cuts", text="0,0.01\n" * 9)[0], 200)
         self.assertEqual((self.post_to("/task", kind="cuts", text=3)[0], self.ask("/file/cuts.csv?x=1")[0]), (400, 400))
 
     def test_an_export_that_nobody_waits_for_ends(self):

@@ -22,12 +22,6 @@ from library.webm import webm as webm_of  # noqa: E402
 
 MADE = TOP / "crates/gate_webm/data"
 SERVE, LIST = programs.find("vp8serve"), programs.find("vp8list")
-READ = (
-    programs.says(SERVE, "WebM")
-    and programs.says(LIST, "WebM")
-    and (os.environ.get("WOKURETI_ENGINE") != "library" or library.reads_webm())
-)
-needs_readers = unittest.skipUnless(READ, "these programs, or this library, read no WebM files")
 
 
 def listed(path, *words):
@@ -44,7 +38,6 @@ def written(path, packets=None, step=40, **more):
 
 
 @needs_ffmpeg
-@needs_readers
 class InPlace(Case):
     """What a session has of a WebM file is what it has of a copy of its packets as IVF."""
 
@@ -107,7 +100,7 @@ class InPlace(Case):
     def test_the_first_line_of_the_frames(self):
         """By the program and by the library."""
         room, packets = self.folder(), packets_of(SMALL)
-        engines = ["program", *(["library"] if library.is_ready() and library.reads_webm() else [])]
+        engines = ["program", *(["library"] if library.is_ready() else [])]
         for step, more, rate in (
             (40, {"duration": 40_000_000}, b"F25:1"),
             (33, {"duration": 33_366_667}, b"F1000000000:33366667"),
@@ -226,7 +219,6 @@ class InPlace(Case):
 
 
 @needs_ffmpeg
-@needs_readers
 class Otherwise(Case):
     """When a file is not read where it is."""
 
@@ -283,7 +275,6 @@ class Otherwise(Case):
         self.assertEqual(command("export", MADE / "encoded.mkv", self.folder() / "out.ivf")[0], 0)
 
 
-@needs_readers
 class Rates(Case):
     def test_they_are_rounded_as_ffmpeg_does(self):
         head = ivf.Head(0, 0, 1000, 1)
@@ -327,7 +318,6 @@ class Rates(Case):
             self.assertEqual("/".join(map(str, found)), said, duration)
 
 
-@needs_readers
 class Damaged(Case):
     """Sentences about damaged files, next to the findings of vp8list."""
 

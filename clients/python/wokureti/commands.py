@@ -698,7 +698,7 @@ def run_script(
         with cat.open_session(paths[0], paths[1:], edits, script, given.tables, program, given.anyway) as session:
             if script_of is not None:
                 script = script_of(exports.Frames(session.edits.contents()))
-                session.request(f"script {exports.known(script, program)}")
+                session.request(f"script {script}")
             add_fades(given, session)
             stages.stage(f"exporting {session.count().frames:,} frames")
             out = exports.Output(given.out, not given.no_pad, given.sound, say, stages)

@@ -4,7 +4,6 @@ again.
 
 from __future__ import annotations
 
-import functools
 import os
 import re
 import subprocess
@@ -28,11 +27,9 @@ from .. import system
 from ..errors import Ended, Failed, Unexported
 from ..base import checks, files, progress, rooms
 from ..base.checks import AnyPath
-from ..base.lines import is_refusal
 from ..media import excerpts, ivf, muxing, opus, times
 from ..media.fades import Levels
 from ..media.sounds import Span
-from . import runs
 from .inputs import Inputs
 from .origins import joined, runs_of
 
@@ -45,8 +42,6 @@ Shown = Tuple[int, int, int]
 
 # Streams that the programs read at a time, and frames that a stream has at most.
 MOST_STREAMS, MOST_FRAMES = 8, 1 << 20
-# Nodes of a script.
-MOST_NODES = 16
 MOST_TIME = 3600
 # Seconds between two looks at whether the program is done, or is to be ended; bytes that are written at a time.
 OFTEN, PIECE = 0.1, 1 << 20
@@ -168,7 +163,7 @@ def nanoseconds(text: str) -> int:
 
 
 def seconds_text(words: Iterable[Optional[str]]) -> Optional[str]:
-    """A sentence if one of these places was a number of a frame in earlier versions, else None."""
+    """A sentence if one of these places looks like the number of a frame, else None."""
     number = next((word for word in words if word is not None and re.fullmatch("[0-9]*[1-9][0-9]*", word)), None)
     return number and f"{number} is a time in seconds, as in ffmpeg; frame {number} is f{number}"
 
@@ -190,32 +185,6 @@ def cut_script(frames: Frames, parts: Sequence[tuple[Optional[str], Optional[str
             )
         pieces.append(f"0 {first} {end - first}")
     return f"parts {' '.join(pieces)}"
-
-
-@functools.lru_cache
-def knows_parts(program: str) -> bool:
-    """Whether a script of the program may have a node `parts`: version 0.14.0 has none."""
-    return not is_refusal(runs.run([program, "-", "-", "-"], ["script parts 0 0 1"])[0])
-
-
-def known(script: str, program: str) -> str:
-    """The script as the program knows it: in place of parts, which are its last node, trims that are spliced. `Failed`
-    if these are too many nodes.
-    """
-    *nodes, last = script.split("; ")
-    word, *numbers = last.split()
-    if word != "parts" or knows_parts(program):
-        return script
-    first = len(nodes) + 1
-    trims = [f"trim {' '.join(numbers[place : place + 3])}" for place in range(0, len(numbers), 3)]
-    nodes += trims
-    before = first
-    for piece in range(first + 1, first + len(trims)):
-        nodes.append(f"splice {before} {piece}")
-        before = len(nodes)
-    if len(nodes) > MOST_NODES:
-        raise Failed(f"{program} has no script for {len(trims)} parts: install a newer vp8serve")
-    return "; ".join(nodes)
 
 
 def frames_within(contents: Contents, served: Sequence[Shown], text: str) -> int:

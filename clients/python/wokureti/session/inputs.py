@@ -309,20 +309,16 @@ class Input:
 
 
 class Inputs:
-    """The streams of a session, source 0 first. `tools` are vp8serve and vp8list; `reads_webm` returns whether the
-    engine reads WebM files.
-    """
+    """The streams of a session, source 0 first. `tools` are vp8serve and vp8list."""
 
-    def __init__(
-        self, paths: Iterable[Union[str, AnyBytes, BinaryIO]], tools: Tools, reads_webm: Callable[[], bool]
-    ) -> None:
+    def __init__(self, paths: Iterable[Union[str, AnyBytes, BinaryIO]], tools: Tools) -> None:
         self.all: list[Input] = []
         self.paths: list[str] = []
         self.room: Optional[rooms.Room] = None
         try:
             for path in paths:
                 self.paths.append(path if isinstance(path, str) else self.written(path))
-                is_read = os.path.isfile(self.paths[-1]) and webm.is_read(self.paths[-1], *tools) and reads_webm()
+                is_read = os.path.isfile(self.paths[-1]) and webm.is_read(self.paths[-1], *tools)
                 self.all.append(Input(self.paths[-1] if is_read else self.taken_out(self.paths[-1]), tools))
         except BaseException:
             self.close()

@@ -220,15 +220,6 @@ def load(path: Optional[str] = None) -> ctypes.CDLL:
     return found
 
 
-@functools.lru_cache
-def reads_webm() -> bool:
-    """Whether the library reads WebM files: one of version 0.14 or earlier takes them for IVF files of another kind."""
-    handle, fault, text = (ctypes.c_void_p * 1)(), Fault(), b"\x1a\x45\xdf\xa3" + bytes(60)
-    library, ends = load(), (ctypes.c_size_t * 1)(len(text))
-    library.wk_open(handle, text, len(text), ends, 1, 1, b"", 0, ctypes.byref(fault))
-    return CAUSES[fault.cause] != "Magic"
-
-
 class Engine:
     """A session of the library. All its calls are made on one thread."""
 

@@ -25,7 +25,7 @@ from . import exports, named, outcomes
 from .edits import EditList
 from .frames import Frame, Times, frame_of
 from .inputs import Inputs
-from .library import MOST_FILE, Answer, Library, engine_of, reads_webm
+from .library import MOST_FILE, Answer, Library, engine_of
 from .pipes import Pipes
 from .scripts import Script
 
@@ -146,7 +146,6 @@ class Session:
         self._inputs = Inputs(
             [checks.stream(stream), *checks.sources(sources)],
             (serve, lists),
-            lambda: self.engine == "program" or reads_webm(),
         )
         self._edits = EditList(self)
         try:

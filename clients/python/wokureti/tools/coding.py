@@ -185,7 +185,7 @@ def lead_of(contents: Contents, source: int, frames: tuple[int, int], places: tu
     return Lead(*frames, place - begin, hidden, length, coded)
 
 
-def script_of(pieces: Sequence[Piece], coded: int, program: str) -> str:
+def script_of(pieces: Sequence[Piece], coded: int) -> str:
     """The script of pieces, of which source `coded` has those that are coded."""
     sources = sorted({piece.source for piece in pieces if not piece.is_coded} | {coded})
     number, place = {0: 0}, 0
@@ -199,9 +199,7 @@ def script_of(pieces: Sequence[Piece], coded: int, program: str) -> str:
         source, start = (coded, place) if piece.is_coded else (piece.source, piece.start)
         place += piece.count if piece.is_coded else 0
         triples.append((number[source], start, piece.count))
-    return exports.known(
-        "; ".join([*nodes, "parts " + " ".join(f"{node} {start} {count}" for node, start, count in triples)]), program
-    )
+    return "; ".join([*nodes, "parts " + " ".join(f"{node} {start} {count}" for node, start, count in triples)])
 
 
 # Coding
@@ -477,7 +475,7 @@ def export(
     if how.fades_sound:
         levels = fades.levels_of(found, fades.Weights(contents.script, [len(shown) for shown in frames.shown]))
     coded = coder.write(contents.inputs.all[0].head, durations_of(served, contents, pieces))
-    script = script_of(pieces, len(contents.inputs.all), contents.program)
+    script = script_of(pieces, len(contents.inputs.all))
     lines = [*session.edits, f"script {script}"]
     return exports.export(contents, lines, out, room, exports.Added(coded.path, served, levels)), coded
 
