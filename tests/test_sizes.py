@@ -4,9 +4,9 @@ with ample memory.
 
 Macroblocks of a picture of 1920x1080; a check of 100,000 packets; packets of more than 1 MiB that are hidden; lines of
 16 MiB in a live run; exports with leads of 200 and of 100,000 packets, and of more than 100,000 frames. By the library:
-strides of more than 4,096 samples, and lines of more than 1 MiB. Two costs that no contract counts: questions at the end
-of a long list, each of which takes little time after the first, and an export, which decodes each packet once. It prints
-what differs and ends with 1, or prints nothing but what it skipped, and ends with 0.
+strides of more than 4,096 samples, and lines of more than 1 MiB. Two costs that no contract counts: questions at the
+end of a long list, each of which continues from the one before, and an export, which decodes nothing. It prints what
+differs and ends with 1, or prints nothing but what it skipped, and ends with 0.
 """
 
 import ctypes

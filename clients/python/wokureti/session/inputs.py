@@ -204,9 +204,7 @@ class Input:
             return containers.damage_of(self.path)
         with self.damaging:
             if self.known_damage is None:
-                self.known_damage = elements.damage_of(
-                    self.tools[1], self.readable()[0], containers.name_of(self.path)
-                )
+                self.known_damage = elements.damage_of(self.tools[1], self.readable()[0], containers.name_of(self.path))
             return self.known_damage
 
     def left(self) -> int:
