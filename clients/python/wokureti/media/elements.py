@@ -279,7 +279,9 @@ def is_whole(text: bytes) -> bool:
 
 
 def entries_of(data: bytes) -> Entries:
-    """The tracks that a file names, by their numbers, as far as their entries are whole: what each says, and its text."""
+    """The tracks that a file names, by their numbers, as far as their entries are whole: what each says, and its
+    text.
+    """
     for text in content_of(data, matroska.TRACKS):
         found: Entries = {}
         for name, content in webm.children(text):

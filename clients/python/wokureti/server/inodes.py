@@ -1,5 +1,5 @@
-"""A mounted folder by pyfuse3, with libfuse 3, which names files by numbers and asks in one thread. Each operation is done
-in a thread of its own, so that a frame that is decoded holds up no other file.
+"""A mounted folder by pyfuse3, with libfuse 3, which names files by numbers and asks in one thread. Each operation is
+done in a thread of its own, so that a frame that is decoded holds up no other file.
 """
 
 from __future__ import annotations
