@@ -411,9 +411,9 @@ def add_mount(commands: Commands) -> None:
         description=(
             "Mounts DIR, an empty folder, by FUSE (python3-pyfuse3, else python3-fusepy): clip.y4m, clip.ivf and"
             " clip.webm, a picture of each frame in frames/, the edits, the findings and the facts of the packets. Nothing"
-            " is written: a read makes the frames that it touches. edits.txt can be written: the session then makes these edits, or the write"
-            " fails, and edits.err says why. A file that was opened before an edit can be read no more. Ctrl-C, umount"
-            " or SIGTERM ends it."
+            " is written: a read makes the frames that it touches. edits.txt can be written: the session then makes these"
+            " edits, or the write fails, and edits.err says why. A file that was opened before an edit can be read no"
+            " more. Ctrl-C, umount or SIGTERM ends it."
         ),
     )
     add_served(parser)
