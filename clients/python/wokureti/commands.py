@@ -410,10 +410,10 @@ def add_mount(commands: Commands) -> None:
         help="a folder in which the edited stream is a file of each kind, for editors that open a path",
         description=(
             "Mounts DIR, an empty folder, by FUSE (python3-pyfuse3, else python3-fusepy): clip.y4m, clip.ivf and"
-            " clip.webm, a picture of each frame in frames/, the edits, the findings and the facts of the packets. Nothing"
-            " is written: a read makes the frames that it touches. edits.txt can be written: the session then makes these"
-            " edits, or the write fails, and edits.err says why. A file that was opened before an edit can be read no"
-            " more. Ctrl-C, umount or SIGTERM ends it."
+            " clip.webm, a picture of each frame in frames/, the edits, the findings and the facts of the packets."
+            " Nothing is written: a read makes the frames that it touches. edits.txt can be written: the session then"
+            " makes these edits, or the write fails, and edits.err says why. A file that was opened before an edit"
+            " can be read no more. Ctrl-C, umount or SIGTERM ends it."
         ),
     )
     add_served(parser)
