@@ -230,8 +230,8 @@ def score(out, packets, frames):
     return recovered, sum(bool(hashes & shown.get(stamp, set())) for stamp, hashes in frames.items())
 
 
-# Files that are damaged: of ffmpeg with two codecs of sound, of a live stream, with many clusters, of mkvmerge with laced
-# sound and without. A time that is rounded twice may be so many nanoseconds away.
+# Files that are damaged: of ffmpeg with two codecs of sound, live, and with many clusters; of mkvmerge with laced
+# sound. A time that is rounded twice may be so many nanoseconds away.
 WEBM, NEAR = ("plain.webm", "vorbis.webm", "live.webm", "clusters.webm", "laced.mkv", "merged.webm"), 2_000_000
 
 
@@ -306,9 +306,8 @@ def of_webm(count, seed):
             if "EACH" in os.environ:
                 print(turn, name, *scores[0], *scores[1], flush=True)
     totals["all"] = sum(totals.values(), collections.Counter())
-    print(
-        "| file | files | without a packet | packets of the video: there were, right, wrong | of the sound |\n|---|---|---|---|---|"
-    )
+    print("| file | files | without a packet | packets of the video: there were, right, wrong | of the sound |")
+    print("|---|---|---|---|---|")
     for name, total in totals.items():
         cells = [f"{total[kind]:,}" for kind in ("pictures", "right", "wrong", "sound", "sound right", "sound wrong")]
         print(f"| {name} | {total['files']} | {total['nothing']} | {', '.join(cells[:3])} | {', '.join(cells[3:])} |")
