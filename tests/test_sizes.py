@@ -13,7 +13,6 @@ import ctypes
 import json
 import os
 import pathlib
-import re
 import subprocess
 import sys
 import tempfile
