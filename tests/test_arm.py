@@ -92,7 +92,8 @@ def of_library(there, _):
         "WOKURETI_CC": f"{PREFIX}gcc",
         "WOKURETI_EMULATOR": f"{QEMU} -L {ROOT}",
     }
-    return ran([TOP / "tests/test_library.py"], variables)
+    parts = [ran([TOP / f"tests/{name}.py"], variables) for name in ("test_library", "test_library_stack")]
+    return tuple(sum(lines, []) for lines in zip(*parts))
 
 
 PARTS = {"programs": of_programs, "options": of_options, "saving": of_saving, "library": of_library}

@@ -73,7 +73,7 @@ def compiled(folder):
 
 def checks(folder):
     """The checks in C, over the archive: each request for memory refused, rooms of every size, a million lines,
-    threads, small stacks, NULL, the numbers of each call.
+    threads, NULL, the numbers of each call.
     """
     archive = LIBRARY.with_name("libwokureti.a")
     if not archive.is_file():
@@ -99,10 +99,6 @@ def checks(folder):
         made,
     ]
     subprocess.run(list(map(str, words)), check=True, timeout=LIMIT)
-    stacks = tuple(
-        ("stacks", clip)
-        for clip in ("small", "scene-cuts", "hidden-altref", "eight-partitions", "size-before-a-change")
-    )
     for what, clip in (
         ("growths", "small"),
         ("rooms", "small"),
@@ -111,7 +107,6 @@ def checks(folder):
         ("nulls", "small"),
         ("numbers", "small"),
         ("fuzz", "small"),
-        *stacks,
     ):
         done = subprocess.run(
             [*EMULATOR, made, what, CLIPS / f"{clip}.ivf"],

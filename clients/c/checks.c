@@ -1,4 +1,4 @@
-/* Checks of the library that need C: checks growths|rooms|fuzz|threads|stacks|nulls|numbers FILE.
+/* Checks of the library that need C: checks growths|rooms|fuzz|threads|nulls|numbers FILE.
  *
  * growths  each request for memory of a fixed list of calls is refused in turn; the call says so, can be made again, and everything after it is
  *          as without the refusal. It is linked with the archive and --wrap=malloc,--wrap=realloc
@@ -6,15 +6,13 @@
  * fuzz     a million lines of random words and bytes are answered
  * threads  two sessions in two threads serve the frames that one serves alone
  * numbers  each call has the numbers that the header names, and leaves what it says
- * nulls    a handle or a result that is NULL is a number, and nothing is done
- * stacks   each call has enough with WK_STACK bytes of stack, below which is a page that may not be touched
+ * nulls    a pointer that is NULL is a number, and nothing is done, unless its size is 0
  * It prints what is wrong and ends with 1, or prints nothing and ends with 0. */
 #include <pthread.h>
 #include <stdio.h>
 #include <stdlib.h>
 #include <string.h>
 #include <sys/mman.h>
-#include <ucontext.h>
 #include <unistd.h>
 
 #include "wokureti.h"
@@ -312,35 +310,22 @@ static void threads(void) {
         if (sums[k] != sums[4]) fail("another result in a thread", k);
 }
 
-/* Frames in order and from the last one back, every kind of request, and files. Little of the stack is its own. */
-static run small;
-
-static void calls_of_all_kinds(void) {
-    static const char *lines[] = {"check 0 1000", "check 0 1000", "macroblocks 0", "macroblocks 1", "header 0", "header 1", "list 0 1000", "origins 0 1000", "packet 0", "script", "stats", "hide 1", "show 1", "use 0", "frame 0", "frame 2"};
-    run *r = &small;
-    open_run(r);
-    for (uint64_t n = 0; n < 30; n++) frame(r, n);
-    for (uint64_t n = 30; n-- > 0;) frame(r, n);
-    for (size_t k = 0; k < sizeof lines / sizeof *lines; k++) ask(r, lines[k]);
-    wk_close(&r->handle);
-    calls(r);
+static void expect(const char *what, uint32_t found, uint32_t wanted) {
+    if (found != wanted) fail(what, (long)found);
 }
 
-static void stacks(void) {
-    size_t page = (size_t)sysconf(_SC_PAGESIZE);
-    uint8_t *whole = mmap(NULL, page + WK_STACK, PROT_READ | PROT_WRITE, MAP_PRIVATE | MAP_ANONYMOUS, -1, 0);
-    if (whole == MAP_FAILED || mprotect(whole, page, PROT_NONE)) fail("no guarded stack", 0);
-    small = (run){.room = __real_malloc(ROOM), .room_size = ROOM};
-    static ucontext_t here, there;
-    if (getcontext(&there)) fail("no context", 0);
-    there.uc_stack.ss_sp = whole + page;
-    there.uc_stack.ss_size = WK_STACK;
-    there.uc_link = &here;
-    makecontext(&there, calls_of_all_kinds, 0);
-    if (swapcontext(&here, &there)) fail("the calls were not made", 0);
-    if (!small.sum || small.handle.at) fail("the calls did not end", 0);
-    free(small.room);
-    munmap(whole, page + WK_STACK);
+/* Parts of size 0 at NULL are parts like others. The text of the session stays. */
+static void empty_parts(wk_handle *at, size_t text) {
+    wk_handle other = {0};
+    wk_fault fault = {7, 7};
+    wk_shown shown = {0};
+    size_t none = 0, length = 0;
+    expect("no files", wk_open(&other, NULL, 0, NULL, 0, 4, NULL, 0, &fault), WK_ARGUMENT);
+    expect("a file without bytes", wk_open_bytes(&other, NULL, 0, &none, 1, 4, NULL, 0, &fault), WK_FILE);
+    if (fault.source || fault.cause != WK_FILE_HEADER) fail("another fault", (long)fault.cause);
+    expect("a frame without room", wk_frame(at, 0, NULL, 0, NULL, 0, NULL, 0, &shown), WK_ROOM);
+    expect("a text without room", wk_text(at, NULL, 0, &length), WK_ROOM);
+    if (!shown.width || length != text) fail("another size", (long)length);
 }
 
 /* Each call with each pointer that may not be NULL as NULL. The session, its text and the results are as before. */
@@ -356,26 +341,28 @@ static void nulls(void) {
     if (wk_request(at, (const uint8_t *)"count", 5, &length) != WK_OK || !length) fail("no count", 0);
     uint32_t found[] = {
         wk_open(none, file, file_size, &file_size, 1, 4, NULL, 0, &fault), wk_open(at, file, file_size, &file_size, 1, 4, NULL, 0, NULL),
+        wk_open(at, NULL, file_size, &file_size, 1, 4, NULL, 0, &fault), wk_open(at, file, file_size, NULL, 1, 4, NULL, 0, &fault),
+        wk_open(at, file, file_size, &file_size, 1, 4, NULL, 3012, &fault),
         wk_open_bytes(none, file, file_size, &file_size, 1, 4, NULL, 0, &fault), wk_open_bytes(at, file, file_size, &file_size, 1, 4, NULL, 0, NULL),
-        wk_frame(none, 0, NULL, 0, NULL, 0, NULL, 0, &shown), wk_frame(at, 0, NULL, 0, NULL, 0, NULL, 0, NULL),
-        wk_request(none, line, 8, &kept), wk_request(at, line, 8, NULL), wk_why(none, &kept), wk_why(at, NULL),
+        wk_open_bytes(at, NULL, file_size, &file_size, 1, 4, NULL, 0, &fault), wk_open_bytes(at, file, file_size, NULL, 1, 4, NULL, 0, &fault),
+        wk_open_bytes(at, file, file_size, &file_size, 1, 4, NULL, 3012, &fault),
+        wk_frame(none, 0, NULL, 0, NULL, 0, NULL, 0, &shown), wk_frame(at, 0, NULL, 0, NULL, 0, NULL, 0, NULL), wk_frame(at, 0, NULL, 1, NULL, 0, NULL, 0, &shown),
+        wk_frame(at, 0, NULL, 0, NULL, 1, NULL, 0, &shown), wk_frame(at, 0, NULL, 0, NULL, 0, NULL, 1, &shown),
+        wk_request(none, line, 8, &kept), wk_request(at, line, 8, NULL), wk_request(at, NULL, 8, &kept), wk_why(none, &kept), wk_why(at, NULL),
         wk_save(none, true, &kept), wk_save(at, true, NULL), wk_save_source(none, 0, true, true, &kept), wk_save_source(at, 0, true, true, NULL),
         wk_export(none, true, &kept, &why), wk_export(at, true, NULL, &why), wk_export(at, true, &kept, NULL),
-        wk_text(none, r.room, r.room_size, &kept), wk_text(at, r.room, r.room_size, NULL),
+        wk_text(none, r.room, r.room_size, &kept), wk_text(at, r.room, r.room_size, NULL), wk_text(at, NULL, r.room_size, &kept),
     };
     for (size_t k = 0; k < sizeof found / sizeof *found; k++)
         if (found[k] != WK_ARGUMENT) fail("NULL has another number", (long)k);
     wk_close(none);
     if (kept || fault.source != 7 || why.frame != 7 || shown.width) fail("a result was written", (long)kept);
+    empty_parts(at, length);
     if (wk_text(at, r.room, r.room_size, &kept) || kept != length || memcmp(r.room, "packets ", 8)) fail("another text", (long)kept);
     size_t again = 0;
     if (wk_request(at, (const uint8_t *)"count", 5, &again) || again != length) fail("another count", (long)again);
     wk_close(at);
     free(r.room);
-}
-
-static void expect(const char *what, uint32_t found, uint32_t wanted) {
-    if (found != wanted) fail(what, (long)found);
 }
 
 /* The numbers of opening: the handle holds nothing afterwards. */
@@ -463,7 +450,7 @@ static void numbers(void) {
 }
 
 int main(int argc, char **argv) {
-    if (argc != 3) fail("usage: checks growths|rooms|fuzz|threads|stacks|nulls|numbers FILE", argc);
+    if (argc != 3) fail("usage: checks growths|rooms|fuzz|threads|nulls|numbers FILE", argc);
     FILE *opened = fopen(argv[2], "rb");
     if (!opened) fail("cannot open the file", 0);
     fseek(opened, 0, SEEK_END);
@@ -475,7 +462,6 @@ int main(int argc, char **argv) {
     if (!strcmp(argv[1], "growths")) growths();
     else if (!strcmp(argv[1], "rooms")) rooms();
     else if (!strcmp(argv[1], "fuzz")) fuzz();
-    else if (!strcmp(argv[1], "stacks")) stacks();
     else if (!strcmp(argv[1], "nulls")) nulls();
     else if (!strcmp(argv[1], "numbers")) numbers();
     else threads();

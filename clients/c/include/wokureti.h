@@ -21,8 +21,8 @@
  *   made on the thread that opened it. Two handles have nothing in common: two threads may have one each.
  * - A pointer and its size describe memory of the caller's that is there and that nobody else writes during the call. Two parts
  *   that a call writes do not overlap. A size of 0 may have the pointer NULL, and no other size may.
- * - The library does not look for NULL. In C and C++ this header does: a handle or a result that is NULL is WK_ARGUMENT, and nothing is done. Programs in other
- *   languages, which call the library by its symbols, pass none.
+ * - The library does not look for NULL. In C and C++ this header does: a pointer that is NULL is WK_ARGUMENT, and nothing is done, unless its size is 0.
+ *   Programs in other languages, which call the library by its symbols, pass none.
  * - No call is made from a signal handler, nor in the child of a fork of a program with several threads.
  * - malloc, realloc and free are the C library's or behave as those do. WK_STACK bytes of stack are left.
  *
@@ -49,7 +49,7 @@ extern "C" {
 #define WK_VERSION_PATCH 0
 #define WK_VERSION (10000 * WK_VERSION_MAJOR + 100 * WK_VERSION_MINOR + WK_VERSION_PATCH)
 
-/* Bytes of stack that each call has enough with. wk_frame takes the most, 113,584 bytes of them. */
+/* Bytes of stack that each call has enough with. The request `frame` takes the most, 112 KB of them. */
 #define WK_STACK (128 * 1024)
 
 /* A handle: {0} holds nothing. */
@@ -81,7 +81,7 @@ typedef struct {
  * no result was written, where the call does not say otherwise. */
 enum {
     WK_OK = 0,
-    WK_ARGUMENT = 1, /* a number is outside its range, or a handle or a result is NULL */
+    WK_ARGUMENT = 1, /* a number is outside its range, or a pointer is NULL */
     WK_FILE = 2,     /* the bytes of a source are no IVF, WebM or Matroska file of VP8, or there is no memory for its packets: see wk_fault */
     WK_MEMORY = 3,   /* out of memory; of a frame it is WK_NO_MEMORY */
     WK_CLOSED = 4,   /* the handle holds nothing */
@@ -163,12 +163,14 @@ uint32_t wk_text(wk_handle *handle, uint8_t *room, size_t size, size_t *length);
 #ifndef WK_NO_CHECKS
 static inline uint32_t wk_checked_open(wk_handle *handle, const uint8_t *files, size_t size, const size_t *ends, size_t sources, uint16_t states,
                                        const uint8_t *tables, size_t table_size, wk_fault *fault) {
-    return handle && fault ? wk_open(handle, files, size, ends, sources, states, tables, table_size, fault) : (uint32_t)WK_ARGUMENT;
+    bool is_whole = handle && fault && (files || !size) && (ends || !sources) && (tables || !table_size);
+    return is_whole ? wk_open(handle, files, size, ends, sources, states, tables, table_size, fault) : (uint32_t)WK_ARGUMENT;
 }
 
 static inline uint32_t wk_checked_open_bytes(wk_handle *handle, const uint8_t *files, size_t size, const size_t *ends, size_t sources, uint64_t bytes,
                                              const uint8_t *tables, size_t table_size, wk_fault *fault) {
-    return handle && fault ? wk_open_bytes(handle, files, size, ends, sources, bytes, tables, table_size, fault) : (uint32_t)WK_ARGUMENT;
+    bool is_whole = handle && fault && (files || !size) && (ends || !sources) && (tables || !table_size);
+    return is_whole ? wk_open_bytes(handle, files, size, ends, sources, bytes, tables, table_size, fault) : (uint32_t)WK_ARGUMENT;
 }
 
 static inline void wk_checked_close(wk_handle *handle) {
@@ -177,11 +179,12 @@ static inline void wk_checked_close(wk_handle *handle) {
 
 static inline uint32_t wk_checked_frame(wk_handle *handle, uint64_t n, uint8_t *y, size_t y_size, uint8_t *cb, size_t cb_size, uint8_t *cr, size_t cr_size,
                                         wk_shown *shown) {
-    return handle && shown ? wk_frame(handle, n, y, y_size, cb, cb_size, cr, cr_size, shown) : (uint32_t)WK_ARGUMENT;
+    bool is_whole = handle && shown && (y || !y_size) && (cb || !cb_size) && (cr || !cr_size);
+    return is_whole ? wk_frame(handle, n, y, y_size, cb, cb_size, cr, cr_size, shown) : (uint32_t)WK_ARGUMENT;
 }
 
 static inline uint32_t wk_checked_request(wk_handle *handle, const uint8_t *line, size_t size, size_t *length) {
-    return handle && length ? wk_request(handle, line, size, length) : (uint32_t)WK_ARGUMENT;
+    return handle && length && (line || !size) ? wk_request(handle, line, size, length) : (uint32_t)WK_ARGUMENT;
 }
 
 static inline uint32_t wk_checked_why(wk_handle *handle, size_t *length) {
@@ -201,7 +204,7 @@ static inline uint32_t wk_checked_export(wk_handle *handle, bool pads, size_t *l
 }
 
 static inline uint32_t wk_checked_text(wk_handle *handle, uint8_t *room, size_t size, size_t *length) {
-    return handle && length ? wk_text(handle, room, size, length) : (uint32_t)WK_ARGUMENT;
+    return handle && length && (room || !size) ? wk_text(handle, room, size, length) : (uint32_t)WK_ARGUMENT;
 }
 
 #define wk_open(...) wk_checked_open(__VA_ARGS__)
