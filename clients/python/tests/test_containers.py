@@ -648,7 +648,7 @@ class HowFar(Case):
     def test_each_program(self):
         path = clip("talk.webm")
         size = path.stat().st_size
-        for name in ("ffmpeg", "mkvextract", "av"):
+        for name in ("ffmpeg", "av"):
             if not (containers.has_av() if name == "av" else shutil.which(name)):
                 continue
             heard = []
@@ -664,14 +664,13 @@ class HowFar(Case):
             )
             with (
                 self.subTest(name),
-                mock.patch.dict(os.environ, self.slow("ffmpeg", "mkvextract") if name != "av" else {}),
+                mock.patch.dict(os.environ, self.slow("ffmpeg") if name != "av" else {}),
                 looks[0],
                 looks[1],
             ):
                 with (
                     mock.patch.object(containers, "read_by_core", return_value=False),
                     mock.patch.object(containers, "has_av", return_value=name == "av"),
-                    mock.patch.object(containers, "can_read", return_value=name != "mkvextract"),
                 ):
                     out = convert.as_ivf(path, str(self.folder()), is_quiet=True, watch=watch)
                 self.assertEqual(len(packets_of(out)), len(packets_of(media(path, self.folder())[1])))

@@ -254,6 +254,7 @@ class Otherwise(Case):
         for name in ("talk.webm", "silent.webm"):
             with (
                 mock.patch.object(containers, "has_ffmpeg", return_value=False),
+                mock.patch.object(containers, "has_av", return_value=False),
                 mock.patch("wokureti.session.convert.say") as say,
             ):
                 self.assertEqual(convert.readable(clip(name), str(room)), str(clip(name)))
@@ -266,6 +267,27 @@ class Otherwise(Case):
                     (item.media.has_sound, item.media.sounds, item.media.tags, item.media.language, item.media.rate),
                     (False, [], {}, "und", (25, 1)),
                 )
+
+    @unittest.skipUnless(containers.has_av(), "Python's av is not here")
+    def test_by_av(self):
+        """The packets are those of vp8list all the same, and av reads the sound."""
+        for name in ("talk.webm", "two.mkv", "silent.webm"):
+            wanted = self.session(clip(name)).edits.contents().inputs.all[0].media
+            told = [(*track[:7], track.times, sound_packets(track)) for track in wanted.sounds]
+            with mock.patch.object(containers, "has_ffmpeg", return_value=False):
+                [item] = self.session(clip(name)).edits.contents().inputs.all
+                self.assertEqual((item.path, item.media.has_sound), (str(clip(name)), bool(told)))
+                self.assertEqual(
+                    (item.media.tags, item.media.video_tags, item.media.language, item.media.rate),
+                    (wanted.tags, wanted.video_tags, wanted.language, wanted.rate),
+                )
+                self.assertEqual(
+                    [(*track[:7], track.times, sound_packets(track)) for track in item.media.sounds], told, name
+                )
+                out = convert.as_ivf(clip(name), str(self.folder()), is_quiet=True)
+                found = containers.media_of(out)
+            self.assertEqual(packets_of(out), packets_of(media(clip(name), self.folder())[1]))
+            self.assertEqual((found.rate, len(found.sounds)), (wanted.rate, len(told)))
 
     def test_files_that_are_refused(self):
         """Who reads them otherwise says why."""

@@ -5,6 +5,7 @@ Python's `av` reads a container if it is installed, else ffmpeg. Times are in na
 from __future__ import annotations
 
 import concurrent.futures
+import io
 import itertools
 import json
 import os
@@ -187,26 +188,29 @@ def rate_of_stamps(head: ivf.Head, stamps: Sequence[int], tags: Sequence[int], n
 
 
 def read_by_core(path: AnyPath, out: str, watch: Watch = NOBODY) -> bool:
-    """The same of a WebM or Matroska file, whose packets vp8serve reads as they are, and whose sound ffmpeg reads
-    meanwhile, if it is there. False if vp8serve does not read it: an earlier version reads none."""
+    """The same of a WebM or Matroska file, whose packets vp8serve reads as they are, and whose sound ffmpeg or Python's
+    av reads meanwhile, if it is there. False if vp8serve does not read it."""
     program = programs.find("vp8serve")
     if not programs.says(program, "WebM"):
         return False
     facts = probe(path) if has_ffmpeg() else None
+    found: Optional[Media] = None
     video = next((one for one in (facts or {}).get("streams", ()) if one.get("codec_name") == "vp8"), None)
     if facts is not None and video is None:
         return False
     with concurrent.futures.ThreadPoolExecutor(1) as pool:
         saving = pool.submit(run, [program, checks.path(path), "-", "-", "--save", os.fspath(out)])
-        sounds, said = copy_tracks(path, facts["streams"], [], out, watch) if facts is not None else ([], "")
+        if facts is not None and video is not None:
+            sounds, said = copy_tracks(path, facts["streams"], [], out, watch)
+            found = media_by(path, facts, video, fraction(video.get("avg_frame_rate", "0/0")), sounds, said)
+        elif has_av():
+            found = read_by_av(path, out, watch, has_video=False)
         try:
             saving.result()
         except (Failed, OSError):
             return False
-    if facts is not None and video is not None:
-        known[os.fspath(out)] = media_by(
-            path, facts, video, rate_of(out, fraction(video.get("avg_frame_rate", "0/0"))), sounds, said
-        )
+    if found is not None:
+        known[os.fspath(out)] = found._replace(rate=rate_of(out, found.rate))
     return True
 
 
@@ -448,8 +452,10 @@ def run(
 # By Python's av
 
 
-def read_by_av(path: AnyPath, out: str, watch: Watch = NOBODY) -> Media:
-    """The same by Python's av."""
+def read_by_av(path: AnyPath, out: str, watch: Watch = NOBODY, has_video: bool = True) -> Media:
+    """The same by Python's av; without the packets of the video, and with the rate that the file names, if another
+    program reads these.
+    """
     import av
 
     total = os.path.getsize(path)
@@ -461,9 +467,10 @@ def read_by_av(path: AnyPath, out: str, watch: Watch = NOBODY) -> Media:
             writers = {track.index: Writer(f"{out}.sound{number}", track) for number, track in enumerate(tracks)}
             base = video.time_base
             head = ivf.Head(video.codec_context.width, video.codec_context.height, base.denominator, base.numerator)
-            with open(out, "wb") as file:
+            wanted = [*[video] * has_video, *tracks]
+            with open(out, "wb") if has_video else io.BytesIO() as file:
                 file.write(head.text(0))
-                for number, packet in enumerate(container.demux([video, *tracks])):
+                for number, packet in enumerate(container.demux(wanted) if wanted else ()):
                     if number % MANY == 0:
                         watch.part(min(packet.pos or 0, total), total)
                     if packet.pts is None or packet.size == 0:
@@ -475,9 +482,10 @@ def read_by_av(path: AnyPath, out: str, watch: Watch = NOBODY) -> Media:
                         writers[packet.stream.index].add(packet)
             for writer in writers.values():
                 writer.file.close()
-            count_packets(out)
-            named = video.average_rate
-            rate = rate_of(out, (named.numerator, named.denominator) if named else None)
+            rate = video.average_rate and (video.average_rate.numerator, video.average_rate.denominator)
+            if has_video:
+                count_packets(out)
+                rate = rate_of(out, rate)
             tags = dict(video.metadata)
             sounds = [writer.sound() for writer in writers.values()]
             return Media(

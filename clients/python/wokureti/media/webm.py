@@ -86,14 +86,13 @@ def is_marked(descriptor: int) -> bool:
 
 def is_read(path: AnyPath, program: Optional[str] = None, lister: Optional[str] = None) -> bool:
     """Whether a path is that of a file that the programs read where it is. Of others the libraries that read containers
-    say why they cannot be read. Python's `av` reads the sound where it is the only one."""
+    say why they cannot be read.
+    """
     with open(path, "rb") as file:
         if not is_marked(file.fileno()) or facts_of(file.fileno()) is None:
             return False
     readers = (program or programs.find("vp8serve"), lister or programs.find("vp8list"))
-    return (containers.has_ffmpeg() or not containers.has_av()) and all(
-        programs.says(reader, "WebM") for reader in readers
-    )
+    return all(programs.says(reader, "WebM") for reader in readers)
 
 
 def facts_of(descriptor: int) -> Optional[Facts]:
@@ -249,8 +248,8 @@ class File(Protocol):
 
 class Around:
     """What a file has besides the packets of its video, as `containers.Media` has it. `item` is the input whose file it
-    is, or None if only the beginning of the file matters. ffmpeg reads the tags and the sound when they are needed
-    first: without it there are none."""
+    is, or None if only the beginning of the file matters. ffmpeg or Python's av reads the tags and the sound when they
+    are needed first: without these there are none."""
 
     said = ""
 
@@ -261,7 +260,7 @@ class Around:
 
     @property
     def has_sound(self) -> bool:
-        return self.facts.has_sound and containers.has_ffmpeg()
+        return self.facts.has_sound and containers.can_read()
 
     @property
     def source(self) -> tuple[AnyPath, tuple[int, ...]]:
@@ -269,10 +268,23 @@ class Around:
         return (self.path, ()) if self.item is None else self.item.readable()
 
     @functools.cached_property
-    def probed(self) -> containers.Probed:
-        if not containers.has_ffmpeg():
-            return {"streams": []}
-        found = containers.probe(*self.source)
+    def probed(self) -> Optional[containers.Probed]:
+        """What ffprobe says; None without it."""
+        found = containers.probe(*self.source) if containers.has_ffmpeg() else None
+        self.check()
+        return found
+
+    @functools.cached_property
+    def told(self) -> containers.Media:
+        """What the file says of itself, and by Python's av the sound."""
+        if self.probed is not None:
+            video: containers.Probed = next(
+                (one for one in self.probed["streams"] if one.get("codec_name") == "vp8"), {}
+            )
+            return containers.media_by(self.path, self.probed, video, None, [], "")
+        if self.item is None or not containers.has_av():
+            return containers.Media(self.path, None, {}, {}, "und", [], "")
+        found = containers.read_by_av(self.source[0], self.begun, has_video=False)
         self.check()
         return found
 
@@ -284,22 +296,20 @@ class Around:
 
     @property
     def tags(self) -> dict[str, str]:
-        return containers.kept_tags(self.probed.get("format", {}).get("tags", {}))
-
-    @property
-    def said_of_video(self) -> dict[str, str]:
-        """The tags of the video."""
-        video: containers.Probed = next((one for one in self.probed["streams"] if one.get("codec_name") == "vp8"), {})
-        tags: dict[str, str] = video.get("tags", {})
-        return tags
+        return self.told.tags
 
     @property
     def video_tags(self) -> dict[str, str]:
-        return containers.kept_tags(self.said_of_video)
+        return self.told.video_tags
 
     @property
     def language(self) -> str:
-        return self.said_of_video.get("language", "und")
+        return self.told.language
+
+    @property
+    def begun(self) -> str:
+        """How the names of files with sound begin, in the folder of the input."""
+        return os.path.join(self.opened().folder(), "sound")
 
     @property
     def sounds(self) -> list[containers.Sound]:
@@ -310,11 +320,11 @@ class Around:
             return self.found_sounds
 
     def copied(self) -> list[containers.Sound]:
-        """The tracks of sound, in the folder of the input."""
+        """The tracks of sound."""
+        if self.probed is None:
+            return self.told.sounds
         path, shared = self.source
-        found = containers.copy_tracks(
-            path, self.probed["streams"], [], os.path.join(self.opened().folder(), "sound"), shared=shared
-        )[0]
+        found = containers.copy_tracks(path, self.probed["streams"], [], self.begun, shared=shared)[0]
         self.check()
         return found
 

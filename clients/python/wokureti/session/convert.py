@@ -8,7 +8,6 @@ import bisect
 import contextlib
 import mmap
 import os
-import shutil
 import stat
 from typing import ContextManager, NamedTuple, Optional, Sequence, Union
 
@@ -107,7 +106,7 @@ def as_ivf(
     if in_place and webm.is_read(given):
         out = spooled(given, folder) if system.is_device(given) else given
         media = webm.media_of(out)
-        if not is_quiet and isinstance(media, webm.Around) and media.facts.has_sound and not containers.has_ffmpeg():
+        if not is_quiet and isinstance(media, webm.Around) and media.facts.has_sound and not containers.can_read():
             say(f"the sound of {name} is left out: install ffmpeg for that")
     else:
         out = taken_out(given, folder, name, kind, is_quiet, watch)
@@ -236,19 +235,11 @@ def say_damage(texts: Sequence[str], helps: str = SEARCHES) -> None:
 
 def read(path: AnyPath, out: str, name: str, kind: str, watch: Watch) -> str:
     """Takes the packets of a container out, and returns the name of the program that did it."""
-    if (
-        kind == "WebM or Matroska"
-        and (containers.has_ffmpeg() or not containers.has_av())
-        and containers.read_by_core(path, out, watch)
-    ):
+    if kind == "WebM or Matroska" and containers.read_by_core(path, out, watch):
         return "vp8serve"
     if containers.can_read():
         return containers.read(path, out, watch)
-    if not shutil.which("mkvextract") or kind != "WebM or Matroska":
-        raise Failed(f"{name} is a {kind} file: to take its packets out, install python3-av, ffmpeg or mkvtoolnix")
-    containers.run(["mkvextract", checks.path(path), "tracks", f"0:{out}"], containers.part_of(path, [out], watch))
-    containers.count_packets(out)
-    return "mkvextract"
+    raise Failed(f"{name} is a {kind} file: to take its packets out, install python3-av or ffmpeg")
 
 
 def damage_of(path: AnyPath, name: str, kind: str, watch: Watch = containers.NOBODY) -> list[str]:
