@@ -9,7 +9,6 @@ import unittest
 
 from support import SLOW, SMALL, Case, command, packets_of
 from test_containers import clip, ffmpeg, media, needs_ffmpeg, setUpModule, sound_packets, starts  # noqa: F401
-from test_webm import needs_readers
 from wokureti.errors import NotIvf
 from wokureti.media import containers, elements, matroska
 from wokureti.session import convert
@@ -59,7 +58,6 @@ class Made(Case):
         return head, packets, gaps, containers.media_of(out)
 
 
-@needs_readers
 class Blocks(Made):
     def test_a_file_that_is_whole(self):
         data, made = self.file()
@@ -115,7 +113,6 @@ class Blocks(Made):
             convert.searched(str(path), str(path.parent))
 
 
-@needs_readers
 class Times(Made):
     """Those of clusters and blocks that are lost, or are others."""
 
@@ -155,7 +152,6 @@ class Times(Made):
 
 
 @needs_ffmpeg
-@needs_readers
 class NoBeginning(Made):
     """What the beginning of a file says is lost."""
 
@@ -231,7 +227,6 @@ class NoBeginning(Made):
 
 
 @needs_ffmpeg
-@needs_readers
 class Programs(Case):
     """Files of other programs."""
 
