@@ -1,0 +1,12 @@
+pub mod Lists
+pub mod Changes
+pub mod Over
+pub mod Own
+pub mod Counts
+pub mod Travels
+pub mod Histories
+pub mod Values
+pub mod Rooms
+pub mod Orders
+pub mod Trails
+pub mod Ready
