@@ -41,6 +41,8 @@ from wokureti.media import ivf  # noqa: E402
 CLIPS = TOP / "crates/gate_clips/data"
 MOST_TIME = 800
 SIZES = ((1280, 800), (390, 844))
+# Within so many seconds after its sound is there the lane shows it.
+DRAWN = 15
 # Fades, cuts between key packets, a join in the middle, and a crop.
 SCRIPTS = (
     "fade 0 10 20 256 0",
@@ -637,11 +639,15 @@ def heard(alone, folder):
     for clip, whole, moved in ((path, [*range(25, 30)], [*range(5, 10)]), (EXAMPLE, [], [])):
         with alone.opened(clip) as page:
             found = []
-            for script in ("-", "parts 0 20 20 0 0 20"):
+            for script, wanted in (("-", whole), ("parts 0 20 20 0 0 20", moved)):
                 if script != "-":
                     page.set_script(script)
                 page.wait(HEARD)
-                found.append(page.js(INKED))
+                # The lane is drawn after the sound is there, on a busy machine some time after it.
+                end = time.monotonic() + DRAWN
+                while (drawn := page.js(INKED)) != wanted and time.monotonic() < end:
+                    time.sleep(0.1)
+                found.append(drawn)
             room = page.js("return wokureti.waves.tall(100) > 0")
         if found != [whole, moved] or room != (clip == path):
             yield f"{page.browser.name}: the sound of {clip.name} is drawn at {found}, not {[whole, moved]}"
