@@ -612,10 +612,15 @@ class Waves(BrowserCase):
 
     clip = heard_clip
 
-    def inked(self):
-        """The frames that have ink in the picture of the sound, in the pixels of the canvas: ranges of frames."""
+    def check_ink(self, wanted, what=None):
+        """The frames that have ink in the picture of the sound, in the pixels of the canvas, are these. The lane is
+        drawn after the sound is there, on a busy machine some time after it.
+        """
         self.wait(HEARD)
-        return self.js(INKED)
+        end = time.monotonic() + 15
+        while (found := self.js(INKED)) != list(wanted) and time.monotonic() < end:
+            time.sleep(0.1)
+        self.assertEqual(found, list(wanted), what)
 
     def set_script(self, text):
         revision = self.members("/session")["revision"] + 1
@@ -632,7 +637,7 @@ class Waves(BrowserCase):
 
     def test_the_tone_is_where_it_is_heard(self):
         self.open(self.clip())
-        self.assertEqual(self.inked(), list(range(25, 30)))
+        self.check_ink(range(25, 30))
         # A minute of the file.
         self.assertEqual(self.asked(), 1)
 
@@ -640,7 +645,7 @@ class Waves(BrowserCase):
         self.open(
             self.clip(), sources=[str(self.clip("other.mkv", "libvorbis")), str(self.clip("silent.webm", sound=None))]
         )
-        self.assertEqual(self.inked(), list(range(25, 30)))
+        self.check_ink(range(25, 30))
         for script, wanted in (
             ("parts 0 20 20 0 0 20 0 40 60", range(5, 10)),
             ("parts 0 0 10 0 27 73", range(10, 13)),
@@ -654,7 +659,7 @@ class Waves(BrowserCase):
             ("trim 0 20 10; fade 1 0 10 256 0; splice 2 2", (5, 6, 15, 16)),
         ):
             self.set_script(script)
-            self.assertEqual(self.inked(), list(wanted), script)
+            self.check_ink(wanted, script)
         # Each file was decoded once.
         self.assertEqual(
             self.js("return [...wokureti.waves.files.values()].map((pieces) => pieces && pieces.size)"), [1, 1]
@@ -666,14 +671,14 @@ class Waves(BrowserCase):
         moment.
         """
         self.open(self.clip())
-        self.inked()
+        self.wait(HEARD)
         self.step(*["delete 10"] * 5, "move 94 0")
         self.wait("wokureti.model.revision === 2 && wokureti.waves.runs.get(0)?.runs.length === 3", seconds=20)
         runs = self.task("waves", source=0)["runs"]
         first = runs[1][2]
         self.assertEqual(runs, [[1, 0, first + 3960, 40], [10, 0, first, 400], [84, 0, first + 600, 3360]])
         self.js("await wokureti.model.go(50)")
-        self.assertEqual(self.inked(), list(range(21, 26)))
+        self.check_ink(range(21, 26))
 
     def test_no_sound(self):
         """Without sound, or in a browser that cannot decode it, there is no room for it, and nothing is said."""
@@ -705,7 +710,7 @@ class Waves(BrowserCase):
 
     def test_small_pictures_come_first(self):
         self.open(self.clip())
-        self.inked()
+        self.wait(HEARD)
         names = self.js(
             "return performance.getEntriesByType('resource').sort((one, other) => one.startTime -"
             " other.startTime).map((one) => one.name.replace(/.*\\//, '').replace(/\\?.*/, ''))"
